@@ -1,14 +1,17 @@
 -- Lists with the rules of both.
 use Rattle.std.proofs.Common.{◌≡◌, inl, inr, ℕ, ◌+◌, ◌<◌, ◌≤◌, Bool, true, false, ◌||◌, List, [], ◌∷◌, ◌++◌}
-use Rattle.std.proofs.Common.{take, drop, get_or, length, length-append, refl, subst, sym, ap, ◌∙◌, add-one, append_assoc, arith}
+use Rattle.std.proofs.Common.{take, drop, get_or, length, length-append, refl, subst, sym, ap, ◌∙◌}
+use Rattle.std.proofs.Common.{add-one, append_assoc, arith}
 use Rattle.std.proofs.{Math.ListN.drop_of_length-le, Math.Seq.drop-cons, lemmas.Bool.cases_Bool}
 use Rattle.std.specs.Prelude.{if◌then◌else◌}
-use Rattle.std.proofs.lemmas.List.{append-nil, drop-append-le, length-take-le, take-append-le, take_all, take_more}
+use Rattle.std.proofs.lemmas.List.{append-nil, drop-append-le, length-take-le, take-append-le, take_all}
+use Rattle.std.proofs.lemmas.List.{take_more}
 use Rattle.texting_robots.specs.{Rules.Rule}
 use Rattle.robots_same.specs.declared.pool.Entry.{Entry}
 use Rattle.robots_same.specs.declared.compare.Comparison.{Comparison}
 use Rattle.robots_same.specs.declared.compare.Comparison.TheVariants.{Differ, Same, Undecided}
-use Rattle.robots_same.specs.Internal.{AgreeFrom, AgreeJoined, AgreeNext, IfSame, IsAnswer, chosen, in_either}
+use Rattle.robots_same.specs.Internal.{AgreeFrom, AgreeJoined, AgreeNext, IfSame, IsAnswer, chosen}
+use Rattle.robots_same.specs.Internal.{in_either}
 use Rattle.robots_same.specs.Internal.{is_in, joined, last_kind}
 use Rattle.robots_same.proofs.PoolLemmas.{appended, chosen_append}
 
@@ -20,10 +23,13 @@ either_append (entry ∷ pool) more = elim (cases_Bool (entry.old || entry.new))
 ]
 
 -- beyond its length, it is the list itself
-pub joined_none : (new : Bool) (pool : List Entry) (n : ℕ) → length pool ≤ n → joined new pool n ≡ chosen true new pool
-joined_none new pool n most = rw (take_all n pool most, drop_of_length-le pool most) (append-nil (chosen true new pool))
+pub joined_none : (new : Bool) (pool : List Entry) (n : ℕ) → length pool ≤ n
+    → joined new pool n ≡ chosen true new pool
+joined_none new pool n most = rw (take_all n pool most, drop_of_length-le pool most) (append-nil (chosen
+    true new pool))
 
-own_or_either : (new : Bool) (entry : Entry) (rest : List Entry) → (entry.old || entry.new) ≡ is_in new entry
+own_or_either : (new : Bool) (entry : Entry) (rest : List Entry)
+    → (entry.old || entry.new) ≡ is_in new entry
     → chosen true new (entry ∷ []) ++ in_either rest ≡ in_either (entry ∷ rest)
 own_or_either new entry rest same = elim (cases_Bool (is_in new entry)) [
   | inl is ↦ rw (same, is) refl
@@ -77,7 +83,8 @@ stage_more new x true pool made more k n entry copy below at item flag up down a
     let most : n ≤ k = up refl in
     appended x made more copy added ∙ ap (λ (l : List Rule). l ++ chosen true x (copy ∷ [])) kept
     ∙ ap (λ (l : List Rule). joined new (take k pool) n ++ l)
-    (one_flag x (entry.old || entry.new) copy entry.item item flag ∙ ap (λ (e : Entry). in_either (e ∷ [])) at)
+    (one_flag x (entry.old || entry.new) copy entry.item item flag
+    ∙ ap (λ (e : Entry). in_either (e ∷ [])) at)
     ∙ sym (joined_either new (take k pool) (get_or pool k entry) n (omega arith))
     ∙ ap (λ (l : List Entry). joined new l n) (sym (take_more pool k entry below))
 stage_more new x false pool made more k n entry copy below at item flag up down added kept =
@@ -85,7 +92,8 @@ stage_more new x false pool made more k n entry copy below at item flag up down 
     let less : k < n = down refl in
     appended x made more copy added ∙ ap (λ (l : List Rule). l ++ chosen true x (copy ∷ [])) kept
     ∙ ap (λ (l : List Rule). joined new (take k pool) n ++ l)
-    (one_flag x (is_in new entry) copy entry.item item flag ∙ ap (λ (e : Entry). chosen true new (e ∷ [])) at)
+    (one_flag x (is_in new entry) copy entry.item item flag ∙ ap (λ (e : Entry). chosen true new (e ∷ []))
+    at)
     ∙ sym (joined_own new (take k pool) (get_or pool k entry) n (omega arith))
     ∙ ap (λ (l : List Entry). joined new l n) (sym (take_more pool k entry below))
 
@@ -106,10 +114,12 @@ module _ (front : List ℕ) (new : Bool) (pool : List Entry) (at : ℕ) where
   step_answer staged before after Undecided is = tt
 
   pub first_joined : length pool ≤ at → AgreeJoined front new pool at
-  first_joined most = λ t. ap (λ (l : List Rule). last_kind true l (front ++ t)) (sym (joined_none new pool at most))
+  first_joined most = λ t. ap (λ (l : List Rule). last_kind true l (front ++ t)) (sym (joined_none new pool
+      at most))
 
 -- both lists agree with both together
-pub both_joined : (front : List ℕ) (pool : List Entry) → AgreeJoined front false pool 0 → AgreeJoined front true pool 0
+pub both_joined : (front : List ℕ) (pool : List Entry) → AgreeJoined front false pool 0
+    → AgreeJoined front true pool 0
     → AgreeFrom front pool
 both_joined front pool old new = λ t. old t ∙ sym (new t)
 

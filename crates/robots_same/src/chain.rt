@@ -18,7 +18,7 @@ fn has(entry: &Entry<'_>, new: bool, are_joined: bool) -> bool
     }
 }
 
-/// One list with the other one's rules above this position, and that list with the rule at this position, too.
+/// One list with the other one's rules above this position; and that list with the rule at it, too.
 fn stage<'a>(
     alloc: Global,
     pool: &[Entry<'a>],

@@ -19,8 +19,8 @@ use texting_robots::site::Site;
 pub enum Comparison {
     /// They have the same verdict on every text that begins with `front`.
     Same,
-    /// They have opposite verdicts on this text, which begins with `front`. It is a match target, not a URL, and
-    /// may not be UTF-8.
+    /// They have opposite verdicts on this text, which begins with `front`. It is a match target, not a URL,
+    /// and may not be UTF-8.
     Differ(Vec<u8>),
     /// Neither was found within the budget.
     Undecided,
@@ -152,8 +152,23 @@ fn merged<'a>(
     Ok(pool)
 }
 
-/// First with all rules of each list at once, and if that is undecided, by way of both lists together.
-fn compare_twice(
+/// If more rules are in one list alone, steps come first.
+const FEW: usize = 5;
+
+fn are_few(pool: &[Entry<'_>]) -> bool {
+    let mut left = FEW;
+    for entry in pool {
+        if entry.old != entry.new {
+            if left == 0 {
+                return false;
+            }
+            left -= 1;
+        }
+    }
+    true
+}
+
+fn compare_at_once(
     alloc: Global,
     pool: &[Entry<'_>],
     front: &[u8],
@@ -162,18 +177,41 @@ fn compare_twice(
     ensures { IfOk result (IsAnswer front.now pool.now) }
 {
     let copy = refined(alloc, pool, 0, b"", 0)?;
-    let mut left = budget / 8;
-    let first = compare_pool(alloc, copy, front, &mut left)?;
+    let mut left = budget;
+    let answer = compare_pool(alloc, copy, front, &mut left)?;
+    Ok(answer)
+}
+
+/// With all rules of each list at once, and if that is undecided, by way of both lists together; or in the
+/// other order.
+fn compare_twice(
+    alloc: Global,
+    pool: &[Entry<'_>],
+    front: &[u8],
+    budget: usize,
+) -> Result<Comparison, AllocError>
+    ensures { IfOk result (IsAnswer front.now pool.now) }
+{
+    if are_few(pool) {
+        let first = compare_at_once(alloc, pool, front, budget / 2)?;
+        match first {
+            Comparison::Undecided => {}
+            answer => return Ok(answer),
+        }
+        let second = compare_by_steps(alloc, pool, front, budget / 2)?;
+        return Ok(second);
+    }
+    let first = compare_by_steps(alloc, pool, front, budget / 2)?;
     match first {
         Comparison::Undecided => {}
         answer => return Ok(answer),
     }
-    let second = compare_by_steps(alloc, pool, front, budget / 2)?;
+    let second = compare_at_once(alloc, pool, front, budget / 2)?;
     Ok(second)
 }
 
-/// Compares them on the texts that begin with `front`: `/` for paths, or nothing for all texts. The budget is a
-/// rough bound of the search, in rules that are moved on by a byte; a check afterwards takes as long again.
+/// Compares them on the texts that begin with `front`: `/` for paths, or nothing for all texts. The budget is
+/// a rough bound of the search, in rules that are moved on by a byte; a check afterwards takes as long again.
 pub fn compare<'a>(
     alloc: Global,
     front: &[u8],
@@ -196,10 +234,10 @@ pub fn compare<'a>(
     Ok(answer)
 }
 
-/// Compares the verdicts of two files for one crawler, on all match targets that begin with `/`. Only the bytes
-/// that each site has read count, and only rules that are UTF-8. Whether a file is rejected for the crawler,
-/// delays, sitemaps and deciding lines aren't compared: call `Site::robot` for the first. `/robots.txt` is always
-/// allowed.
+/// Compares the verdicts of two files for one crawler, on all match targets that begin with `/`. Only the
+/// bytes that each site has read count, and only rules that are UTF-8. Whether a file is rejected for the
+/// crawler, delays, sitemaps and deciding lines aren't compared: call `Site::robot` for the first.
+/// `/robots.txt` is always allowed.
 pub fn compare_sites(
     alloc: Global,
     old: &Site,
