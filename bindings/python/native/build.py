@@ -1,6 +1,6 @@
 """Builds texting_robots._native: the C library and shared.c, linked statically, by cffi in API mode and for the stable ABI.
 
-A release has the library for each processor, and its header, beside this file. ROBOTS_C names a folder where `make install` of bindings/c has put another one, its PREFIX.
+A release has the library for each processor, and its header, next to this file. ROBOTS_C names a folder where `make install` of bindings/c has put another one, its PREFIX.
 In the repository, `rt lib` proves and builds it first if that hasn't been done.
 """
 
