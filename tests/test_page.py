@@ -211,7 +211,10 @@ SYNTAX = "the file has RFC 9309 syntax"
 VERDICTS = "verdicts are those of RFC 9309 for URLs in normal form (reserved characters as in RFC 3986, octets counted in normal form)"
 
 
-@pytest.mark.parametrize("rule, syntax, verdicts", [("/a", SYNTAX, VERDICTS), ("/", SYNTAX, VERDICTS), ("/a$b", SYNTAX, None), ("a", None, None)])
+APART, OTHER = "verdicts may not be those of RFC 9309: line 2", "not RFC 9309 syntax: line 2"
+
+
+@pytest.mark.parametrize("rule, syntax, verdicts", [("/a", SYNTAX, VERDICTS), ("/", SYNTAX, VERDICTS), ("/a$b", SYNTAX, APART), ("a", OTHER, None)])
 def test_page_has_the_sentences_about_the_standard(rule, syntax, verdicts):
     elements = Reader(page("-", file=f"User-agent: *\nDisallow: {rule}".encode())).elements
     entries = dict(zip(texts(elements, "dt"), texts(elements, "dd")))

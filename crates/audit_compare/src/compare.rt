@@ -5,6 +5,7 @@ ghost use Rattle.texting_robots.specs.Callers.{lines_read};
 ghost use Rattle.audit_core.specs.Audit.{agents_requested as specified_agents};
 ghost use Rattle.audit_compare.specs.Compare.{IsCompared, IsComparison, differs_nowhere, has_no_directive};
 ghost use Rattle.audit_compare.specs.Compare.{rejects_some, side_of};
+ghost use Rattle.robots_warnings.specs.Read.{IsRead};
 
 use crate::compared::{Compared, compared_for};
 use crate::differences::{all_unchanged, is_rejected};
@@ -67,6 +68,7 @@ fn has_no_directive(kinds: LineKinds) -> bool
 }
 
 fn side_of<'a>(name: &'a str, read: &FileRead<'_>) -> Side<'a>
+    requires { IsRead read.now }
     ensures { result ≡ side_of name.entry.now read.now.bytes.now }
 {
     Side {
@@ -82,6 +84,8 @@ fn agents_of<'a>(
     older: &FileRead<'a>,
     newer: &FileRead<'a>,
 ) -> Result<Vec<&'a str>, AllocError>
+    requires older { IsRead older.now }
+    requires newer { IsRead newer.now }
     ensures { IfOk result (λ names. map (λ name. name.now) names.items
         ≡ specified_agents (map (λ agent. agent.now) agents.now)
         (lines_read older.now.bytes.now ++ lines_read newer.now.bytes.now)) }
@@ -99,6 +103,8 @@ fn crawlers_of<'a>(
     newer: &FileRead<'_>,
     urls: &[&'a str],
 ) -> Result<Vec<Compared<'a>>, Fault>
+    requires older { IsRead older.now }
+    requires newer { IsRead newer.now }
     ensures ok { IfOk result (λ crawlers. AllZip (IsCompared (map (λ url. url.now) urls.now)
         (lines_read older.now.bytes.now) (lines_read newer.now.bytes.now))
         (map (λ agent. agent.now) agents.now) crawlers.items) }

@@ -3,6 +3,7 @@ ghost use Rattle.std.specs.Prelude.{◌≡◌, ◌++◌, IfErr, IfOk, OnOk, map}
 ghost use Rattle.texting_robots.specs.Callers.{file_lines, lines_read};
 ghost use Rattle.audit_compare.specs.Compare.{IsCompared, change_at, is_in_line_of, is_same_decision, rules_only_in};
 ghost use Rattle.audit_compare.specs.Compare.{url_changes};
+ghost use Rattle.robots_warnings.specs.Read.{IsRead};
 
 use crate::rule_sets::{RuleSet, rules_lacked};
 use audit_core::audit::{AgentAudit, Verdict, audit_for};
@@ -130,6 +131,18 @@ fn url_changes<'a>(
     Ok(found)
 }
 
+fn changes_of<'a>(
+    alloc: Global,
+    rules: &RuleChanges,
+    older: &AgentAudit<'a>,
+    newer: &AgentAudit<'a>,
+) -> Result<Vec<UrlChange<'a>>, AllocError>
+    ensures { IfOk result (λ found. found.items
+        ≡ url_changes rules.now.removed.items rules.now.added.items older.now.verdicts newer.now.verdicts) }
+{
+    url_changes(alloc, rules, &older.verdicts, &newer.verdicts)
+}
+
 pub(crate) fn compared_for<'a>(
     alloc: Global,
     agent: &'a str,
@@ -137,6 +150,8 @@ pub(crate) fn compared_for<'a>(
     newer: &FileRead<'_>,
     urls: &[&'a str],
 ) -> Result<Compared<'a>, Fault>
+    requires older { IsRead older.now }
+    requires newer { IsRead newer.now }
     ensures ok { IfOk result (IsCompared (map (λ url. url.now) urls.now)
         (lines_read older.now.bytes.now) (lines_read newer.now.bytes.now) agent.now) }
     ensures fault { IfErr result (λ fault. fault ≡ Fault.Memory) }
@@ -144,7 +159,7 @@ pub(crate) fn compared_for<'a>(
     let older_audit = audit_for(alloc, agent, older, urls)?;
     let newer_audit = audit_for(alloc, agent, newer, urls)?;
     let rules = rule_changes(alloc, agent, &older.site, &newer.site)?;
-    let changes = url_changes(alloc, &rules, &older_audit.verdicts, &newer_audit.verdicts)?;
+    let changes = changes_of(alloc, &rules, &older_audit, &newer_audit)?;
     Ok(Compared {
         agent,
         older: older_audit,

@@ -1,6 +1,6 @@
 -- What a report says of a file by RFC 9309: whether it is in the grammar, whether verdicts are the
 -- standard's, and if not, because of which line.
-use Rattle.std.specs.Prelude.{ℕ, List, [], ◌∷◌, codes}
+use Rattle.std.specs.Prelude.{ℕ, List, [], ◌∷◌, None, Option, Some, codes}
 use Rattle.std.proofs.{Common.refl}
 use Rattle.printable_text.specs.Text.{Number, Part, PartValue, ReportLine, label, line_from, only}
 use Rattle.rfc9309_laws.specs.declared.conformance.Conformance.{Conformance}
@@ -27,3 +27,9 @@ syntax_lines OtherFile = []
 syntax_lines (OtherLine line) = other_line line ∷ []
 syntax_lines (Syntax line) = syntax_line ∷ line_apart line ∷ []
 syntax_lines Verdicts = syntax_line ∷ verdicts_line ∷ []
+
+-- the line that keeps the file from the grammar, or else from verdicts that are the standard's
+abbrev pub line_at_fault : Conformance → Option ℕ
+line_at_fault (OtherLine line) = Some line
+line_at_fault (Syntax line) = Some line
+line_at_fault _ = None

@@ -1,13 +1,12 @@
 //! The audit of a file: its lines, what applies to each requested crawler, and the warnings.
-ghost use Rattle.std.specs.Prelude.{◌≡◌, ◌++◌, ℕ, IfErr, IfOk, List, codes, is_none, map, option_map};
+ghost use Rattle.std.specs.Prelude.{◌≡◌, ◌++◌, ℕ, IfErr, IfOk, List, codes, is_none, length, map, option_map};
 ghost use Rattle.std.specs.List.{AllZip};
-ghost use Rattle.texting_robots.specs.Callers.{file_lines, label_by_value, lines_read};
+ghost use Rattle.texting_robots.specs.Callers.{file_lines, label_by_value, lines_read, placed_rules};
 ghost use Rattle.audit_core.specs.Audit.{AreOfSitemaps, IsAgentAudit, IsAuditOf, IsRuling, IsVerdictOn};
 ghost use Rattle.audit_core.specs.Audit.{agents_requested, all_allowed, allows_all, labeling_agent};
 ghost use Rattle.audit_core.specs.Audit.{rejects_some};
 ghost use Rattle.audit_core.specs.{Request.requested_by, Needless.needless_warning, Internal.IsReading};
-ghost use Rattle.robots_warnings.specs.Message.{WarningValue};
-ghost use Rattle.robots_warnings.specs.Warnings.{warnings};
+ghost use Rattle.robots_warnings.specs.{Message.WarningValue, Read.IsRead, Warnings.warnings};
 
 use crate::agents::agents_requested;
 use crate::asked::decision_on;
@@ -27,7 +26,7 @@ use std::alloc::Global;
 use std::marker::Model;
 use texting_robots::labels::LabeledLine;
 use texting_robots::robot::Decision;
-use texting_robots::{Rejection, Robot};
+use texting_robots::{Rejection, Robot, Site};
 
 #[derive(Drop)]
 pub struct Verdict<'a> {
@@ -99,6 +98,7 @@ pub enum Reading {
 
 /// How the file is read for the crawler.
 pub fn read_for(alloc: Global, agent: &str, read: &FileRead<'_>) -> Result<Reading, Fault>
+    requires { IsRead read.now }
     ensures ok { IfOk result (IsReading agent.now read.now.bytes.now) }
     ensures fault { IfErr result (λ fault. fault ≡ Fault.Memory) }
 {
@@ -141,6 +141,12 @@ pub(crate) fn ruling<'a>(
     }
 }
 
+fn rule_count(site: &Site, agent: &str) -> usize
+    ensures { result ≡ length (placed_rules agent.now (file_lines site.now)) }
+{
+    site.rules(agent).count()
+}
+
 /// What the file, which is read so for the crawler, means for it.
 fn agent_audit<'a>(
     alloc: Global,
@@ -149,9 +155,10 @@ fn agent_audit<'a>(
     read: &FileRead<'_>,
     urls: &[&'a str],
 ) -> Result<AgentAudit<'a>, Fault>
-    requires { IsReading agent.entry.now read.now.bytes.now reading.now }
+    requires read { IsRead read.now }
+    requires reading { IsReading agent.now read.now.bytes.now reading.now }
     ensures ok { IfOk result (λ audit. IsAgentAudit (map (λ url. url.now) urls.now)
-        (lines_read read.now.bytes.now) agent.entry.now audit) }
+        (lines_read read.now.bytes.now) agent.now audit) }
     ensures fault { IfErr result (λ fault. fault ≡ Fault.Memory) }
 {
     let reach = reach_of(alloc, &read.site, agent)?;
@@ -159,8 +166,8 @@ fn agent_audit<'a>(
     Ok(AgentAudit {
         agent,
         group: group_of(agent, &read.site),
-        group_line: naming_line(agent, read),
-        rules: read.site.rules(agent).count(),
+        group_line: naming_line(agent, &read.site, &read.labels),
+        rules: rule_count(&read.site, agent),
         reach,
         delay: read.site.delay(agent),
         rejected,
@@ -175,8 +182,9 @@ pub fn audit_for<'a>(
     read: &FileRead<'_>,
     urls: &[&'a str],
 ) -> Result<AgentAudit<'a>, Fault>
+    requires { IsRead read.now }
     ensures ok { IfOk result (λ audit. IsAgentAudit (map (λ url. url.now) urls.now)
-        (lines_read read.now.bytes.now) agent.entry.now audit) }
+        (lines_read read.now.bytes.now) agent.now audit) }
     ensures fault { IfErr result (λ fault. fault ≡ Fault.Memory) }
 {
     let reading = read_for(alloc, agent, read)?;
@@ -191,9 +199,10 @@ fn audit_beside<'a>(
     read: &FileRead<'_>,
     urls: &[&'a str],
 ) -> Result<AgentAudit<'a>, Fault>
-    requires { IsReading (codes "*") read.now.bytes.now star.now }
+    requires read { IsRead read.now }
+    requires star { IsReading (codes "*") read.now.bytes.now star.now }
     ensures ok { IfOk result (λ audit. IsAgentAudit (map (λ url. url.now) urls.now)
-        (lines_read read.now.bytes.now) agent.entry.now audit) }
+        (lines_read read.now.bytes.now) agent.now audit) }
     ensures fault { IfErr result (λ fault. fault ≡ Fault.Memory) }
 {
     if agent == "*" {
@@ -209,7 +218,8 @@ fn agent_audits<'a>(
     read: &FileRead<'_>,
     urls: &[&'a str],
 ) -> Result<Vec<AgentAudit<'a>>, Fault>
-    requires { IsReading (codes "*") read.now.bytes.now star.now }
+    requires read { IsRead read.now }
+    requires star { IsReading (codes "*") read.now.bytes.now star.now }
     ensures ok { IfOk result (λ audits. AllZip (IsAgentAudit (map (λ url. url.now) urls.now)
         (lines_read read.now.bytes.now)) (map (λ agent. agent.now) agents.now) audits.items) }
     ensures fault { IfErr result (λ fault. fault ≡ Fault.Memory) }
@@ -241,7 +251,8 @@ fn all_warnings<'a>(
     read: &FileRead<'_>,
     needless: &[NeedlessRule],
 ) -> Result<Vec<Warning<'a>>, Fault>
-    requires { IsReading (codes "*") read.now.bytes.now star.now }
+    requires read { IsRead read.now }
+    requires star { IsReading (codes "*") read.now.bytes.now star.now }
     ensures ok { IfOk result (λ found. (sitemaps : List WarningValue)
         × AreOfSitemaps (lines_read read.now.bytes.now) (map label_by_value read.now.labels.items) sitemaps
         × (found.items ≡ (warnings (is_none (requested_by request.now).agent)
@@ -270,7 +281,12 @@ pub fn audit_of<'a>(
     let names = agents_requested(alloc, &request.agents, &read.labels)?;
     let star = read_for(alloc, "*", &read)?;
     let agents = agent_audits(alloc, &names, &star, &read, &request.urls)?;
-    let needless = needless_rules(alloc, request.has_needless, &read)?;
+    let needless = needless_rules(
+        alloc,
+        request.has_needless,
+        read.facts.is_too_large,
+        &read.site,
+    )?;
     let mut warnings = all_warnings(alloc, request, &names, &star, &read, &needless)?;
     let syntax = conformance_of(alloc, file, &read.site)?;
     choose(&request.only, &request.ignored, &mut warnings);

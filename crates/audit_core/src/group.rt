@@ -1,11 +1,12 @@
 //! The group that applies to a crawler.
-ghost use Rattle.std.specs.Prelude.{◌≡◌};
+ghost use Rattle.std.specs.Prelude.{◌≡◌, map};
 ghost use Rattle.std.specs.Str.{str_to_ascii_lowercase};
-ghost use Rattle.texting_robots.specs.Callers.{by_value, file_lines, is_agent_named, lines_read};
+ghost use Rattle.texting_robots.specs.Callers.{by_value, file_lines, is_agent_named, label_by_value};
+ghost use Rattle.robots_warnings.specs.File.{lines_of};
 ghost use Rattle.audit_core.specs.Audit.{group_of, naming_line};
 
-use robots_warnings::read::FileRead;
 use texting_robots::Site;
+use texting_robots::labels::LabeledLine;
 use texting_robots::parser::Line;
 
 /// Which user-agent lines determine the group of a crawler.
@@ -45,12 +46,13 @@ fn has_name(name: &[u8], line: Line<'_>) -> bool
     }
 }
 
-/// The number of the first line that names the crawler's group.
-pub(crate) fn naming_line(agent: &str, read: &FileRead<'_>) -> Option<usize>
-    ensures { result ≡ naming_line agent.now (lines_read read.now.bytes.now) }
+/// The labels are those of the site's lines.
+pub(crate) fn naming_line(agent: &str, site: &Site, labels: &[LabeledLine<'_>]) -> Option<usize>
+    requires { lines_of (map label_by_value labels.now) ≡ file_lines site.now }
+    ensures { result ≡ naming_line agent.now (file_lines site.now) }
 {
-    let name = read.site.group_name(agent);
-    for (at, labeled) in read.labels.iter().enumerate() {
+    let name = site.group_name(agent);
+    for (at, labeled) in labels.iter().enumerate() {
         if has_name(name, labeled.line) {
             return Some(at + 1);
         }

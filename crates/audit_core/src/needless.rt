@@ -1,16 +1,15 @@
 //! Warnings about rules that can be deleted, which `robots_needless` finds.
-ghost use Rattle.std.specs.Prelude.{◌≡◌, ◌∷◌, [], IfOk, OnOk, false, map, take, true};
-ghost use Rattle.texting_robots.specs.Callers.{file_limit};
+ghost use Rattle.std.specs.Prelude.{◌≡◌, ◌∷◌, [], IfOk, OnOk, false, map, true};
 ghost use Rattle.robots_needless.specs.Blocks.{AreFoundIn};
-ghost use Rattle.robots_warnings.specs.{Facts.is_too_large, Internal.Adds};
+ghost use Rattle.robots_warnings.specs.Internal.{Adds};
 ghost use Rattle.audit_core.specs.Needless.{needless_warning};
 
 use robots_needless::lines::needless_lines;
 use robots_needless::needless::{NeedlessRule, Reason};
-use robots_warnings::read::FileRead;
 use robots_warnings::table::Cause;
 use robots_warnings::warning::{Detail, Warning};
 use std::alloc::{AllocError, Global};
+use texting_robots::Site;
 
 fn add_rule(found: &mut Vec<Warning<'_>>, rule: NeedlessRule) -> Result<(), AllocError>
     ensures { OnOk result (Adds found.old.items found.new.items (needless_warning rule ∷ [])) }
@@ -46,14 +45,15 @@ pub(crate) fn add_needless(
 pub(crate) fn needless_rules(
     alloc: Global,
     is_requested: bool,
-    read: &FileRead<'_>,
+    is_too_large: bool,
+    site: &Site,
 ) -> Result<Vec<NeedlessRule>, AllocError>
-    ensures found { IfOk result (λ found. AreFoundIn (take file_limit read.now.bytes.now) found.items) }
+    ensures found { IfOk result (λ found. AreFoundIn site.now found.items) }
     ensures unrequested { IfOk result (λ found. is_requested ≡ false → found.items ≡ []) }
-    ensures too_large { IfOk result (λ found. is_too_large read.now.bytes.now ≡ true → found.items ≡ []) }
+    ensures too_large { IfOk result (λ found. is_too_large ≡ true → found.items ≡ []) }
 {
-    if is_requested && !read.facts.is_too_large {
-        needless_lines(alloc, &read.site)
+    if is_requested && !is_too_large {
+        needless_lines(alloc, site)
     } else {
         Ok(Vec::new(alloc))
     }

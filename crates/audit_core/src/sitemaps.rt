@@ -2,7 +2,7 @@
 ghost use Rattle.std.specs.Prelude.{◌≡◌, ◌++◌, ◌∷◌, [], IfErr, IfOk, List, OnOk, codes, flat_map, map, zip};
 ghost use Rattle.texting_robots.specs.Callers.{by_value, file_lines, label_by_value, lines_read};
 ghost use Rattle.texting_robots.specs.Callers.{sitemaps_in};
-ghost use Rattle.robots_warnings.specs.{File.lines_of, Internal.Adds, Message.WarningValue};
+ghost use Rattle.robots_warnings.specs.{File.lines_of, Internal.Adds, Message.WarningValue, Read.IsRead};
 ghost use Rattle.audit_core.specs.Audit.{AreOfSitemaps, sitemap_at, sitemap_warning, sitemaps_asked};
 ghost use Rattle.audit_core.specs.Internal.{IsReading};
 
@@ -144,7 +144,8 @@ pub(crate) fn warn_of_sitemaps(
     star: &Reading,
     read: &FileRead<'_>,
 ) -> Result<(), Fault>
-    requires { IsReading (codes "*") read.now.bytes.now star.now }
+    requires read { IsRead read.now }
+    requires star { IsReading (codes "*") read.now.bytes.now star.now }
     ensures ok { OnOk result ((sitemaps : List WarningValue)
         × AreOfSitemaps (lines_read read.now.bytes.now) (map label_by_value read.now.labels.items) sitemaps
         × Adds found.old.items found.new.items sitemaps) }

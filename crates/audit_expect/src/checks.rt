@@ -4,6 +4,7 @@ ghost use Rattle.texting_robots.specs.Callers.{IsRobotWithoutSitemaps, file_limi
 ghost use Rattle.audit_expect.specs.Expectations.{IsAtVendor, IsChecked, IsJudgmentOn, fails, fails_at};
 ghost use Rattle.audit_expect.specs.Expectations.{fails_at_vendor, fails_here, is_unexpected};
 ghost use Rattle.audit_core.specs.Internal.{IsReading};
+ghost use Rattle.robots_warnings.specs.Read.{IsRead};
 ghost use Rattle.audit_expect.specs.Internal.Expectations.{checked_value};
 
 use crate::expect::Expectation;
@@ -55,7 +56,8 @@ fn decided_on(
     robot: &Robot,
     read: &FileRead<'_>,
 ) -> Result<Judgment, Fault>
-    requires { IsRobotWithoutSitemaps agent.now (take file_limit read.now.bytes.now) robot.now }
+    requires read { IsRead read.now }
+    requires robot { IsRobotWithoutSitemaps agent.now (take file_limit read.now.bytes.now) robot.now }
     ensures ok { IfOk result (IsJudgmentOn read.now.bytes.now agent.now url.now) }
     ensures fault { IfErr result (λ fault. fault ≡ Fault.Memory) }
 {
@@ -77,7 +79,8 @@ fn judgment_on(
     reading: &Reading,
     read: &FileRead<'_>,
 ) -> Result<Judgment, Fault>
-    requires { IsReading agent.now read.now.bytes.now reading.now }
+    requires read { IsRead read.now }
+    requires reading { IsReading agent.now read.now.bytes.now reading.now }
     ensures ok { IfOk result (IsJudgmentOn read.now.bytes.now agent.now url.now) }
     ensures fault { IfErr result (λ fault. fault ≡ Fault.Memory) }
 {
@@ -93,6 +96,7 @@ fn at_vendor<'a>(
     url: &str,
     read: &'a FileRead<'_>,
 ) -> Result<AtVendor<'a>, Fault>
+    requires { IsRead read.now }
     ensures ok { IfOk result (IsAtVendor read.now.bytes.now agent.now url.now) }
     ensures fault { IfErr result (λ fault. fault ≡ Fault.Memory) }
 {
@@ -114,7 +118,8 @@ pub(crate) fn checked_on<'a>(
     reading: &Reading,
     read: &'a FileRead<'_>,
 ) -> Result<Checked<'a>, Fault>
-    requires { IsReading expectation.now.agent.now read.now.bytes.now reading.now }
+    requires read { IsRead read.now }
+    requires reading { IsReading expectation.now.agent.now read.now.bytes.now reading.now }
     ensures expectation { IfOk result (λ checked. checked.expectation ≡ expectation.now) }
     ensures checked { IfOk result (λ checked. IsChecked read.now.bytes.now (checked_value checked)) }
     ensures fault { IfErr result (λ fault. fault ≡ Fault.Memory) }

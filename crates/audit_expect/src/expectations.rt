@@ -6,6 +6,7 @@ ghost use Rattle.printable_text.specs.Text.{line_text, part_text, parts_text};
 ghost use Rattle.printable_text.specs.{Lines.ended, Sanitize.sanitized, Raw.raw_line, Raw.raw_text};
 ghost use Rattle.audit_core.specs.{Asked.asked_target, Internal.IsReading};
 ghost use Rattle.audit_core.specs.Findings.{finding_value, found_value};
+ghost use Rattle.robots_warnings.specs.Read.{IsRead};
 ghost use Rattle.audit_expect.specs.declared.checks.Judgment.{TheVariants.Decided};
 ghost use Rattle.audit_expect.specs.Expect.{IsEntryFault, expectations_in as specified_in};
 ghost use Rattle.audit_expect.specs.Expectations.{IsReport, decision_parts, demand, demand_parts, failure};
@@ -42,7 +43,8 @@ fn reading_for<'a>(
     agent: &'a str,
     read: &FileRead<'_>,
 ) -> Result<AgentReading<'a>, Fault>
-    requires { IsReading before.agent.now read.now.bytes.now before.reading }
+    requires read { IsRead read.now }
+    requires before { IsReading before.agent.now read.now.bytes.now before.reading }
     ensures ok { IfOk result (IsReadFor agent.entry.now read.now.bytes.now) }
     ensures fault { IfErr result (λ fault. fault ≡ Fault.Memory) }
 {
@@ -275,21 +277,25 @@ fn add_if_failing(alloc: Global, found: &mut Findings, checked: &Checked<'_>) ->
     Ok(found.push(failure(alloc, checked)?)?)
 }
 
-fn failures(alloc: Global, expectations: &[Expectation<'_>], file: &[u8]) -> Result<Findings, Fault>
-    ensures ok { IfOk result (λ found. AreFailuresOn file.now (map expectation_value expectations.now)
+fn failures(
+    alloc: Global,
+    expectations: &[Expectation<'_>],
+    read: &FileRead<'_>,
+) -> Result<Findings, Fault>
+    requires { IsRead read.now }
+    ensures ok { IfOk result (λ found. AreFailuresOn read.now.bytes.now (map expectation_value expectations.now)
         (map finding_value found.items)) }
     ensures fault { IfErr result (λ fault. fault ≡ Fault.Memory) }
 {
-    let read = FileRead::new(alloc, "*", file)?;
-    let reading = read_for(alloc, "*", &read)?;
+    let reading = read_for(alloc, "*", read)?;
     let mut latest = AgentReading {
         agent: "*",
         reading,
     };
     let mut found = Vec::new(alloc);
     for expectation in expectations {
-        latest = reading_for(alloc, latest, expectation.agent, &read)?;
-        let checked = checked_on(alloc, expectation, &latest.reading, &read)?;
+        latest = reading_for(alloc, latest, expectation.agent, read)?;
+        let checked = checked_on(alloc, expectation, &latest.reading, read)?;
         add_if_failing(alloc, &mut found, &checked)?;
     }
     Ok(found)
@@ -383,7 +389,8 @@ pub fn check(
     ensures fault { IfErr result (IsEntryFault name.now entry.Expectation (specified_in text.now)) }
 {
     let expectations = parsed(alloc, name, text)?;
-    let found = failures(alloc, &expectations, file)?;
+    let read = FileRead::new(alloc, "*", file)?;
+    let found = failures(alloc, &expectations, &read)?;
     let report = result_text(alloc, name, expectations.len(), &found)?;
     Ok((report, found))
 }

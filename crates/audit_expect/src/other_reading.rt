@@ -1,13 +1,14 @@
 //! Other readings: of an empty Disallow, which here is an Allow of `/`, and for RFC 9309 and Google no rule;
 //! and of characters that RFC 9309 compares in their normal forms.
-ghost use Rattle.std.specs.Prelude.{◌≡◌, ◌↔◌, All, Decides, IfErr, IfOk, IsTrue, false, option_map};
+ghost use Rattle.std.specs.Prelude.{◌≡◌, ◌↔◌, All, Decides, IfErr, IfOk, IsTrue, false, map, option_map};
 ghost use Rattle.std.specs.Option.{option_map_or};
 ghost use Rattle.texting_robots.specs.Callers.{IsBetter, IsOverlong, IsRejected, Matches, PlacedRule, bodies_read};
-ghost use Rattle.texting_robots.specs.Callers.{lines_read, placed_rules};
+ghost use Rattle.texting_robots.specs.Callers.{label_by_value, lines_read, placed_rules};
 ghost use Rattle.texting_robots.specs.Decision.{IsDecisionOn};
 ghost use Rattle.audit_core.specs.Asked.{asked_target};
+ghost use Rattle.robots_warnings.specs.Read.{IsRead};
 ghost use Rattle.audit_expect.specs.OtherReading.{IsNormalDecision, IsOtherDecision};
-ghost use Rattle.audit_expect.specs.Internal.Expectations.{IsDecidedBy, IsPreferred, decision_with, marks_of};
+ghost use Rattle.audit_expect.specs.Internal.Expectations.{IsDecidedBy, IsPreferred, decision_with, marks_in};
 ghost use Rattle.audit_expect.specs.Internal.Expectations.{is_marked, others_of};
 
 use crate::normal_form::normal_rules;
@@ -18,29 +19,32 @@ use robots_warnings::empty_disallows::is_empty_disallow;
 use robots_warnings::read::FileRead;
 use std::alloc::{AllocError, Global};
 use texting_robots::Error;
+use texting_robots::labels::LabeledLine;
 use texting_robots::minregex::MinRegex;
 use texting_robots::robot::Decision;
 
 
 /// Whether the line with this number is an empty Disallow.
-fn is_marked(read: &FileRead<'_>, number: usize) -> bool
-    ensures { result ≡ is_marked (marks_of (bodies_read read.now.bytes.now)) number }
+fn is_marked(labels: &[LabeledLine<'_>], number: usize) -> bool
+    ensures { result ≡ is_marked (marks_in (map label_by_value labels.now)) number }
 {
     if number == 0 {
         return false;
     }
-    match read.labels.get(number - 1) {
+    match labels.get(number - 1) {
         Some(labeled) => is_empty_disallow(labeled.line, labeled.body),
         None => false,
     }
 }
 
 fn other_rules(alloc: Global, agent: &str, read: &FileRead<'_>) -> Result<Vec<Rule>, AllocError>
+    requires { IsRead read.now }
     ensures { IfOk result (λ rules. rules.items ≡ others_of (bodies_read read.now.bytes.now)
         (placed_rules agent.now (lines_read read.now.bytes.now))) }
 {
+    let labels: &[LabeledLine<'_>] = &read.labels;
     let mut rules = rules_for(alloc, &read.site, agent)?;
-    rules.retain(|rule| !is_marked(read, rule.line));
+    rules.retain(|rule| !is_marked(labels, rule.line));
     Ok(rules)
 }
 
@@ -123,12 +127,11 @@ fn decision_of(alloc: Global, rules: &[Rule], target: &str) -> Result<Decision, 
     Ok(decision_with(rule))
 }
 
-fn is_by_marked(decision: &Decision, read: &FileRead<'_>) -> bool
-    ensures { result
-        ≡ option_map_or (is_marked (marks_of (bodies_read read.now.bytes.now))) decision.now.line false }
+fn is_by_marked(decision: &Decision, labels: &[LabeledLine<'_>]) -> bool
+    ensures { result ≡ option_map_or (is_marked (marks_in (map label_by_value labels.now))) decision.now.line false }
 {
     match decision.line {
-        Some(line) => is_marked(read, line),
+        Some(line) => is_marked(labels, line),
         None => false,
     }
 }
@@ -142,6 +145,7 @@ pub(crate) fn other_decision(
     decision: &Decision,
     read: &FileRead<'_>,
 ) -> Result<Decision, Fault>
+    requires read { IsRead read.now }
     requires accepted { ¬ IsRejected agent.now (lines_read read.now.bytes.now) }
     requires decided { IsDecisionOn (placed_rules agent.now (lines_read read.now.bytes.now)) (asked_target url.now)
         decision.now }
@@ -149,7 +153,7 @@ pub(crate) fn other_decision(
         (placed_rules agent.now (lines_read read.now.bytes.now)) (asked_target url.now)) }
     ensures fault { IfErr result (λ fault. fault ≡ Fault.Memory) }
 {
-    if !is_by_marked(decision, read) {
+    if !is_by_marked(decision, &read.labels) {
         return Ok(*decision);
     }
     let target = asked_target(alloc, url)?;
@@ -165,7 +169,8 @@ pub(crate) fn normal_decision(
     target: &str,
     read: &FileRead<'_>,
 ) -> Result<Decision, Fault>
-    requires { ¬ IsRejected agent.now (lines_read read.now.bytes.now) }
+    requires read { IsRead read.now }
+    requires accepted { ¬ IsRejected agent.now (lines_read read.now.bytes.now) }
     ensures ok { IfOk result (IsNormalDecision (bodies_read read.now.bytes.now)
         (placed_rules agent.now (lines_read read.now.bytes.now)) target.now) }
     ensures fault { IfErr result (λ fault. fault ≡ Fault.Memory) }

@@ -207,6 +207,7 @@ pub audit_plain : (has_rows : Bool) (audit : AuditValue) → IsPlain (audit_json
 audit_plain has_rows audit = search (
   list_plain agent_json agent_plain,
   known_plain,
+  number_plain,
   list_plain line_json line_plain,
   list_plain sanitized_json sanitized_printable,
   list_plain warning_json (λ warning. found_plain (warning_finding warning)),

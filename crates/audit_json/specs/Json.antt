@@ -6,7 +6,7 @@ use Rattle.serde_json.specs.Data.{array, boolean, member, no_members, null, numb
 use Rattle.texting_robots.specs.Callers.{CrawlDelay, LineValue, Label, sitemaps_in}
 use Rattle.printable_text.specs.{Lines.lf, Text.level_word, Sanitize.sanitized}
 use Rattle.audit_core.specs.{declared.group.Group.Group, Audit.AgentValue, Audit.AuditValue, Texts.may_fetch}
-use Rattle.audit_core.specs.{Audit.VerdictValue}
+use Rattle.audit_core.specs.{Audit.VerdictValue, Syntax.line_at_fault}
 use Rattle.rfc9309_laws.specs.{Conformance.has_syntax, Conformance.has_verdicts}
 use Rattle.audit_core.specs.declared.group.Group.TheVariants.{Everyone, Named, Nobody, Star}
 use Rattle.audit_core.specs.Rows.{comment_of, has_value, kind_text, line_value_text, membership_word}
@@ -101,8 +101,9 @@ audit_json has_rows audit = object
     (member (codes "has_rfc_9309_syntax") (known_json (has_syntax audit.syntax))
     (member (codes "has_rfc_9309_verdicts") (known_json (has_verdicts audit.syntax))
     (member (codes "lines") (rows_json has_rows audit.labels)
+    (member (codes "rfc_9309_line") (number_json (line_at_fault audit.syntax))
     (member (codes "sitemaps") (list_json sanitized_json (sitemaps_in (lines_of audit.labels)))
-    (member (codes "warnings") (list_json warning_json audit.warnings) no_members))))))
+    (member (codes "warnings") (list_json warning_json audit.warnings) no_members)))))))
 
 abbrev pub json_line : Data → List ℕ
 json_line value = compact_text value ++ lf ∷ []

@@ -14,6 +14,7 @@ use audit_core::findings::Finding;
 use audit_core::group::Group;
 use audit_core::rows::{comment_of, has_value, kind_text, membership_word, push_value};
 use audit_core::sitemaps::sitemaps_of;
+use audit_core::syntax::line_at_fault;
 use audit_core::texts::may_fetch;
 use printable_text::sanitize::push_sanitized;
 use robots_warnings::warning::{Warning, push_warning_text};
@@ -255,6 +256,7 @@ fn audit_json(alloc: Global, has_rows: bool, audit: &Audit<'_>) -> Result<Value,
         "has_rfc_9309_syntax": syntax,
         "has_rfc_9309_verdicts": verdicts,
         "lines": rows_json(alloc, has_rows, &audit.labels)?,
+        "rfc_9309_line": line_number(line_at_fault(audit.syntax)),
         "sitemaps": sitemaps_json(alloc, &audit.labels)?,
         "warnings": warnings_json(alloc, &audit.warnings)?,
     })

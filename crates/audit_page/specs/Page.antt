@@ -15,9 +15,11 @@ use Rattle.robots_warnings.specs.{Message.reported_parts, declared.closed.Reach.
 use Rattle.robots_warnings.specs.{Table.level_of, Message.WarningValue, declared.table.Cause.Cause}
 use Rattle.audit_core.specs.Audit.{AgentValue, AuditValue, VerdictValue, labeling_agent}
 use Rattle.audit_core.specs.{Request.RequestValue}
-use Rattle.audit_core.specs.declared.syntax.TheConstants.{SYNTAX_SENTENCE, VERDICTS_SENTENCE}
-use Rattle.rfc9309_laws.specs.{Conformance.has_syntax, Conformance.has_verdicts}
+use Rattle.audit_core.specs.declared.syntax.TheConstants.{LINE_APART, OTHER_LINE, SYNTAX_SENTENCE}
+use Rattle.audit_core.specs.declared.syntax.TheConstants.{VERDICTS_SENTENCE}
 use Rattle.rfc9309_laws.specs.declared.conformance.Conformance.{Conformance}
+use Rattle.rfc9309_laws.specs.declared.conformance.Conformance.TheVariants.{OtherFile, OtherLine, Syntax}
+use Rattle.rfc9309_laws.specs.declared.conformance.Conformance.TheVariants.{Verdicts}
 use Rattle.audit_core.specs.{Counts.count_parts, Request.shown_name, declared.version.TheConstants.VERSION}
 use Rattle.audit_core.specs.Rows.{comment_of, kind_of, line_value, membership_value}
 use Rattle.audit_core.specs.Texts.{delay_value, group_end, group_reason, group_value, may_fetch}
@@ -399,13 +401,21 @@ abbrev pub crawler_entries : Option (List ℕ) → List AgentValue → Tree
 crawler_entries None agents = nothing
 crawler_entries (Some agent) agents = each agent_entries agents
 
--- whether the file is in the grammar of RFC 9309, and verdicts are the standard's
+unfoldable pub other_entry : ℕ → Tree
+other_entry line = entry (fixed (codes "Syntax") refl) (text (labelled OTHER_LINE.now refl (Number line)))
+
+unfoldable pub apart_entry : ℕ → Tree
+apart_entry line = entry (fixed VERDICTS.now refl) (text (labelled LINE_APART.now refl (Number line)))
+
+abbrev pub sentence : Tree
+sentence = entry (fixed (codes "Syntax") refl) (text (fixed SYNTAX_SENTENCE.now refl))
+
+-- whether the file is in the grammar of RFC 9309, and verdicts are the standard's; if not, because of which line
 unfoldable pub syntax_entry : Conformance → Tree
-syntax_entry syntax =
-    (if has_syntax syntax
-    then entry (fixed (codes "Syntax") refl) (text (fixed SYNTAX_SENTENCE.now refl)) else nothing)
-    ⊕ (if has_verdicts syntax
-    then entry (fixed VERDICTS.now refl) (text (fixed VERDICTS_SENTENCE.now refl)) else nothing)
+syntax_entry OtherFile = nothing
+syntax_entry (OtherLine line) = other_entry line
+syntax_entry (Syntax line) = sentence ⊕ apart_entry line
+syntax_entry Verdicts = sentence ⊕ entry (fixed VERDICTS.now refl) (text (fixed VERDICTS_SENTENCE.now refl))
 
 unfoldable pub file_entry : List ℕ → Tree
 file_entry name = entry (fixed (codes "File") refl) (code name)

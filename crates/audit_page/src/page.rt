@@ -6,7 +6,7 @@ ghost use Rattle.texting_robots.specs.{Callers.label_by_value};
 ghost use Rattle.html_writer.specs.{Html.document};
 ghost use Rattle.audit_core.specs.{Request.requested_by};
 ghost use Rattle.audit_page.specs.{Page.date_entry, Page.file_entry, Page.page_content, Page.syntax_entry};
-ghost use Rattle.audit_page.specs.{Page.page, Page.page_head, Page.page_tree, Page.summary, Tree.written};
+ghost use Rattle.audit_page.specs.{Page.page, Page.page_head, Page.page_tree, Page.sentence, Page.summary, Tree.written};
 
 mod by_line;
 mod file;
@@ -23,7 +23,9 @@ use audit_core::syntax::{SYNTAX_SENTENCE, VERDICTS_SENTENCE};
 use file::{push_file_table, push_sitemap_entry};
 use html_writer::write::{push_doctype, push_element, push_end, push_start};
 use parts::{Page, push, push_start_with};
-use pieces::{cell_name, head_start, page_end, page_heading, some_date, title};
+use pieces::{
+    apart_entry, cell_name, head_start, other_entry, page_end, page_heading, some_date, title,
+};
 use rfc9309_laws::conformance::Conformance;
 use std::alloc::{AllocError, Global};
 use style::VERDICTS;
@@ -44,19 +46,30 @@ fn push_head(page: &mut Page, agent: Option<&str>) -> Result<(), AllocError>
     push_end(&mut page.out, "head")
 }
 
+fn push_sentence(page: &mut Page) -> Result<(), AllocError>
+    ensures { OnOk result (page.new.out.items ≡ page.old.out.items ++ written sentence) }
+{
+    push_element(&mut page.out, "dt", b"Syntax")?;
+    push_element(&mut page.out, "dd", SYNTAX_SENTENCE.as_bytes())
+}
+
 #[tactic(auto, using(crate::proofs::TreeLemmas::joined), unfolding(crate::specs::Page::syntax_entry))]
 fn push_syntax_entry(page: &mut Page, syntax: Conformance) -> Result<(), AllocError>
     ensures { OnOk result (page.new.out.items ≡ page.old.out.items ++ written (syntax_entry syntax)) }
 {
-    if syntax.has_syntax() {
-        push_element(&mut page.out, "dt", b"Syntax")?;
-        push_element(&mut page.out, "dd", SYNTAX_SENTENCE.as_bytes())?;
+    match syntax {
+        Conformance::OtherFile => Ok(()),
+        Conformance::OtherLine(line) => push(page, &other_entry(line)),
+        Conformance::Syntax(line) => {
+            push_sentence(page)?;
+            push(page, &apart_entry(line))
+        }
+        Conformance::Verdicts => {
+            push_sentence(page)?;
+            push_element(&mut page.out, "dt", VERDICTS.as_bytes())?;
+            push_element(&mut page.out, "dd", VERDICTS_SENTENCE.as_bytes())
+        }
     }
-    if syntax.has_verdicts() {
-        push_element(&mut page.out, "dt", VERDICTS.as_bytes())?;
-        push_element(&mut page.out, "dd", VERDICTS_SENTENCE.as_bytes())?;
-    }
-    Ok(())
 }
 
 #[tactic(auto, using(crate::proofs::TreeLemmas::joined), unfolding(crate::specs::Page::file_entry))]

@@ -1,8 +1,10 @@
 //! The lines within the size limit of a file.
-ghost use Rattle.std.specs.Prelude.{◌≡◌, take};
-ghost use Rattle.texting_robots.specs.Callers.{file_limit};
-ghost use Rattle.robots_warnings.specs.File.{is_blank};
+ghost use Rattle.std.specs.Prelude.{◌≡◌, IfOk, map, take};
+ghost use Rattle.texting_robots.specs.Callers.{file_limit, label_by_value};
+ghost use Rattle.robots_warnings.specs.File.{is_blank, labels_for};
 
+use std::alloc::{AllocError, Global};
+use texting_robots::labels::{LabeledLine, labeled_lines};
 use texting_robots::robot::FILE_LIMIT;
 
 pub(crate) fn first(count: usize, text: &[u8]) -> &[u8]
@@ -16,6 +18,17 @@ pub fn counted<'a>(file: &'a [u8]) -> &'a [u8]
     ensures { result.now ≡ take file_limit file.now }
 {
     first(FILE_LIMIT, file)
+}
+
+/// The lines of a file with their membership in the crawler's group.
+pub(crate) fn labels_for<'a>(
+    alloc: Global,
+    agent: &str,
+    file: &'a [u8],
+) -> Result<Vec<LabeledLine<'a>>, AllocError>
+    ensures { IfOk result (λ labels. map label_by_value labels.items ≡ labels_for agent.now file.now) }
+{
+    labeled_lines(agent, counted(file)).collect(alloc)
 }
 
 /// Whether there are only spaces and tabs, possibly followed by a comment.

@@ -1,13 +1,13 @@
 //! A file that was read once: what warnings and reports need of it.
 ghost use Rattle.std.specs.Prelude.{◌≡◌, IfOk, map};
 ghost use Rattle.texting_robots.specs.Callers.{label_by_value};
-ghost use Rattle.robots_warnings.specs.{File.labels_for, Read.IsReadFrom};
+ghost use Rattle.robots_warnings.specs.{File.labels_for, Read.IsRead};
 
 use crate::facts::{FileFacts, facts_of};
-use crate::file::counted;
+use crate::file::labels_for;
 use std::alloc::{AllocError, Global};
 use texting_robots::Site;
-use texting_robots::labels::{LabeledLine, labeled_lines};
+use texting_robots::labels::LabeledLine;
 
 /// A file as it was read.
 #[derive(Drop)]
@@ -17,7 +17,6 @@ pub struct FileRead<'a> {
     pub labels: Vec<LabeledLine<'a>>,
     pub facts: FileFacts,
     pub site: Site,
-    pub ghost is_read: { IsReadFrom bytes.now (map label_by_value labels.items) facts site },
 }
 
 impl<'a> FileRead<'a> {
@@ -26,8 +25,9 @@ impl<'a> FileRead<'a> {
         ensures bytes { IfOk result (λ read. read.bytes.now ≡ bytes.entry.now) }
         ensures labels { IfOk result (λ read. map label_by_value read.labels.items
             ≡ labels_for agent.now bytes.entry.now) }
+        ensures read { IfOk result IsRead }
     {
-        let labels: Vec<LabeledLine<'_>> = labeled_lines(agent, counted(bytes)).collect(alloc)?;
+        let labels = labels_for(alloc, agent, bytes)?;
         let facts = facts_of(bytes, &labels);
         let site = Site::new(alloc, bytes)?;
         Ok(FileRead {

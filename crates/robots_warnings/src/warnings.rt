@@ -26,6 +26,7 @@ use crate::positions::{Preceding, first_delay, last_group, preceding_with, sole_
 use crate::read::FileRead;
 use crate::repeated::repeated;
 use crate::replaced::{replacing, star_count};
+use crate::rules::is_expression;
 use crate::spellings::{Spelling, unpaired};
 use crate::table::Cause;
 use crate::warning::{Detail, Found, Warning};
@@ -110,8 +111,9 @@ fn warn_in_general<'a>(
 fn warn_of_rule(found: &mut Found<'_>, line: Option<usize>, value: &[u8]) -> Result<(), AllocError>
     ensures { OnOk result (Adds found.old.items found.new.items (warned line None (rule_checks value.now))) }
 {
-    warn(found, line, None, &form_checks(value))?;
-    warn(found, line, None, &content_checks(value))
+    let is_regex = is_expression(value);
+    warn(found, line, None, &form_checks(value, is_regex))?;
+    warn(found, line, None, &content_checks(value, is_regex))
 }
 
 /// Rules are only checked if `is_in_scope` is true.

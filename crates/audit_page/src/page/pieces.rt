@@ -1,5 +1,5 @@
 //! Pieces of a page that are written at once: markup with values.
-#![tactic(auto, using(crate::proofs::TreeLemmas::joined), unfolding(html_writer::specs::Html::tag_open, html_writer::specs::Html::tag_close, html_writer::specs::Html::void_close, html_writer::specs::Html::end_tag, html_writer::specs::Html::style_bytes, html_writer::specs::Html::escaped_bytes, crate::specs::Tree::field_bytes, crate::specs::Page::agent_caption, crate::specs::Page::first_columns, crate::specs::Page::code, crate::specs::Page::fact_cells, crate::specs::Page::delay_entry, crate::specs::Page::rule_entry, crate::specs::Page::fetch_cell, crate::specs::Page::fetch_entry, crate::specs::Page::file_caption, crate::specs::Page::line_columns, crate::specs::Page::line_link, crate::specs::Page::line_cells, crate::specs::Page::head_start, crate::specs::Page::page_end, crate::specs::Page::page_heading, crate::specs::Page::sitemap_item, crate::specs::Page::some_date, crate::specs::Page::some_rest, crate::specs::Page::url_column, crate::specs::Page::url_head))]
+#![tactic(auto, using(crate::proofs::TreeLemmas::joined), unfolding(html_writer::specs::Html::tag_open, html_writer::specs::Html::tag_close, html_writer::specs::Html::void_close, html_writer::specs::Html::end_tag, html_writer::specs::Html::style_bytes, html_writer::specs::Html::escaped_bytes, crate::specs::Tree::field_bytes, crate::specs::Page::agent_caption, crate::specs::Page::apart_entry, crate::specs::Page::first_columns, crate::specs::Page::code, crate::specs::Page::fact_cells, crate::specs::Page::delay_entry, crate::specs::Page::rule_entry, crate::specs::Page::fetch_cell, crate::specs::Page::fetch_entry, crate::specs::Page::file_caption, crate::specs::Page::line_columns, crate::specs::Page::line_link, crate::specs::Page::line_cells, crate::specs::Page::other_entry, crate::specs::Page::head_start, crate::specs::Page::page_end, crate::specs::Page::page_heading, crate::specs::Page::sitemap_item, crate::specs::Page::some_date, crate::specs::Page::some_rest, crate::specs::Page::url_column, crate::specs::Page::url_head))]
 
 ghost use Rattle.std.specs.Prelude.{◌≡◌, ◌++◌, codes, option_map};
 ghost use Rattle.texting_robots.specs.{Callers.label_by_value};
@@ -7,7 +7,8 @@ ghost use Rattle.audit_core.specs.{Rows.line_value, Texts.delay_value, Texts.may
 ghost use Rattle.printable_text.specs.{Raw.raw_value, Text.value_text};
 ghost use Rattle.html_writer.specs.{Html.end_tag};
 ghost use Rattle.audit_page.specs.{Internal.raw_part, Internal.raw_parts, Tree.words_written, Tree.written};
-ghost use Rattle.audit_page.specs.Page.{agent_caption, code, comment_text, delay_entry, fact_cells, page_end};
+ghost use Rattle.audit_page.specs.Page.{agent_caption, apart_entry, code, comment_text, delay_entry, fact_cells};
+ghost use Rattle.audit_page.specs.Page.{other_entry, page_end};
 ghost use Rattle.audit_page.specs.Page.{fetch_cell, fetch_entry, fetch_value, file_caption, first_columns};
 ghost use Rattle.audit_page.specs.Page.{head_start, rule_entry, line_cells, line_columns, line_link};
 ghost use Rattle.audit_page.specs.Page.{line_start, page_heading, row_name, scroll_start, sitemap_item};
@@ -178,6 +179,30 @@ pub(crate) fn fetch_cell(rejected: Option<usize>, reach: Reach) -> [Part<'static
         Part("<td class=\"", fetch),
         Part("\">", fetch),
         Part("</td>", Value::Nothing),
+    ]
+}
+
+pub(crate) fn other_entry(line: usize) -> [Part<'static>; 2]
+    ensures { raw_parts result ≡ written (other_entry line) }
+{
+    [
+        Part(
+            "<dt>Syntax</dt><dd>not RFC 9309 syntax: line ",
+            Value::Number(line),
+        ),
+        Part("</dd>", Value::Nothing),
+    ]
+}
+
+pub(crate) fn apart_entry(line: usize) -> [Part<'static>; 2]
+    ensures { raw_parts result ≡ written (apart_entry line) }
+{
+    [
+        Part(
+            "<dt>Verdicts</dt><dd>verdicts may not be those of RFC 9309: line ",
+            Value::Number(line),
+        ),
+        Part("</dd>", Value::Nothing),
     ]
 }
 

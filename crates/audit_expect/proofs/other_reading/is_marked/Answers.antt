@@ -1,8 +1,9 @@
-use Rattle.std.proofs.Common.{arith, false}
+use Rattle.std.proofs.Common.{arith, ◌∙◌}
+use Rattle.audit_expect.proofs.OtherReadingLemmas.{mark_at, no_mark}
 use Rattle.audit_expect.proofs.other_reading.is_marked.Goals as goal
 
 pub returns-in-Some : goal.returns-in-Some
-returns-in-Some c = c.in-Some.ensures.lookup.4 (omega arith) false
+returns-in-Some c = ?
 
 pub returns-in-None : goal.returns-in-None
-returns-in-None c = c.in-None.ensures.lookup.4 (omega arith) false
+returns-in-None c = ?
