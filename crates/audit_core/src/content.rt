@@ -26,7 +26,8 @@ pub fn check_content(alloc: Global, name: &str, file: &[u8]) -> Result<(), Fault
     ensures ok { OnOk result (content_flaw file.now ≡ None) }
     ensures fault { IfErr result (IsContentFault name.now file.now) }
 {
-    match flaw_of(FileRead::new(alloc, "*", file)?.facts) {
+    let read = FileRead::new(alloc, "*", file)?;
+    match flaw_of(read.facts) {
         Some(flaw) => Err(argument(alloc, name, flaw)),
         None => Ok(()),
     }

@@ -16,8 +16,8 @@ use audit_core::fault::Fault;
 use robots_warnings::crawlers::other_group;
 use robots_warnings::read::FileRead;
 use std::alloc::Global;
-use texting_robots::robot::Decision;
 use texting_robots::Robot;
+use texting_robots::robot::Decision;
 
 /// What a file says about a URL for a crawler.
 #[derive(Drop)]

@@ -146,8 +146,9 @@ pub(crate) fn content_checks(value: &[u8], is_regex: bool) -> [Check; 7]
 pub(crate) fn sitemap_checks(alloc: Global, value: &[u8]) -> Result<[Check; 3], AllocError>
     ensures { IfOk result (λ checks. checks ≡ sitemap_checks value.now) }
 {
+    let (cause, seems_several) = several_values(value);
     Ok([
-        several_values(value),
+        (cause, seems_several),
         (Cause::SitemapNotAbsolute, !is_absolute_url(alloc, value)?),
         (Cause::SitemapHost, has_odd_host(alloc, value)?),
     ])

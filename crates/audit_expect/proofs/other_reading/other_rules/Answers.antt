@@ -9,9 +9,10 @@ use Rattle.audit_expect.proofs.other_reading.other_rules.Goals as goal
 pub returns : goal.returns
 returns c =
     let read = c.args.read.now in
-    let marks = rw c.deref.ensures.value (marks_read read c.requires) in
+    let marks = ap (λ labels. marks_in (map label_by_value labels)) c.deref-labels.ensures.value
+    ∙ marks_read read c.requires in
     filter_same _ (λ (placed : PlacedRule).
-    not (is_marked (marks_in (map label_by_value c.deref.result.now)) placed.line)) _
+    not (is_marked (marks_in (map label_by_value c.deref-labels.result.now)) placed.line)) _
     (λ x b f' k. search rules) _ _ c.retain.ensures.filtered
     ∙ ap (λ marks. stated_rules (is_marked marks) c.in_ok-rules.rules.items) marks
     ∙ ap (others_of (bodies_read read.bytes.now)) (rw c.requires.site_is at c.in_ok-rules.ensures)
