@@ -2,7 +2,7 @@
 use Rattle.std.specs.Prelude.{◌||◌, length, nat_le}
 use Rattle.std.proofs.Common.{◌≡◌, ◌≢◌, ◌∙◌, ℕ, zero, suc, ◌==◌, Bool, true, false, List, [], ◌∷◌, ◌++◌, Some}
 use Rattle.std.proofs.Common.{Contains, Option, None, ap, arith, if◌then◌else◌, inl, inr, map, refl, subst}
-use Rattle.std.proofs.Common.{◌<◌, ◌≤◌, drop, slice_get, slice_index_or, sym}
+use Rattle.std.proofs.Common.{◌<◌, ◌≤◌, ◌-◌, drop, slice_get, slice_index_or, sym}
 use Rattle.std.specs.{Char.to_ascii_lowercase, List.All, Option.option_map_or}
 use Rattle.std.proofs.lemmas.Bool.{cases_Bool, false≢true, not-true, Decides.nat_tests}
 use Rattle.std.proofs.lemmas.Option.{option_and_then_some, same_Some}
@@ -261,15 +261,26 @@ marks_read read is =
     ap (λ marks. false ∷ marks) (empties labels (is.lines_are ∙ ap (map line_of) (sym is.bodies_are))
     ∙ ap (map is_empty) is.bodies_are)
 
-pub mark_at : (labels : List LabeledLine) (place : ℕ) (d : LabeledLine) → place < length labels
+mark_at : (labels : List LabeledLine) (place : ℕ) (d : LabeledLine) → place < length labels
     → slice_index_or (map is_empty_label (map label_by_value labels)) place false
     ≡ is_empty_label (label_by_value (slice_index_or labels place d))
 mark_at [] place d below = absurd (omega (arith, below))
 mark_at (label ∷ labels) zero d below = refl
 mark_at (label ∷ labels) (suc place) d below = mark_at labels place d (omega (arith, below))
 
-pub no_mark : (labels : List LabeledLine) (place : ℕ) → length labels ≤ place
+no_mark : (labels : List LabeledLine) (place : ℕ) → length labels ≤ place
     → slice_index_or (map is_empty_label (map label_by_value labels)) place false ≡ false
 no_mark [] place past = refl
 no_mark (label ∷ labels) zero past = absurd (omega (arith, past))
 no_mark (label ∷ labels) (suc place) past = no_mark labels place (omega (arith, past))
+
+pub marked_at : (labels : List LabeledLine) (number : ℕ) (line d : LabeledLine) → number ≢ 0
+    → number - 1 < length labels → line ≡ slice_index_or labels (number - 1) d
+    → is_empty_label (label_by_value line) ≡ is_marked (marks_in (map label_by_value labels)) number
+marked_at labels zero line d some within is = absurd (some refl)
+marked_at labels (suc place) line d some within is = rw is (sym (mark_at labels place d within))
+
+pub unmarked_at : (labels : List LabeledLine) (number : ℕ) → length labels ≤ number - 1
+    → false ≡ is_marked (marks_in (map label_by_value labels)) number
+unmarked_at labels zero past = refl
+unmarked_at labels (suc place) past = sym (no_mark labels place past)
