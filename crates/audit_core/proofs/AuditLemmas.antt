@@ -9,18 +9,18 @@ use Rattle.std.proofs.lemmas.Bool.{cases_Bool, Decides.nat_tests, Decides.Decide
 use Rattle.std.proofs.lemmas.{Slice.Eq.bytes_eq-Decides, List.Elements.filter_map-append}
 use Rattle.std.proofs.lemmas.List.{append-nil, drop_more, replicate-append-replicate, map-append, take_more}
 use Rattle.texting_robots.specs.Callers.{label_by_value, sitemaps_in, IsDelayFor, placed_rules}
-use Rattle.texting_robots.specs.Callers.{AnswerAlike, IsRobotWithoutSitemaps, PlacedRule, RobotValue, file_limit, group_name}
+use Rattle.texting_robots.specs.Callers.{AnswerAlike, IsRobotWithoutSitemaps, PlacedRule, RobotValue, file_limit}
 use Rattle.texting_robots.specs.Callers.{UserAgent, by_value, HasLines, LineValue, delay_for, lines_read}
-use Rattle.texting_robots.specs.{Agents.is_among, Callers.bodies_read, Executable.sitemap_in}
+use Rattle.texting_robots.specs.{Agents.is_among, Executable.sitemap_in}
 use Rattle.texting_robots.specs.declared.labels.{LabeledLine.LabeledLine}
 use Rattle.robots_warnings.specs.Internal.Names.{AddsName, Key}
 use Rattle.audit_core.specs.Internal.Agents.{AddsAgent, HasAgents, has_lowered}
 use Rattle.robots_warnings.proofs.{ClosedLemmas.any_last}
 use Rattle.printable_text.specs.{Lines.ended}
-use Rattle.robots_warnings.specs.File.{lines_of, space, labels_for}
-use Rattle.audit_core.specs.Audit.{sitemap_at, IsRuling, IsVerdictOn, VerdictValue, agents_requested}
-use Rattle.texting_robots.proofs.Shared.{delay_is_computed, labels_hold, answers_computed, lines_are_read}
-use Rattle.texting_robots.proofs.Shared.{of_lines, read_robot}
+use Rattle.robots_warnings.specs.File.{lines_of, space}
+use Rattle.audit_core.specs.Audit.{IsRuling, IsVerdictOn, VerdictValue, sitemap_at}
+use Rattle.texting_robots.proofs.Shared.{delay_is_computed, answers_computed, lines_are_read, of_lines}
+use Rattle.texting_robots.proofs.Shared.{read_robot}
 use Rattle.audit_core.specs.{Asked.asked_target}
 
 absorbed : (names : List (List ℕ)) (name key : List ℕ) → is_among name names ≡ true
@@ -133,19 +133,6 @@ pub zip_next : {A B V : Type 0} (R : B → V → Type 0) (f : A → B) (items : 
 zip_next R f items place item found next below are is =
     rw (take_more items place item below, map-append)
     (zip_push R (map f (take place items)) found (f (slice_index_or items place item)) next are is)
-
-pub lines_labeled : (agent file : List ℕ) → lines_of (labels_for agent file) ≡ lines_read file
-lines_labeled agent file = (labels_hold (group_name agent (lines_read file)) (bodies_read file)).0
-
--- the crawlers requested, computed from labels, are those computed from the lines
-pub names_requested : (agents : List (List ℕ)) (labeling file : List ℕ)
-    (labels others : List LabeledLine) (names : List (List ℕ))
-    → names ≡ agents_requested agents (lines_of (map label_by_value others)) → others ≡ labels
-    → map label_by_value labels ≡ labels_for labeling file → names ≡ agents_requested agents (lines_read file)
-names_requested agents labeling file labels others names requested same are =
-    requested ∙ ap (λ labels. agents_requested agents (lines_of (map label_by_value labels))) same
-    ∙ ap (λ labels. agents_requested agents (lines_of labels)) are
-    ∙ ap (agents_requested agents) (lines_labeled labeling file)
 
 verdicts_like : (rules others : List PlacedRule) → AnswerAlike rules others
     → (urls : List (List ℕ)) (verdicts : List VerdictValue) → AllZip (IsVerdictOn rules) urls verdicts

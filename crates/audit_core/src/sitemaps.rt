@@ -1,13 +1,15 @@
 //! The sitemaps that a file lists, and the warnings about those that the rules for `*` deny.
-ghost use Rattle.std.specs.Prelude.{◌≡◌, ◌++◌, ◌∷◌, [], IfErr, IfOk, List, OnOk, flat_map, map, take, zip};
-ghost use Rattle.texting_robots.specs.Callers.{by_value, file_limit, file_lines, label_by_value, lines_read};
+ghost use Rattle.std.specs.Prelude.{◌≡◌, ◌++◌, ◌∷◌, [], IfErr, IfOk, List, OnOk, codes, flat_map, map, zip};
+ghost use Rattle.texting_robots.specs.Callers.{by_value, file_lines, label_by_value, lines_read};
 ghost use Rattle.texting_robots.specs.Callers.{sitemaps_in};
-ghost use Rattle.robots_warnings.specs.{File.lines_of, Internal.Adds, Message.WarningValue};
+ghost use Rattle.robots_warnings.specs.{File.lines_of, Internal.Adds, Message.WarningValue, Read.IsRead};
 ghost use Rattle.audit_core.specs.Audit.{AreOfSitemaps, sitemap_at, sitemap_warning, sitemaps_asked};
+ghost use Rattle.audit_core.specs.Internal.{IsReading};
 
-use crate::audit::{Verdict, ruling};
+use crate::audit::{Reading, Verdict, ruling};
 use crate::fault::Fault;
 use robots_warnings::closed::is_closed;
+use robots_warnings::read::FileRead;
 use robots_warnings::table::Cause;
 use robots_warnings::urls::{as_text, is_absolute_url};
 use robots_warnings::warning::{Detail, Warning};
@@ -135,23 +137,23 @@ fn warn_of_verdicts(
     Ok(())
 }
 
-/// Appends the warnings about the sitemaps that the rules for `*` deny.
+/// Appends the warnings about the sitemaps that the rules for `*` deny. `star` is how the file is read for `*`.
 pub(crate) fn warn_of_sitemaps(
     alloc: Global,
     found: &mut Vec<Warning<'_>>,
-    file: &[u8],
-    labels: &[LabeledLine<'_>],
-    site: &Site,
+    star: &Reading,
+    read: &FileRead<'_>,
 ) -> Result<(), Fault>
-    requires { site.now ≡ take file_limit file.now }
+    requires read { IsRead read.now }
+    requires star { IsReading (codes "*") read.now.bytes.now star.now }
     ensures ok { OnOk result ((sitemaps : List WarningValue)
-        × AreOfSitemaps (lines_read file.now) (map label_by_value labels.now) sitemaps
+        × AreOfSitemaps (lines_read read.now.bytes.now) (map label_by_value read.now.labels.items) sitemaps
         × Adds found.old.items found.new.items sitemaps) }
     ensures fault { IfErr result (λ fault. fault ≡ Fault.Memory) }
 {
     let mut numbers = Vec::new(alloc);
     let mut urls = Vec::new(alloc);
-    ask_about_all(alloc, &mut numbers, &mut urls, site, labels)?;
-    let (_, verdicts) = ruling(alloc, "*", file, site, &urls)?;
+    ask_about_all(alloc, &mut numbers, &mut urls, &read.site, &read.labels)?;
+    let (_, verdicts) = ruling(alloc, star, &urls)?;
     Ok(warn_of_verdicts(found, &numbers, &verdicts)?)
 }

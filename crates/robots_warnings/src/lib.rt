@@ -15,6 +15,7 @@ pub mod names;
 mod names_past_limit;
 mod numbers;
 pub mod positions;
+pub mod read;
 mod repeated;
 mod replaced;
 pub mod rules;
