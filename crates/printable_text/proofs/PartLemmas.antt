@@ -210,8 +210,7 @@ starts_blanks (suc n) text is = starts_blanks n text is
 starts_digit : (digit : ℕ) (text : List ℕ) → digit < 10 → starts (digit_glyph false digit ∷ text) ≡ true
 starts_digit digit text below =
     let visible : (digit_glyph false digit == 32) ≡ false = grind (arith, nat_tests) in
-    let plain : not (digit_glyph false digit == 58 || digit_glyph false digit == 35) ≡ true =
-    grind (arith, nat_tests) in
+    let plain : not (digit_glyph false digit == 58) ≡ true = grind (arith, nat_tests) in
     rw visible plain
 
 starts_decimal : (n : ℕ) → starts (decimal n) ≡ true
@@ -293,7 +292,7 @@ colored_same text is = record {
   plain_is = sym (append-nil text);
 }
 
-colored_append : (plain text more next : List ℕ) → IsColored plain text → IsColored more next
+pub colored_append : (plain text more next : List ℕ) → IsColored plain text → IsColored more next
     → IsColored (plain ++ more) (text ++ next)
 colored_append plain text more next is too = record {
   parts = is.parts ++ too.parts;
@@ -320,7 +319,7 @@ plain_printable plain text is = subst IsPrintable (sym is.plain_is) (all_shown i
         (subst IsPrintable (sym same) (line_printable (level_word level) (level_printable level)))
         (all_shown parts later)
 
-colored_word : (level : Level) → IsColored (level_word level) (shown_word true level)
+pub colored_word : (level : Level) → IsColored (level_word level) (shown_word true level)
 colored_word level = record {
   parts = (shown_word true level, level_word level) ∷ [];
   each = (inr (level, refl, refl), tt);

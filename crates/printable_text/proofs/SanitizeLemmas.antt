@@ -194,7 +194,7 @@ module _ (has_lines : Bool) where
       cond_both (is_printable has_lines char) (encode_utf8 char) (escaped bytes) (IsPrintableIn has_lines)
       (char_printable char (are char refl)) (λ isnt. flat_printable escape_byte escaped_printable bytes)
 
-  safe_in_printable : (bytes : List ℕ) → IsPrintableIn has_lines (safe_in has_lines bytes)
+  pub safe_in_printable : (bytes : List ℕ) → IsPrintableIn has_lines (safe_in has_lines bytes)
   unfolding pieces_from
   safe_in_printable bytes = from (length bytes) bytes
     where
@@ -225,7 +225,7 @@ module _ (has_lines : Bool) where
             (append_printable (encode_utf8 char) rest (char_printable char is.0 plain.0) later)
       ]
 
-  without_printable : (text : List ℕ) → IsPrintableIn has_lines text
+  pub without_printable : (text : List ℕ) → IsPrintableIn has_lines text
       → IsPrintableIn has_lines (without_commands text)
   unfolding without_commands
   without_printable text is =

@@ -25,11 +25,11 @@ reaches Note Error = false
 -- ---- Lines that no workflow on GitHub takes for a command. A command begins with `::`, possibly after
 -- spaces at the start of a line, or with `##[` anywhere in a line.
 
--- the first byte that isn't a space is neither `:` nor `#`
+-- the first byte that isn't a space isn't `:`
 abbrev pub begins_plainly : List ℕ → Bool
 begins_plainly [] = true
 begins_plainly (b ∷ text) =
-    if b == byte " " then begins_plainly text else not (b == byte ":" || b == byte "#")
+    if b == byte " " then begins_plainly text else not (b == byte ":")
 
 -- a single line without control or bidirectional-formatting characters, which isn't a command
 pub record IsPlainLine (line : List ℕ) : Type 0 where
@@ -37,10 +37,16 @@ pub record IsPlainLine (line : List ℕ) : Type 0 where
   pub begins : IsTrue (begins_plainly line)
   pub inside : has_command line ≡ false
 
--- the text has a byte that isn't a space, and the first one is neither `:` nor `#`
+-- lines, each of which is plain
+pub record IsReport (text : List ℕ) : Type 0 where
+  pub lines : List (List ℕ)
+  pub each : Each IsPlainLine lines
+  pub text_is : text ≡ ended lines
+
+-- the text has a byte that isn't a space, and the first one isn't `:`
 abbrev pub starts : List ℕ → Bool
 starts [] = false
-starts (b ∷ text) = if b == 32 then starts text else not (b == 58 || b == 35)
+starts (b ∷ text) = if b == 32 then starts text else not (b == 58)
 
 -- bold red, yellow or cyan
 abbrev pub color_of : Level → List ℕ
@@ -75,6 +81,18 @@ pub record IsColored (plain text : List ℕ) : Type 0 where
 abbrev pub IsForTerminal : (has_colors : Bool) → List ℕ → Type 0
 IsForTerminal false text = IsPrintable text
 IsForTerminal true text = (plain : List ℕ) × IsColored plain text
+
+-- `shown` shows the text up to `rest`
+pub record IsColoredTo (text rest shown : List ℕ) : Type 0 where
+  pub plain : List ℕ
+  pub colored : IsColored plain shown
+  pub printable : IsPrintable rest
+  pub text_is : text ≡ plain ++ rest
+
+-- a report or, if there are colors, one into which color codes are inserted
+abbrev pub IsShownReport : (has_colors : Bool) → List ℕ → Type 0
+IsShownReport false text = IsReport text
+IsShownReport true text = (plain : List ℕ) × IsReport plain × IsColored plain text
 
 -- ---- Lines as data, made of parts, each of which is safe by its type. So the line is printable, and has no
 -- `##[`. A `ReportLine` doesn't begin with `::` either, so no workflow on GitHub takes it for a command; a

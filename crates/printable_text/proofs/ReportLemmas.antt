@@ -1,0 +1,118 @@
+-- What is written to a report keeps it safe.
+use Rattle.std.specs.Prelude.{IfOk, OnOk}
+use Rattle.std.proofs.Common.{◌≡◌, ℕ, Bool, true, false, List, [], ◌∷◌, ◌++◌, Result, Ok, Err, append-nil}
+use Rattle.std.proofs.Common.{append_assoc, ap, refl, subst, sym, ◌∙◌, codes}
+use Rattle.std.specs.{Bool.IsTrue, List.AllByRecursion as Each, List.list_all, Str.IsUtf8, Str.chars}
+use Rattle.std.proofs.lemmas.{Bool.and_parts, List.Folds.list_all-append, Str.chars-append}
+use Rattle.printable_text.specs.{declared.level.Level.Level}
+use Rattle.printable_text.specs.Lines.{ended}
+use Rattle.printable_text.specs.Sanitize.{IsPrintable, IsPrintableIn, has_command, is_printable}
+use Rattle.printable_text.specs.Sanitize.{is_printable_byte, safe_in}
+use Rattle.printable_text.specs.Text.{IsColored, IsColoredTo, IsPlainLine, IsReport, IsShownReport}
+use Rattle.printable_text.specs.Text.{begins_plainly, level_word, shown_word}
+use Rattle.printable_text.proofs.SanitizeLemmas.{append_printable, ascii_printable, ended-append}
+use Rattle.printable_text.proofs.SanitizeLemmas.{ended_printable, line_printable, safe_in_printable}
+use Rattle.printable_text.proofs.SanitizeLemmas.{nil_printable}
+use Rattle.printable_text.proofs.PartLemmas.{colored_append, colored_same, colored_word, level_printable}
+
+pub safe_added : (old new bytes : List ℕ) → IsPrintableIn false old → new ≡ old ++ safe_in false bytes
+    → IsPrintableIn false new
+safe_added old new bytes is added =
+    subst (IsPrintableIn false) (sym added)
+    (append_printable false old (safe_in false bytes) is (safe_in_printable false bytes))
+
+pub ascii_added : (old new text : List ℕ) → IsPrintableIn false old
+    → list_all (is_printable_byte false) text ≡ true → new ≡ old ++ text → IsPrintableIn false new
+ascii_added old new text is plain added =
+    subst (IsPrintableIn false) (sym added)
+    (append_printable false old text is (ascii_printable false text plain))
+
+pub report_nil : IsReport []
+report_nil = record { lines = []; each = tt; text_is = refl }
+
+each_last : (lines : List (List ℕ)) (line : List ℕ) → Each IsPlainLine lines → IsPlainLine line
+    → Each IsPlainLine (lines ++ line ∷ [])
+each_last [] line are is = (is, tt)
+each_last (first ∷ lines) line are is = (are.0, each_last lines line are.1 is)
+
+line_added : (old line : List ℕ) → IsReport old → IsPlainLine line → IsReport (old ++ ended (line ∷ []))
+line_added old line is plain = record {
+  lines = is.lines ++ line ∷ [];
+  each = each_last is.lines line is.each plain;
+  text_is =
+      ap (λ (t : List ℕ). t ++ ended (line ∷ [])) is.text_is ∙ sym (ended-append is.lines (line ∷ []));
+}
+
+-- the line as it is, or after a backslash
+pub plain_added : (old line new : List ℕ) → IsReport old → IsPrintableIn false line
+    → has_command line ≡ false → begins_plainly line ≡ true → new ≡ old ++ (line ++ 10 ∷ []) → IsReport new
+plain_added old line new is printable inside begins added =
+    subst IsReport (sym (added ∙ ap (λ (t : List ℕ). old ++ t) (sym (append-nil (line ++ 10 ∷ [])))))
+    (line_added old line is (record { printable = printable; begins = begins; inside = inside }))
+
+pub escaped_added : (old line new : List ℕ) → IsReport old → IsPrintableIn false line
+    → has_command line ≡ false → new ≡ old ++ (92 ∷ (line ++ 10 ∷ [])) → IsReport new
+escaped_added old line new is printable inside added =
+    plain_added old (92 ∷ line) new is
+    (append_printable false (92 ∷ []) line (ascii_printable false (92 ∷ []) refl) printable) inside refl added
+
+pub report_printable : (text : List ℕ) → IsReport text → IsPrintable text
+report_printable text is = subst IsPrintable (sym is.text_is) (ended_printable is.lines (each is.lines is.each))
+  where
+    each : (lines : List (List ℕ)) → Each IsPlainLine lines → Each IsPrintable lines
+    each [] are = tt
+    each (line ∷ lines) are = (line_printable line are.0.printable, each lines are.1)
+
+-- ---- Colors.
+
+printable_parts : (front rest : List ℕ) → IsUtf8 front → IsUtf8 rest → IsPrintable (front ++ rest)
+    → IsPrintable front × IsPrintable rest
+printable_parts front rest one two is =
+    let both = and_parts (list_all (is_printable true) (chars front)) (list_all (is_printable true) (chars rest))
+    (rw (chars-append front rest one, list_all-append) at is.all) in
+    (record { utf8 = one; all = both.0 }, record { utf8 = two; all = both.1 })
+
+pub word_colored : (all text front rest old new : List ℕ) (level : Level)
+    → IsUtf8 front → IsUtf8 (level_word level ++ rest) → IsUtf8 rest
+    → text ≡ front ++ (level_word level ++ rest) → new ≡ (old ++ front) ++ shown_word true level
+    → IsColoredTo all text old → IsColoredTo all rest new
+word_colored all text front rest old new level one two three text_is added is =
+    let apart = printable_parts front (level_word level ++ rest) one two (subst IsPrintable text_is is.printable) in
+    let later = printable_parts (level_word level) rest (line_utf8 level) three apart.1 in
+    record {
+      plain = (is.plain ++ front) ++ level_word level;
+      colored =
+          subst (IsColored ((is.plain ++ front) ++ level_word level)) (sym added)
+          (colored_append _ _ _ _ (colored_append _ _ _ _ is.colored (colored_same front apart.0))
+          (colored_word level));
+      printable = later.1;
+      text_is =
+          is.text_is ∙ ap (λ (t : List ℕ). is.plain ++ t) text_is
+          ∙ sym (append_assoc (is.plain ++ front) (level_word level) rest ∙ append_assoc is.plain front _);
+    }
+  where
+    line_utf8 : (level : Level) → IsUtf8 (level_word level)
+    line_utf8 level = (level_printable level).utf8
+
+pub colored_start : (text : List ℕ) → IsPrintable text → IsColoredTo text text []
+colored_start text is = record {
+  plain = [];
+  colored = colored_same [] (nil_printable true);
+  printable = is;
+  text_is = refl;
+}
+
+pub colored_end : (all rest old new : List ℕ) → new ≡ old ++ rest → IsColoredTo all rest old → IsColored all new
+colored_end all rest old new added is =
+    subst (λ (t : List ℕ). IsColored t new) (sym is.text_is)
+    (subst (IsColored (is.plain ++ rest)) (sym added)
+    (colored_append _ _ _ _ is.colored (colored_same rest is.printable)))
+
+pub shown_nil : (has_colors : Bool) → IsShownReport has_colors []
+shown_nil false = report_nil
+shown_nil true = ([], report_nil, colored_same [] (nil_printable true))
+
+pub shown_colored : (has_colors : Bool) (text : List ℕ) → IsShownReport has_colors text
+    → IsShownReport true text
+shown_colored false text is = (text, is, colored_same text (report_printable text is))
+shown_colored true text is = is
