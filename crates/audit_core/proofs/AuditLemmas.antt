@@ -1,13 +1,13 @@
 -- How an audit is built: crawlers, rows and lists of lines.
 use Rattle.std.proofs.Common.{◌≡◌, ℕ, ◌||◌, Bool, true, false, List, [], ◌∷◌, ◌++◌, ap, bytes_eq, not, refl}
 use Rattle.std.proofs.Common.{if◌then◌else◌, subst, sym, ⊎_elim, ◌∙◌, ◌+◌, ◌<◌, ◌==◌, arith, drop, flat_map}
-use Rattle.std.proofs.Common.{length, map, slice_index_or, zip, append_assoc, replicate, None, Option, take}
+use Rattle.std.proofs.Common.{length, map, slice_index_or, zip, append_assoc, None, Option, take}
 use Rattle.std.specs.{BTreeSet.BTreeSet, List.AllByRecursion as Each, List.AllZip}
 use Rattle.std.specs.Str.{is_utf8, str_to_ascii_lowercase}
 use Rattle.std.proofs.Math.{Bool.or-false}
 use Rattle.std.proofs.lemmas.Bool.{cases_Bool, Decides.nat_tests, Decides.Decides-eqb}
 use Rattle.std.proofs.lemmas.{Slice.Eq.bytes_eq-Decides, List.Elements.filter_map-append}
-use Rattle.std.proofs.lemmas.List.{append-nil, drop_more, replicate-append-replicate, map-append, take_more}
+use Rattle.std.proofs.lemmas.List.{append-nil, drop_more, map-append, take_more}
 use Rattle.texting_robots.specs.Callers.{label_by_value, sitemaps_in, IsDelayFor, placed_rules}
 use Rattle.texting_robots.specs.Callers.{AnswerAlike, IsRobotWithoutSitemaps, PlacedRule, RobotValue, file_limit}
 use Rattle.texting_robots.specs.Callers.{UserAgent, by_value, HasLines, LineValue, delay_for, lines_read}
@@ -110,13 +110,6 @@ some_length x xs is = let none : length (x ∷ xs) ≡ 0 = (Decides-eqb (length 
 pub none_of : {X : Type 0} (xs : List X) → (length xs == 0) ≡ true → xs ≡ []
 none_of [] is = refl
 none_of (x ∷ xs) is = absurd (some_length x xs is)
-
-pub blanks_more : (n : ℕ) (old mid new : List ℕ) → new ≡ mid ++ space ∷ []
-    → mid ≡ old ++ replicate n space
-    → new ≡ old ++ replicate (n + 1) space
-blanks_more n old mid new added before =
-    added ∙ ap (λ t. t ++ space ∷ []) before ∙ append_assoc old (replicate n space) (space ∷ [])
-    ∙ ap (λ t. old ++ t) (replicate-append-replicate n 1 space)
 
 pub zip_push : {B V : Type 0} (R : B → V → Type 0) (items : List B) (found : List V) (item : B) (next : V)
     → AllZip R items found → R item next → AllZip R (items ++ item ∷ []) (found ++ next ∷ [])

@@ -48,11 +48,6 @@ group_text agent group =
     value_text (group_value agent group)
     ++ parts_text (group_reason agent group ∷ group_end agent group ∷ [])
 
-abbrev pub group_line : List ℕ → Group → ReportLine
-group_line agent group =
-    line_from (Part (label (codes "group: ") refl) (group_value agent group)) refl
-    (group_reason agent group ∷ group_end agent group ∷ [])
-
 -- the word for what a crawler may fetch, if that is everything or nothing; if the file is rejected for it,
 -- there are no verdicts, and nothing is said
 abbrev pub may_fetch : (rejected : Option ℕ) → Reach → Option Fixed
@@ -73,9 +68,3 @@ rejected_reason =
 
 abbrev pub rejected_parts : List ℕ → ℕ → List PartValue
 rejected_parts agent line = rejected_front agent ∷ rejected_line_part line ∷ rejected_reason ∷ []
-
--- the line about it, if the file is rejected
-abbrev pub rejected_lines : List ℕ → Option ℕ → List ReportLine
-rejected_lines agent None = []
-rejected_lines agent (Some line) =
-    line_from (rejected_front agent) refl (rejected_line_part line ∷ rejected_reason ∷ []) ∷ []

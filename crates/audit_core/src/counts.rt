@@ -6,6 +6,7 @@ ghost use Rattle.audit_core.specs.Counts.{count_at, count_parts, level_part, num
 use printable_text::level::Level;
 use printable_text::parts::{Part, Value};
 use robots_warnings::warning::Warning;
+use std::fmt;
 
 fn count_at(level: Level, warnings: &[Warning<'_>]) -> usize
     ensures { result ≡ count_at level warnings.now }
@@ -72,4 +73,44 @@ pub fn count_parts<'a>(
         level_part(Level::Note, notes),
         plural_part(notes),
     ]
+}
+
+/// The numbers of errors, warnings and notes.
+#[derive(Clone, Copy)]
+pub struct Counts {
+    pub errors: usize,
+    pub warnings: usize,
+    pub notes: usize,
+}
+
+pub fn counts_of(warnings: &[Warning<'_>]) -> Counts
+    ensures errors { result.errors ≡ count_at Level.Error warnings.now }
+    ensures warnings { result.warnings ≡ count_at Level.Warning warnings.now }
+    ensures notes { result.notes ≡ count_at Level.Note warnings.now }
+{
+    Counts {
+        errors: count_at(Level::Error, warnings),
+        warnings: count_at(Level::Warning, warnings),
+        notes: count_at(Level::Note, warnings),
+    }
+}
+
+impl fmt::Display for Counts {
+    fn fmt<W: fmt::Write>(&self, f: &mut fmt::Formatter<W>) -> fmt::Result {
+        let mut separator = "";
+        let counts = [
+            (Level::Error, self.errors),
+            (Level::Warning, self.warnings),
+            (Level::Note, self.notes),
+        ];
+        for (level, count) in counts {
+            if count > 0 {
+                let word = level.word();
+                let end = if count > 1 { "s" } else { "" };
+                write!(f, "{separator}{count} {word}{end}")?;
+                separator = ", ";
+            }
+        }
+        Ok(())
+    }
 }

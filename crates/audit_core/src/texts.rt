@@ -1,15 +1,19 @@
 //! Texts that several reports share: a delay, which group applies to a crawler, and that the file is
 //! rejected.
-ghost use Rattle.std.specs.Prelude.{◌≡◌, ◌++◌, ◌∷◌, [], OnOk, option_map, string_bytes};
+ghost use Rattle.std.specs.Prelude.{◌≡◌, ◌++◌, OnOk, option_map, string_bytes};
 ghost use Rattle.printable_text.specs.Raw.{raw_line, raw_text, raw_value};
-ghost use Rattle.printable_text.specs.Text.{part_text, parts_text, value_text, written};
-ghost use Rattle.audit_core.specs.Texts.{delay_value, group_end, group_line, group_reason, group_text, group_value};
-ghost use Rattle.audit_core.specs.Texts.{may_fetch, rejected_lines, rejected_parts};
+ghost use Rattle.printable_text.specs.Text.{part_text, parts_text, value_text};
+ghost use Rattle.audit_core.specs.Texts.{delay_value, group_end, group_reason, group_text, group_value};
+ghost use Rattle.audit_core.specs.Texts.{may_fetch, rejected_parts};
 
 use crate::group::Group;
-use printable_text::parts::{Part, Value, push_line_of, push_parts};
+use printable_text::delay::Delay;
+use printable_text::parts::{Part, Value, push_parts};
+use printable_text::report::Report;
 use robots_warnings::closed::Reach;
 use std::alloc::AllocError;
+use std::fmt;
+use std::fmt::Write;
 
 pub fn delay_value(delay: Option<u64>) -> Value<'static>
     ensures { raw_value result ≡ value_text (delay_value delay) }
@@ -72,13 +76,6 @@ pub fn push_group_text(text: &mut String, agent: &str, group: Group) -> Result<(
     push_parts(text, &group_parts("", agent, group))
 }
 
-pub fn push_group(text: &mut String, agent: &str, group: Group) -> Result<(), AllocError>
-    ensures { OnOk result (string_bytes text.new ≡ string_bytes text.old
-        ++ written (group_line agent.now group ∷ [])) }
-{
-    push_line_of(text, &group_parts("group: ", agent, group))
-}
-
 /// If the file isn't rejected for the crawler, and it may fetch everything or nothing.
 pub fn may_fetch(rejected: Option<usize>, reach: Reach) -> Option<&'static str>
     ensures { option_map (λ word. word.now) result ≡ option_map (λ word. word.text) (may_fetch rejected reach) }
@@ -104,16 +101,69 @@ pub fn rejected_parts<'a>(agent: &'a str, line: usize) -> [Part<'a>; 3]
     ]
 }
 
-pub fn push_rejected(
-    text: &mut String,
-    agent: &str,
-    rejected: Option<usize>,
-) -> Result<(), AllocError>
-    ensures { OnOk result (string_bytes text.new ≡ string_bytes text.old
-        ++ written (rejected_lines agent.now rejected)) }
-{
-    match rejected {
-        Some(line) => push_line_of(text, &rejected_parts(agent, line)),
-        None => Ok(()),
+/// A delay, or `none`.
+#[derive(Clone, Copy)]
+pub struct DelayOrNone(pub Option<u64>);
+
+impl fmt::Display for DelayOrNone {
+    fn fmt<W: fmt::Write>(&self, f: &mut fmt::Formatter<W>) -> fmt::Result {
+        match self.0 {
+            Some(micros) => {
+                let delay = Delay(micros);
+                write!(f, "{delay}")
+            }
+            None => f.write_str("none"),
+        }
     }
+}
+
+/// The group that applies to a crawler, and the reason if it isn't the crawler's own.
+#[derive(Clone, Copy)]
+pub struct Applied<'a> {
+    pub agent: &'a str,
+    pub group: Group,
+}
+
+impl<'a> fmt::Display for Applied<'a> {
+    fn fmt<W: fmt::Write>(&self, f: &mut fmt::Formatter<W>) -> fmt::Result {
+        let agent = self.agent;
+        match self.group {
+            Group::Named => f.write_str(agent),
+            Group::Star => write!(f, "* ({agent} has no group of its own)"),
+            Group::Nobody if agent == "*" => {
+                f.write_str("none (no group for *; everything is allowed)")
+            }
+            Group::Nobody => write!(f, "none (no group for {agent} or *; everything is allowed)"),
+            Group::Everyone => {
+                f.write_str("everyone (the file has no User-agent line; all rules are applied)")
+            }
+        }
+    }
+}
+
+/// That the file is rejected for a crawler because of this line.
+#[derive(Clone, Copy)]
+pub struct Rejected<'a> {
+    pub agent: &'a str,
+    pub line: usize,
+}
+
+impl<'a> fmt::Display for Rejected<'a> {
+    fn fmt<W: fmt::Write>(&self, f: &mut fmt::Formatter<W>) -> fmt::Result {
+        let (agent, line) = (self.agent, self.line);
+        write!(
+            f,
+            "rejected for {agent}: line {line}: a pattern with $ longer than 4,096 bytes isn't supported; shorten it"
+        )
+    }
+}
+
+/// Writes it as a line, if the file is rejected.
+pub fn write_rejected(out: &mut Report, agent: &str, rejected: Option<usize>) -> fmt::Result {
+    let Some(line) = rejected else {
+        return Ok(());
+    };
+    let rejected = Rejected { agent, line };
+    write!(out, "{rejected}")?;
+    out.end_line()
 }

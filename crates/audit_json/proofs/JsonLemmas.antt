@@ -26,7 +26,8 @@ use Rattle.audit_core.specs.declared.group.Group.TheVariants.{Everyone, Named, N
 use Rattle.audit_core.specs.Rows.{comment_of, has_value, kind_of, line_value, membership_value}
 use Rattle.audit_core.specs.Audit.{AgentValue, AuditValue, VerdictValue}
 use Rattle.audit_core.specs.Findings.{Found, found_value, warning_finding, all_found, findings, message_of}
-use Rattle.audit_core.proofs.FindingLemmas.{in_quotes, message_printable, name_printable}
+use Rattle.audit_core.proofs.FindingLemmas.{message_printable, name_printable}
+use Rattle.printable_text.proofs.{EscapeLemmas.in_quotes}
 use Rattle.rfc9309_laws.specs.declared.conformance.Conformance.{Conformance}
 use Rattle.rfc9309_laws.specs.declared.conformance.Conformance.TheVariants.{OtherFile, OtherLine, Syntax}
 use Rattle.rfc9309_laws.specs.declared.conformance.Conformance.TheVariants.{Verdicts}

@@ -12,7 +12,7 @@ use Rattle.html_writer.specs.Html.{tag_open, text, void, void_close, written}
 use Rattle.html_writer.proofs.WritingLemmas.{escaped-is, content_weaker}
 use Rattle.printable_text.specs.Sanitize.{IsPrintable, is_printable, is_printable_byte}
 use Rattle.printable_text.proofs.SanitizeLemmas.{append_printable, ascii_printable, chars_pass, nil_printable}
-use Rattle.audit_core.proofs.FindingLemmas.{escaped_printable as printable_if_escaped}
+use Rattle.printable_text.proofs.EscapeLemmas.{escaped_printable as printable_if_escaped}
 
 abbrev pub IsPart : Html → Type 0
 IsPart part = IsContent IsPrintable true part

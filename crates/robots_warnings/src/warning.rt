@@ -8,6 +8,7 @@ use crate::crawlers::row_at;
 use crate::table::Cause;
 use printable_text::parts::{Part, Value, push_parts};
 use std::alloc::AllocError;
+use std::fmt;
 use std::marker::Model;
 
 /// What a message ends with.
@@ -158,4 +159,45 @@ pub fn push_reported(text: &mut String, warning: &Warning<'_>) -> Result<(), All
         ++ parts_text (reported_parts warning.now)) }
 {
     push_parts(text, &reported_parts(warning))
+}
+
+impl fmt::Display for Detail {
+    fn fmt<W: fmt::Write>(&self, f: &mut fmt::Formatter<W>) -> fmt::Result {
+        match *self {
+            Detail::Rules(count) => write!(f, " ({count} in all)"),
+            Detail::Line(line) => write!(f, " (see line {line})"),
+            Detail::Group(number) => {
+                let group = row_at(number).1;
+                write!(f, " (see the group of {group})")
+            }
+            Detail::Meant(number) => {
+                let name = row_at(number).0;
+                write!(f, " (did you mean {name}?)")
+            }
+            Detail::Others(1) => f.write_str(" (and 1 other crawler)"),
+            Detail::Others(count) => write!(f, " (and {count} other crawlers)"),
+        }
+    }
+}
+
+/// Its message.
+impl<'a> fmt::Display for Warning<'a> {
+    fn fmt<W: fmt::Write>(&self, f: &mut fmt::Formatter<W>) -> fmt::Result {
+        if let Some(name) = self.about {
+            let kind = match self.cause {
+                Cause::ClosesSite
+                | Cause::ClosesEverything
+                | Cause::GooglebotGroup
+                | Cause::GoogleIgnoresStar
+                | Cause::MisspelledName => "crawler",
+                _ => "URL",
+            };
+            write!(f, "{kind} '{name}': ")?;
+        }
+        f.write_str(self.cause.text())?;
+        match self.detail {
+            Some(detail) => write!(f, "{detail}"),
+            None => Ok(()),
+        }
+    }
 }
