@@ -7,7 +7,7 @@ ghost use Rattle.audit_core.specs.Rows.{comment_of, has_value, kind_text, line_v
 use itoa::Buffer;
 use printable_text::delay::{Delay, push_delay_text};
 use printable_text::parts::Value;
-use printable_text::report::Report;
+use printable_text::report::{Report, Untrusted};
 use printable_text::sanitize::push_sanitized;
 use robots_warnings::contents::split_content;
 use robots_warnings::file::is_blank;
@@ -18,8 +18,7 @@ use texting_robots::labels::{LabeledLine, Membership};
 use texting_robots::parser::Line;
 
 /// `+` in the crawler's group, `-` in another, a space in none.
-fn mark_of(membership: Membership) -> &'static str
-{
+fn mark_of(membership: Membership) -> &'static str {
     match membership {
         Membership::Own => "+",
         Membership::Other => "-",
@@ -95,18 +94,27 @@ pub fn comment_of<'a>(line: Line<'_>, body: &'a [u8]) -> &'a [u8]
     }
 }
 
-fn write_value(out: &mut Report, line: Line<'_>) -> fmt::Result {
-    match line {
-        Line::UserAgent(value)
-        | Line::Allow(value)
-        | Line::Disallow(value)
-        | Line::Sitemap(value)
-        | Line::Raw(value) => out.bytes(value),
-        Line::CrawlDelay(Some(micros)) => {
-            let delay = Delay(micros);
-            write!(out, "{delay}")
+/// What is shown of a line: a delay in seconds, or another value.
+#[derive(Clone, Copy)]
+pub struct Shown<'a>(pub Line<'a>);
+
+impl<'a> fmt::Display for Shown<'a> {
+    fn fmt<W: fmt::Write>(&self, f: &mut fmt::Formatter<W>) -> fmt::Result {
+        match self.0 {
+            Line::UserAgent(value)
+            | Line::Allow(value)
+            | Line::Disallow(value)
+            | Line::Sitemap(value)
+            | Line::Raw(value) => {
+                let value = Untrusted(value);
+                write!(f, "{value}")
+            }
+            Line::CrawlDelay(Some(micros)) => {
+                let delay = Delay(micros);
+                write!(f, "{delay}")
+            }
+            Line::CrawlDelay(None) => Ok(()),
         }
-        Line::CrawlDelay(None) => Ok(()),
     }
 }
 
@@ -115,15 +123,15 @@ fn write_row(out: &mut Report, width: usize, labeled: &LabeledLine<'_>) -> fmt::
     write!(out, "{number:>width$} {mark} ")?;
     let kind = kind_text(labeled.line);
     if has_value(labeled.line) {
-        write!(out, "{kind:<12}")?;
-        write_value(out, labeled.line)?;
+        let value = Shown(labeled.line);
+        write!(out, "{kind:<12}{value}")?;
     } else {
         out.write_str(kind)?;
     }
     let comment = comment_of(labeled.line, labeled.body);
     if !comment.is_empty() {
-        out.write_str("  ")?;
-        out.bytes(comment)?;
+        let comment = Untrusted(comment);
+        write!(out, "  {comment}")?;
     }
     out.end_line()
 }

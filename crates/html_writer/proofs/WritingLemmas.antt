@@ -124,7 +124,7 @@ module _ (P : List ℕ → Type 0) (both : (one two : List ℕ) → P one → P 
         (allowed, is, rest, plain, followed_content after two later too)
 
 module _ (P Q : List ℕ → Type 0) (weaker : (bytes : List ℕ) → P bytes → Q bytes) where
-  attributes_weaker : (before attributes : List Attribute) → AreAttributes P before attributes
+  pub attributes_weaker : (before attributes : List Attribute) → AreAttributes P before attributes
       → AreAttributes Q before attributes
   attributes_weaker before [] are = tt
   attributes_weaker before (a ∷ attributes) (named, new, is, rest) =
@@ -147,8 +147,8 @@ module _ (P Q : List ℕ → Type 0) (weaker : (bytes : List ℕ) → P bytes �
 -- ---- What is written is read back, piece by piece.
 
 -- the bytes lead from one reader to the other, whatever follows them
-record Reads (from : Reader) (bytes : List ℕ) (last : Reader) : Type 0 where
-  leads : (more : List ℕ) → run from (bytes ++ more) ≡ run last more
+pub record Reads (from : Reader) (bytes : List ℕ) (last : Reader) : Type 0 where
+  pub leads : (more : List ℕ) → run from (bytes ++ more) ≡ run last more
 
 read_on : {from mid last : Reader} {one two : List ℕ} → Reads from one mid → Reads mid two last
     → Reads from (one ++ two) last
@@ -210,7 +210,7 @@ module _ (opened : List Opened) where
   abbrev after_tag : Html → List ℕ → List Attribute → Reader
   after_tag content name attributes = reader (after_attribute_value (new_tag name attributes)) opened content
 
-  text_read : (content : Html) (bytes : List ℕ) → has_references (kind_of opened) ≡ true
+  pub text_read : (content : Html) (bytes : List ℕ) → has_references (kind_of opened) ≡ true
       → IsTrue (is_text bytes) → Reads (reading content) (escaped bytes) (reading (content ⊕ text bytes))
   text_read content bytes has are =
       rw (escaped-is bytes) (rw (followed-nil content) at
@@ -289,7 +289,7 @@ module _ (opened : List Opened) where
       completed [] goes = record { leads = λ more. rw isnt (goes.leads more) }
       completed (a ∷ attributes) goes = record { leads = λ more. goes.leads more }
 
-  start_read : (content : Html) (name : List ℕ) (attributes : List Attribute)
+  pub start_read : (content : Html) (name : List ℕ) (attributes : List Attribute)
       → has_elements (kind_of opened) ≡ true → IsTrue (is_name name) → IsTrue (is_ordinary name)
       → AreAttributes IsText [] attributes
       → Reads (reading content) (html.start_tag name attributes)
@@ -302,7 +302,7 @@ module _ (opened : List Opened) where
       record { leads = λ more. rw (ordinary, run) } in
       tag_read content name attributes 62 [] inner has named are refl end
 
-  void_read : (content : Html) (name : List ℕ) (attributes : List Attribute)
+  pub void_read : (content : Html) (name : List ℕ) (attributes : List Attribute)
       → has_elements (kind_of opened) ≡ true → IsTrue (is_name name) → IsTrue (is_among void_names name)
       → AreAttributes IsText [] attributes
       → Reads (reading content) (html.void_tag name attributes)
@@ -314,7 +314,7 @@ module _ (opened : List Opened) where
       record { leads = λ more. rw (is, run) } in
       tag_read content name attributes 47 (62 ∷ []) last has named are refl end
 
-  end_read : (before content : Html) (name : List ℕ) (attributes : List Attribute) → IsTrue (is_name name)
+  pub end_read : (before content : Html) (name : List ℕ) (attributes : List Attribute) → IsTrue (is_name name)
       → is_style name ≡ false
       → Reads (reader data_state (record { before = before; tag = new_tag name attributes } ∷ opened) content)
       (html.end_tag name) (reading (before ⊕ element [] name attributes content (text [])))
@@ -345,7 +345,7 @@ module _ (opened : List Opened) where
       let both = and_parts (is_character byte) (not (byte == 60)) is in
       record { leads = λ more. rw (not-true (byte == 60) both.1, both.0, run) }) css are) last)
 
-kind_inside : (name : List ℕ) → is_style name ≡ false
+pub kind_inside : (name : List ℕ) → is_style name ≡ false
     → (has_references (kind_in name) ≡ true) × (has_elements (kind_in name) ≡ not (is_title name))
 kind_inside name isnt =
     subst (λ (kind : Kind). (has_references kind ≡ true) × (has_elements kind ≡ not (is_title name)))

@@ -7,11 +7,12 @@ use Rattle.std.proofs.lemmas.{Bool.and_parts, List.Folds.list_all-append, Str.ch
 use Rattle.printable_text.specs.{declared.level.Level.Level}
 use Rattle.printable_text.specs.Lines.{ended}
 use Rattle.printable_text.specs.Sanitize.{IsPrintable, IsPrintableIn, has_command, is_printable}
-use Rattle.printable_text.specs.Sanitize.{is_printable_byte, safe_in}
+use Rattle.printable_text.specs.Sanitize.{is_printable_byte, safe_in, without_commands}
 use Rattle.printable_text.specs.Text.{IsColored, IsColoredTo, IsPlainLine, IsReport, IsShownReport}
 use Rattle.printable_text.specs.Text.{begins_plainly, level_word, shown_word}
 use Rattle.printable_text.proofs.SanitizeLemmas.{append_printable, ascii_printable, ended-append}
-use Rattle.printable_text.proofs.SanitizeLemmas.{ended_printable, line_printable, safe_in_printable}
+use Rattle.printable_text.proofs.SanitizeLemmas.{ended_printable, line_printable, safe_in_printable, without_printable}
+use Rattle.printable_text.proofs.CommandLemmas.{without_quiet}
 use Rattle.printable_text.proofs.SanitizeLemmas.{nil_printable}
 use Rattle.printable_text.proofs.PartLemmas.{colored_append, colored_same, colored_word, level_printable}
 
@@ -27,8 +28,14 @@ ascii_added old new text is plain added =
     subst (IsPrintableIn false) (sym added)
     (append_printable false old text is (ascii_printable false text plain))
 
-pub report_nil : IsReport []
+pub cleared_line : (new : List ℕ) → new ≡ [] → IsPrintableIn false new
+cleared_line new is = subst (IsPrintableIn false) (sym is) (nil_printable false)
+
+report_nil : IsReport []
 report_nil = record { lines = []; each = tt; text_is = refl }
+
+pub cleared_report : (new : List ℕ) → new ≡ [] → IsReport new
+cleared_report new is = subst IsReport (sym is) report_nil
 
 each_last : (lines : List (List ℕ)) (line : List ℕ) → Each IsPlainLine lines → IsPlainLine line
     → Each IsPlainLine (lines ++ line ∷ [])
@@ -44,17 +51,32 @@ line_added old line is plain = record {
 }
 
 -- the line as it is, or after a backslash
-pub plain_added : (old line new : List ℕ) → IsReport old → IsPrintableIn false line
-    → has_command line ≡ false → begins_plainly line ≡ true → new ≡ old ++ (line ++ 10 ∷ []) → IsReport new
-plain_added old line new is printable inside begins added =
-    subst IsReport (sym (added ∙ ap (λ (t : List ℕ). old ++ t) (sym (append-nil (line ++ 10 ∷ [])))))
+pub plain_added : (old line mid new : List ℕ) → IsReport old → IsPrintableIn false line
+    → has_command line ≡ false → begins_plainly line ≡ true → mid ≡ old ++ line → new ≡ mid ++ 10 ∷ []
+    → IsReport new
+plain_added old line mid new is printable inside begins first added =
+    let whole = added ∙ ap (λ (t : List ℕ). t ++ 10 ∷ []) first ∙ append_assoc old line (10 ∷ [])
+    ∙ ap (λ (t : List ℕ). old ++ t) (sym (append-nil (line ++ 10 ∷ []))) in
+    subst IsReport (sym whole)
     (line_added old line is (record { printable = printable; begins = begins; inside = inside }))
 
-pub escaped_added : (old line new : List ℕ) → IsReport old → IsPrintableIn false line
-    → has_command line ≡ false → new ≡ old ++ (92 ∷ (line ++ 10 ∷ [])) → IsReport new
-escaped_added old line new is printable inside added =
-    plain_added old (92 ∷ line) new is
-    (append_printable false (92 ∷ []) line (ascii_printable false (92 ∷ []) refl) printable) inside refl added
+pub escaped_added : (old front line mid new : List ℕ) → IsReport old → IsPrintableIn false line
+    → has_command line ≡ false → front ≡ old ++ 92 ∷ [] → mid ≡ front ++ line → new ≡ mid ++ 10 ∷ []
+    → IsReport new
+escaped_added old front line mid new is printable inside zeroth first added =
+    plain_added old (92 ∷ line) mid new is
+    (append_printable false (92 ∷ []) line (ascii_printable false (92 ∷ []) refl) printable) inside refl
+    (first ∙ ap (λ (t : List ℕ). t ++ line) zeroth ∙ append_assoc old (92 ∷ []) line) added
+
+pub escaped_line : (old line new : List ℕ) → IsPrintableIn false line → old ≡ []
+    → new ≡ old ++ without_commands line → IsPrintableIn false new
+escaped_line old line new is none added =
+    subst (IsPrintableIn false) (sym (rw none at added)) (without_printable false line is)
+
+pub escaped_quiet : (old line new : List ℕ) → old ≡ [] → new ≡ old ++ without_commands line
+    → has_command new ≡ false
+escaped_quiet old line new none added =
+    subst (λ (t : List ℕ). has_command t ≡ false) (sym (rw none at added)) (without_quiet line)
 
 pub report_printable : (text : List ℕ) → IsReport text → IsPrintable text
 report_printable text is = subst IsPrintable (sym is.text_is) (ended_printable is.lines (each is.lines is.each))

@@ -7,11 +7,10 @@ ghost use Rattle.printable_text.specs.Text.{IsReport, IsShownReport, begins_plai
 use crate::color::colored;
 use crate::level::Level;
 use crate::sanitize::{are_printable_bytes, has_command, push_chunks, push_without_commands};
-use std::alloc::{AllocError, Global};
+use std::alloc::Global;
 use std::fmt;
 use std::fmt::Write;
 use std::marker::Model;
-use std::str::from_utf8;
 
 /// A text in one line, without its end. What is unsafe to display is escaped. If an allocation fails, it is
 /// emptied.
@@ -32,54 +31,40 @@ impl Model for Line {
 }
 
 #[tactic(auto, using(crate::proofs::ReportLemmas::ascii_added, crate::proofs::ReportLemmas::safe_added))]
-fn push_text(line: &mut String, text: &str) -> Result<(), AllocError>
+fn push_text(line: &mut String, text: &str) -> fmt::Result
     requires { IsPrintableIn false (string_bytes line.old) }
     ensures { OnOk result (IsPrintableIn false (string_bytes line.new)) }
 {
     if are_printable_bytes(text.as_bytes(), false) {
-        line.push_str(text)
-    } else {
-        push_chunks(line, text.as_bytes(), false)
+        return Ok(line.push_str(text)?);
     }
+    Ok(push_chunks(line, text.as_bytes(), false)?)
 }
 
-#[tactic(auto, using(crate::proofs::ReportLemmas::safe_added))]
-fn push_bytes(line: &mut String, bytes: &[u8]) -> Result<(), AllocError>
-    requires { IsPrintableIn false (string_bytes line.old) }
-    ensures { OnOk result (IsPrintableIn false (string_bytes line.new)) }
-{
-    match from_utf8(bytes) {
-        Ok(text) => push_text(line, text),
-        Err(_) => push_chunks(line, bytes, false),
-    }
-}
-
-#[tactic(auto, using(crate::proofs::SanitizeLemmas::nil_printable))]
-fn kept(line: &mut String, written: Result<(), AllocError>) -> fmt::Result
+/// After an error the line is cleared.
+#[tactic(auto, using(crate::proofs::ReportLemmas::cleared_line))]
+fn kept(line: &mut String, written: fmt::Result) -> fmt::Result
     requires { OnOk written (IsPrintableIn false (string_bytes line.old)) }
     ensures { IsPrintableIn false (string_bytes line.new) }
 {
-    if written.is_err() {
-        line.clear();
+    match written {
+        Ok(()) => Ok(()),
+        Err(error) => {
+            line.clear();
+            Err(error)
+        }
     }
-    Ok(written?)
 }
 
 impl Line {
-    #[tactic(auto, using(crate::proofs::SanitizeLemmas::nil_printable))]
+    #[tactic(auto, using(crate::proofs::ReportLemmas::cleared_line))]
     pub fn new(alloc: Global) -> Line {
         Line {
             text: String::new(alloc),
         }
     }
 
-    /// Bytes that may not be UTF-8.
-    pub fn bytes(&mut self, bytes: &[u8]) -> fmt::Result {
-        let written = push_bytes(&mut self.text, bytes);
-        kept(&mut self.text, written)
-    }
-
-    #[tactic(auto, using(crate::proofs::SanitizeLemmas::nil_printable))]
+    #[tactic(auto, using(crate::proofs::ReportLemmas::cleared_line))]
     pub fn clear(&mut self) {
         self.text.clear();
     }
@@ -111,7 +96,7 @@ fn begins_plainly(line: &[u8]) -> bool
 
 /// A line that would begin a command begins with a backslash instead.
 #[tactic(auto, using(crate::proofs::ReportLemmas::plain_added, crate::proofs::ReportLemmas::escaped_added))]
-fn push_line(text: &mut String, line: &str) -> Result<(), AllocError>
+fn push_line(text: &mut String, line: &str) -> fmt::Result
     requires report { IsReport (string_bytes text.old) }
     requires printable { IsPrintableIn false line.now }
     requires inside { has_command line.now ≡ false }
@@ -121,12 +106,12 @@ fn push_line(text: &mut String, line: &str) -> Result<(), AllocError>
         text.push('\\')?;
     }
     text.push_str(line)?;
-    text.push('\n')
+    Ok(text.push('\n')?)
 }
 
 /// In a line that contains the start of a command, `#` is escaped.
-#[tactic(auto, using(crate::proofs::CommandLemmas::without_quiet, crate::proofs::SanitizeLemmas::without_printable))]
-fn push_ended(text: &mut String, line: &str) -> Result<(), AllocError>
+#[tactic(auto, using(crate::proofs::ReportLemmas::escaped_line, crate::proofs::ReportLemmas::escaped_quiet))]
+fn push_ended(text: &mut String, line: &str) -> fmt::Result
     requires report { IsReport (string_bytes text.old) }
     requires printable { IsPrintableIn false line.now }
     ensures { OnOk result (IsReport (string_bytes text.new)) }
@@ -161,6 +146,22 @@ impl Model for Report {
     ghost invariant = { λ report. IsReport (string_bytes report.text) };
 }
 
+/// Bytes that may not be UTF-8. Those that aren't are written as `%` and two digits.
+#[derive(Clone, Copy)]
+pub struct Untrusted<'a>(pub &'a [u8]);
+
+impl<'a> fmt::Display for Untrusted<'a> {
+    fn fmt<W: fmt::Write>(&self, f: &mut fmt::Formatter<W>) -> fmt::Result {
+        for chunk in self.0.utf8_chunks() {
+            f.write_str(chunk.valid())?;
+            for byte in chunk.invalid() {
+                write!(f, "%{byte:02X}")?;
+            }
+        }
+        Ok(())
+    }
+}
+
 /// `""` if there is nothing, as for an unset variable in arguments.
 #[derive(Clone, Copy)]
 pub struct Named<'a>(pub &'a str);
@@ -172,7 +173,7 @@ impl<'a> fmt::Display for Named<'a> {
 }
 
 impl Report {
-    #[tactic(auto, using(crate::proofs::ReportLemmas::report_nil))]
+    #[tactic(auto, using(crate::proofs::ReportLemmas::cleared_report))]
     pub fn new(alloc: Global) -> Report {
         Report {
             text: String::new(alloc),
@@ -181,19 +182,17 @@ impl Report {
         }
     }
 
-    /// Bytes that may not be UTF-8.
-    pub fn bytes(&mut self, bytes: &[u8]) -> fmt::Result {
-        self.line.bytes(bytes)
-    }
-
-    #[tactic(auto, using(crate::proofs::ReportLemmas::report_nil))]
+    #[tactic(auto, using(crate::proofs::ReportLemmas::cleared_report))]
     pub fn end_line(&mut self) -> fmt::Result {
         let ended = push_ended(&mut self.text, self.line.as_str());
         self.line.clear();
-        if ended.is_err() {
-            self.text.clear();
+        match ended {
+            Ok(()) => Ok(()),
+            Err(error) => {
+                self.text.clear();
+                Err(error)
+            }
         }
-        Ok(ended?)
     }
 
     /// The word for a level.
@@ -208,7 +207,7 @@ impl Report {
     /// The lines of a text that may have several.
     pub fn lines(&mut self, text: &str) -> fmt::Result {
         for line in text.lines() {
-            self.bytes(line.as_bytes())?;
+            self.write_str(line)?;
             self.end_line()?;
         }
         Ok(())
