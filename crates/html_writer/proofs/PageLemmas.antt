@@ -1,11 +1,11 @@
 -- A page that is written piece by piece: each piece is read as it was written, and is printable.
 use Rattle.std.specs.Prelude.{not, ◌&&◌, nat_lt}
 use Rattle.std.proofs.Common.{ℕ, ◌/◌, ◌+◌, ◌<◌, ◌++◌, Bool, true, false, List, [], ◌∷◌, ◌≡◌, arith, codes, flat_map}
-use Rattle.std.proofs.Common.{append-nil, append_assoc, ap, ap₂, get_or, map, refl, reverse, drop, slice_index_or, subst, sym, ◌∙◌}
+use Rattle.std.proofs.Common.{append-nil, append_assoc, ap, ap₂, get_or, length, map, refl, reverse, drop, slice_index_or, subst, sym, take, ◌∙◌}
 use Rattle.std.specs.{Bool.IsTrue, List.AllByRecursion as Each, List.list_all, List.list_any, Str.bytes_eq, Str.chars}
 use Rattle.std.proofs.lemmas.{Bool.and_parts, Bool.not-true, Str.encodes-chars}
 use Rattle.std.proofs.lemmas.{Grind.flat_map-append}
-use Rattle.std.proofs.lemmas.List.{map-append, reverse-append}
+use Rattle.std.proofs.lemmas.List.{map-append, reverse-append, take_more}
 use Rattle.std.proofs.lemmas.Bool.Decides.{nat_tests}
 use Rattle.std.proofs.lemmas.List.Sums.{AllPass-from_list_all, list_all-from_AllPass}
 use Rattle.printable_text.specs.Sanitize.{IsPrintable, IsPrintableIn, is_printable, is_printable_byte}
@@ -19,7 +19,7 @@ use Rattle.html_writer.specs.Reader.{Opened, Reader, State, data_state, has_elem
 use Rattle.html_writer.specs.Reader.{kind_of, new_tag, reader, run}
 use Rattle.html_writer.specs.Page.{AddsAttributes, AddsTag, HasNames, HasVoid, IsOpen, Opens, are_names, closed}
 use Rattle.std.specs.{Borrow.Bor}
-use Rattle.html_writer.specs.Page.{AddsStart, AddsVoid, names_of}
+use Rattle.html_writer.specs.Page.{AddsStart, AddsVoid, names_in, names_of}
 use Rattle.html_writer.specs.Page.{closed_in, followed_by, is_tag, is_void, name_in, so_far}
 use Rattle.html_writer.proofs.WritingLemmas.{Reads, attributes_weaker, end_read, escaped-is, kind_inside, start_read, text_read}
 use Rattle.html_writer.proofs.WritingLemmas.{void_read}
@@ -125,15 +125,15 @@ named_attributes before (a ∷ attributes) are (value, values) =
 
 -- ---- Reading goes on where it was.
 
-run_append : (from : Reader) (one two : List ℕ) → run from (one ++ two) ≡ run (run from one) two
-run_append from [] two = refl
-run_append from (byte ∷ one) two = run_append _ one two
+run_append : (one two : List ℕ) (from : Reader) → run from (one ++ two) ≡ run (run from one) two
+run_append [] two from = refl
+run_append (byte ∷ one) two from = run_append one two _
 
 piece_read : (old new piece : List ℕ) (last : Reader) → (so_far old).state ≡ data_state
     → Reads (reader data_state (so_far old).opened (so_far old).content) piece last → new ≡ old ++ piece
     → so_far new ≡ last
 piece_read old new piece last state reads added =
-    ap so_far added ∙ run_append (reader data_state [] (text [])) old piece
+    ap so_far added ∙ run_append old piece (reader data_state [] (text []))
     ∙ ap (λ s. run (reader s (so_far old).opened (so_far old).content) piece) state
     ∙ ap (run (reader data_state (so_far old).opened (so_far old).content)) (sym (append-nil piece))
     ∙ reads.leads []
@@ -380,7 +380,7 @@ adds_none old = record {
   added = sym (append-nil old);
 }
 
-pub adds_more : (names : List (List ℕ)) (name value old mid new : List ℕ) → AddsAttributes names old mid
+adds_more : (names : List (List ℕ)) (name value old mid new : List ℕ) → AddsAttributes names old mid
     → IsPrintableIn false value → new ≡ mid ++ attribute_bytes (attribute name value)
     → AddsAttributes (names ++ name ∷ []) old new
 adds_more names name value old mid new adds plain added = record {
@@ -404,3 +404,17 @@ adds_more names name value old mid new adds plain added = record {
         → Each (λ (a : Attribute). IsPrintable a.value) (attributes ++ a ∷ [])
     each_last [] a are is = (is, tt)
     each_last (b ∷ attributes) a are is = (are.0, each_last attributes a are.1 is)
+
+pub adds_next : (items : List (Bor (List ℕ) × Bor (List ℕ))) (at : ℕ) (item : Bor (List ℕ) × Bor (List ℕ))
+    (name value old mid new : List ℕ) → at < length items → name ≡ (slice_index_or items at item).0.now
+    → AddsAttributes (names_in (take at items)) old mid → IsPrintableIn false value
+    → new ≡ mid ++ attribute_bytes (attribute name value) → AddsAttributes (names_in (take (at + 1) items)) old new
+adds_next items at item name value old mid new below name_is adds plain added =
+    let first = slice_index_or items at item in
+    rw (
+      take_more items at item below,
+      map-append (λ (a : Bor (List ℕ) × Bor (List ℕ)). a.0.now) (take at items)
+          (first ∷ []),
+    )
+    (subst (λ (n : List ℕ). AddsAttributes (names_in (take at items) ++ n ∷ []) old new) name_is
+    (adds_more (names_in (take at items)) name value old mid new adds plain added))

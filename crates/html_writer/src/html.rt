@@ -5,9 +5,12 @@ ghost use Rattle.html_writer.specs.Html as html;
 ghost use Rattle.html_writer.specs.Page.{AddsAttributes, AddsStart, AddsTag, AddsVoid, HasVoid, Opens, are_names, closed};
 ghost use Rattle.html_writer.specs.Page.{followed_by, is_tag, is_void, names_in, so_far};
 
-use crate::write::{push_attribute, push_close, push_end, push_open, push_text, push_void_close};
+use crate::write::{
+    push_attribute, push_close, push_doctype, push_element, push_end, push_open, push_style,
+    push_text, push_void_close,
+};
 use printable_text::report::Line;
-use std::alloc::{AllocError, Global};
+use std::alloc::Global;
 use std::fmt;
 use std::fmt::Write;
 use std::marker::Model;
@@ -23,18 +26,18 @@ pub struct Html {
 }
 
 impl Model for Html {
-    ghost use Rattle.html_writer.specs.Reader.{Reader};
-    ghost use Rattle.html_writer.specs.Page.{IsOpen, names_of, so_far};
+    ghost use Rattle.std.specs.Prelude.{ℕ, List};
+    ghost use Rattle.html_writer.specs.Page.{IsOpen, names_of};
 
-    ghost Value = { Reader };
+    ghost Value = { List ℕ };
 
-    ghost view = { λ html. so_far html.bytes.items };
+    ghost view = { λ html. html.bytes.items };
 
     ghost invariant = { λ html. IsOpen (names_of html.opened.items) html.bytes.items };
 }
 
 /// In the values, what is unsafe to display is escaped.
-#[tactic(auto, using(crate::proofs::PageLemmas::adds_none, crate::proofs::PageLemmas::adds_more))]
+#[tactic(auto, using(crate::proofs::PageLemmas::adds_none))]
 fn push_attributes(
     bytes: &mut Vec<u8>,
     line: &mut Line,
@@ -100,7 +103,7 @@ fn lost(bytes: &mut Vec<u8>, opened: &mut Vec<&'static str>) -> fmt::Error
 impl Html {
     #[tactic(auto, using(crate::proofs::PageLemmas::nothing_open))]
     pub fn new(alloc: Global) -> Html
-        ensures { result ≡ so_far [] }
+        ensures { result ≡ [] }
     {
         Html {
             bytes: Vec::new(alloc),
@@ -110,9 +113,9 @@ impl Html {
     }
 
     /// Appends a text.
-    #[tactic(auto, using(crate::proofs::PageLemmas::text_open, crate::proofs::PageLemmas::text_is, crate::proofs::PageLemmas::nothing_open))]
+    #[tactic(auto, using(crate::proofs::PageLemmas::text_is, crate::proofs::PageLemmas::nothing_open))]
     pub fn text(&mut self, text: &Line) -> fmt::Result
-        ensures { OnOk result (self.new ≡ followed_by (html.text text.now) self.old) }
+        ensures { OnOk result (so_far self.new ≡ followed_by (html.text text.now) (so_far self.old)) }
     {
         let Ok(()) = push_text(&mut self.bytes, text.as_str().as_bytes()) else {
             return Err(lost(&mut self.bytes, &mut self.opened));
@@ -121,11 +124,11 @@ impl Html {
     }
 
     /// Begins an element, which `close` ends.
-    #[tactic(auto, using(crate::proofs::PageLemmas::begun_open, crate::proofs::PageLemmas::element_begun, crate::proofs::PageLemmas::nothing_open))]
+    #[tactic(auto, using(crate::proofs::PageLemmas::element_begun, crate::proofs::PageLemmas::nothing_open))]
     pub fn open(&mut self, name: &'static str, attributes: &[(&'static str, &str)]) -> fmt::Result
         requires name { is_tag name.now ≡ true }
         requires attributes { are_names [] (names_in attributes.now) ≡ true }
-        ensures { OnOk result (Opens name.now (names_in attributes.now) self.old self.new) }
+        ensures { OnOk result (Opens name.now (names_in attributes.now) (so_far self.old) (so_far self.new)) }
     {
         let Ok(()) = push_start(&mut self.bytes, &mut self.line, name, attributes) else {
             return Err(lost(&mut self.bytes, &mut self.opened));
@@ -137,11 +140,11 @@ impl Html {
     }
 
     /// Appends an element without content.
-    #[tactic(auto, using(crate::proofs::PageLemmas::voided_open, crate::proofs::PageLemmas::void_added, crate::proofs::PageLemmas::nothing_open))]
+    #[tactic(auto, using(crate::proofs::PageLemmas::nothing_open))]
     pub fn void(&mut self, name: &'static str, attributes: &[(&'static str, &str)]) -> fmt::Result
         requires name { is_void name.now ≡ true }
         requires attributes { are_names [] (names_in attributes.now) ≡ true }
-        ensures { OnOk result (HasVoid name.now (names_in attributes.now) self.old self.new) }
+        ensures { OnOk result (HasVoid name.now (names_in attributes.now) (so_far self.old) (so_far self.new)) }
     {
         let Ok(()) = push_void(&mut self.bytes, &mut self.line, name, attributes) else {
             return Err(lost(&mut self.bytes, &mut self.opened));
@@ -178,9 +181,9 @@ impl Html {
     }
 
     /// Ends the innermost open element. Without one it writes nothing.
-    #[tactic(auto, using(crate::proofs::PageLemmas::ended_open, crate::proofs::PageLemmas::element_ended, crate::proofs::PageLemmas::none_ended, crate::proofs::PageLemmas::nothing_open))]
+    #[tactic(auto, using(crate::proofs::PageLemmas::element_ended, crate::proofs::PageLemmas::none_ended, crate::proofs::PageLemmas::nothing_open))]
     pub fn close(&mut self) -> fmt::Result
-        ensures { OnOk result (self.new ≡ closed self.old) }
+        ensures { OnOk result (so_far self.new ≡ closed (so_far self.old)) }
     {
         let Some(name) = self.opened.pop() else {
             return Ok(());
@@ -193,7 +196,7 @@ impl Html {
 }
 
 impl fmt::Write for Html {
-    #[tactic(auto, using(crate::proofs::PageLemmas::text_open, crate::proofs::PageLemmas::nothing_open))]
+    #[tactic(auto, using(crate::proofs::PageLemmas::nothing_open))]
     fn write_str(&mut self, text: &str) -> fmt::Result {
         self.line.clear();
         self.line.write_str(text)?;

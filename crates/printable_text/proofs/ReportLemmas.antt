@@ -1,9 +1,9 @@
 -- What is written to a report keeps it safe.
-use Rattle.std.specs.Prelude.{IfOk, OnOk}
-use Rattle.std.proofs.Common.{◌≡◌, ℕ, Bool, true, false, List, [], ◌∷◌, ◌++◌, Result, Ok, Err, append-nil}
-use Rattle.std.proofs.Common.{append_assoc, ap, refl, subst, sym, ◌∙◌, codes}
-use Rattle.std.specs.{Bool.IsTrue, List.AllByRecursion as Each, List.list_all, Str.IsUtf8, Str.chars}
-use Rattle.std.proofs.lemmas.{Bool.and_parts, List.Folds.list_all-append, Str.chars-append}
+use Rattle.std.proofs.Common.{◌≡◌, ℕ, Bool, true, false, List, [], ◌∷◌, ◌++◌, append-nil}
+use Rattle.std.proofs.Common.{append_assoc, ap, drop, refl, subst, sym, take, ◌∙◌}
+use Rattle.std.specs.{List.AllByRecursion as Each, List.list_all, Str.IsCharBoundary, Str.IsUtf8, Str.chars}
+use Rattle.std.proofs.lemmas.{Bool.and_parts, List.Folds.list_all-append, List.take-append-drop}
+use Rattle.std.proofs.lemmas.Str.{IsUtf8-drop, IsUtf8-take, chars-append}
 use Rattle.printable_text.specs.{declared.level.Level.Level}
 use Rattle.printable_text.specs.Lines.{ended}
 use Rattle.printable_text.specs.Sanitize.{IsPrintable, IsPrintableIn, has_command, is_printable}
@@ -94,27 +94,33 @@ printable_parts front rest one two is =
     (rw (chars-append front rest one, list_all-append) at is.all) in
     (record { utf8 = one; all = both.0 }, record { utf8 = two; all = both.1 })
 
-pub word_colored : (all text front rest old new : List ℕ) (level : Level)
-    → IsUtf8 front → IsUtf8 (level_word level ++ rest) → IsUtf8 rest
-    → text ≡ front ++ (level_word level ++ rest) → new ≡ (old ++ front) ++ shown_word true level
+pub word_colored : (all text front later found rest old mid new : List ℕ) (place width : ℕ) (level : Level)
+    → IsUtf8 text → IsCharBoundary text place → front ≡ take place text → later ≡ drop place text
+    → IsCharBoundary later width → found ≡ take width later → rest ≡ drop width later
+    → found ≡ level_word level → mid ≡ old ++ front → new ≡ mid ++ shown_word true level
     → IsColoredTo all text old → IsColoredTo all rest new
-word_colored all text front rest old new level one two three text_is added is =
-    let apart = printable_parts front (level_word level ++ rest) one two (subst IsPrintable text_is is.printable) in
-    let later = printable_parts (level_word level) rest (line_utf8 level) three apart.1 in
+word_colored all text front later found rest old mid new place width level utf8 at front_is later_is within
+    found_is rest_is same first added is =
+    let one : IsUtf8 front = rw front_is (IsUtf8-take text place utf8 at) in
+    let two : IsUtf8 later = rw later_is (IsUtf8-drop text place utf8 at) in
+    let three : IsUtf8 rest = rw rest_is (IsUtf8-drop later width two within) in
+    let text_is : text ≡ front ++ later = rw (front_is, later_is, take-append-drop) refl in
+    let parted : later ≡ level_word level ++ rest = rw (← same, found_is, rest_is, take-append-drop) refl in
+    let apart = printable_parts front later one two (subst IsPrintable text_is is.printable) in
+    let last = printable_parts (level_word level) rest (level_printable level).utf8 three
+    (subst IsPrintable parted apart.1) in
     record {
       plain = (is.plain ++ front) ++ level_word level;
       colored =
-          subst (IsColored ((is.plain ++ front) ++ level_word level)) (sym added)
+          subst (IsColored ((is.plain ++ front) ++ level_word level))
+          (sym (added ∙ ap (λ (t : List ℕ). t ++ shown_word true level) first))
           (colored_append _ _ _ _ (colored_append _ _ _ _ is.colored (colored_same front apart.0))
           (colored_word level));
-      printable = later.1;
+      printable = last.1;
       text_is =
-          is.text_is ∙ ap (λ (t : List ℕ). is.plain ++ t) text_is
+          is.text_is ∙ ap (λ (t : List ℕ). is.plain ++ t) (text_is ∙ ap (λ (t : List ℕ). front ++ t) parted)
           ∙ sym (append_assoc (is.plain ++ front) (level_word level) rest ∙ append_assoc is.plain front _);
     }
-  where
-    line_utf8 : (level : Level) → IsUtf8 (level_word level)
-    line_utf8 level = (level_printable level).utf8
 
 pub colored_start : (text : List ℕ) → IsPrintable text → IsColoredTo text text []
 colored_start text is = record {

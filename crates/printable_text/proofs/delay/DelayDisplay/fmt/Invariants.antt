@@ -2,4 +2,4 @@ use Rattle.std.proofs.Common.{◌<◌}
 use Rattle.printable_text.proofs.delay.DelayDisplay.fmt.Given as goal
 
 abbrev pub invariant-loop : goal.invariant-loop
-invariant-loop l = l.rest < 1000000
+invariant-loop g l = l.rest < 1000000
