@@ -1,7 +1,7 @@
 -- Sanitized texts don't contain the start of a command; nor do texts one after the other, unless it is at a
 -- seam.
 use Rattle.std.specs.Prelude.{nat_eq, not, ◌&&◌, ◌||◌}
-use Rattle.std.proofs.Common.{◌≡◌, ◌≢◌, ℕ, zero, suc, ◌<◌, ◌==◌, Bool, true, false, List, [], ◌∷◌, ◌++◌, inl}
+use Rattle.std.proofs.Common.{◌≡◌, ℕ, zero, suc, ◌<◌, ◌==◌, Bool, true, false, List, [], ◌∷◌, ◌++◌, inl}
 use Rattle.std.proofs.Common.{append-nil, append_assoc, arith, decimal, flat_map, inr, refl, replicate, sym}
 use Rattle.std.specs.{Fmt.digit_glyph, List.list_all, List.starts_with, Str.chars, Str.encode_utf8_all}
 use Rattle.std.proofs.lemmas.Bool.{and_cases, and_left, and_parts, and_right, cases_Bool, false≢true, or_from}

@@ -1,5 +1,5 @@
 -- Lines as data, their parts, levels and colors.
-use Rattle.std.specs.Prelude.{ℕ, Bool, true, false, List, codes, ◌≡◌, ◌==◌, not, ◌||◌, IsTrue, [], ◌∷◌, ◌⊎◌}
+use Rattle.std.specs.Prelude.{ℕ, Bool, true, false, List, codes, ◌≡◌, ◌==◌, not, IsTrue, [], ◌∷◌, ◌⊎◌}
 use Rattle.std.specs.Prelude.{if◌then◌else◌, ◌++◌, flat_map, ◌-◌, ◌&&◌, decimal, length, map, replicate}
 use Rattle.printable_text.specs.{declared.level.Level.Level, Lines.ended, Delay.delay_text}
 use Rattle.printable_text.specs.declared.level.Level.TheVariants.{Error, Note, Warning}
