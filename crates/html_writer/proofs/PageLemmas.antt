@@ -11,17 +11,17 @@ use Rattle.std.proofs.lemmas.List.Sums.{AllPass-from_list_all, list_all-from_All
 use Rattle.printable_text.specs.Sanitize.{IsPrintable, IsPrintableIn, is_printable, is_printable_byte}
 use Rattle.printable_text.proofs.SanitizeLemmas.{append_printable, ascii_printable, chars_pass, nil_printable}
 use Rattle.printable_text.proofs.{EscapeLemmas.escaped_printable, SanitizeLemmas.line_printable}
-use Rattle.html_writer.specs.Html.{AreAttributes, Attribute, Html, IsText, attribute_bytes, element, end_tag}
+use Rattle.html_writer.specs.Html.{AreAttributes, Attribute, Html, IsContent, IsText, doctype, is_css, style, style_bytes, written, attribute_bytes, element, end_tag}
 use Rattle.html_writer.specs.Html.{escaped, escaped_byte, attribute, has_attribute, is_character, is_letter, is_name}
 use Rattle.html_writer.specs.Html.{is_name_byte, is_ordinary, is_title, is_style, start_tag, tag_close, tag_open, text}
 use Rattle.html_writer.specs.Html.{void, void_close, void_names, void_tag, is_among, ◌⊕◌}
-use Rattle.html_writer.specs.Reader.{Opened, Reader, State, data_state, has_elements, has_references}
+use Rattle.html_writer.specs.Reader.{Opened, Reader, State, finished, data_state, has_elements, has_references}
 use Rattle.html_writer.specs.Reader.{kind_of, new_tag, reader, run}
 use Rattle.html_writer.specs.Page.{AddsAttributes, AddsTag, HasNames, HasVoid, IsOpen, Opens, are_names, closed}
 use Rattle.std.specs.{Borrow.Bor}
-use Rattle.html_writer.specs.Page.{AddsStart, AddsVoid, names_in, names_of}
+use Rattle.html_writer.specs.Page.{AddsStart, AddsVoid, IsSomePage, names_in, names_of, title}
 use Rattle.html_writer.specs.Page.{closed_in, followed_by, is_tag, is_void, name_in, so_far}
-use Rattle.html_writer.proofs.WritingLemmas.{Reads, attributes_weaker, end_read, escaped-is, kind_inside, start_read, text_read}
+use Rattle.html_writer.proofs.WritingLemmas.{Reads, attributes_weaker, content_read, style_read, end_read, escaped-is, kind_inside, start_read, text_read}
 use Rattle.html_writer.proofs.WritingLemmas.{void_read}
 
 -- ---- Printable pieces.
@@ -64,6 +64,12 @@ value_printable bytes is =
 
 both_printable : {one two : List ℕ} → IsPrintable one → IsPrintable two → IsPrintable (one ++ two)
 both_printable {one} {two} is too = append_printable true one two is too
+
+style_printable : (css : List ℕ) → IsPrintable css → IsPrintable (style_bytes css)
+unfolding style_bytes
+style_printable css is =
+    both_printable (ascii_printable true (codes "<style>") refl)
+    (both_printable is (ascii_printable true (codes "</style>") refl))
 
 open_printable : (name : List ℕ) → IsPrintable name → IsPrintable (tag_open name)
 unfolding tag_open
@@ -165,6 +171,18 @@ module _ (names : List (List ℕ)) (old new : List ℕ) (is : IsOpen names old) 
   may : has_elements (kind_of (so_far old).opened) ≡ true
   may = (kind_plain (so_far old).opened is.are_tags).1
 
+  -- the elements that are open stay so
+  kept_open : (last : Reader) → so_far new ≡ last → last.state ≡ data_state → last.opened ≡ (so_far old).opened
+      → IsPrintable new → IsOpen names new
+  kept_open last same state opened printable =
+      let both : (so_far new).opened ≡ (so_far old).opened = ap (λ (r : Reader). r.opened) same ∙ opened in
+      record {
+        printable = printable;
+        state = ap (λ (r : Reader). r.state) same ∙ state;
+        names_are = is.names_are ∙ ap (λ (o : List Opened). map name_in o) (sym both);
+        are_tags = subst (λ (o : List Opened). IsTrue (list_all is_tag (map name_in o))) (sym both) is.are_tags;
+      }
+
   pub text_is : (line : List ℕ) → IsPrintableIn false line → new ≡ old ++ escaped line
       → so_far new ≡ followed_by (text line) (so_far old)
   text_is line plain added =
@@ -182,6 +200,36 @@ module _ (names : List (List ℕ)) (old new : List ℕ) (is : IsOpen names old) 
         names_are = is.names_are ∙ ap (λ (r : Reader). map name_in r.opened) (sym same);
         are_tags = subst (λ (r : Reader). IsTrue (list_all is_tag (map name_in r.opened))) (sym same) is.are_tags;
       }
+
+  pub title_is : (line : List ℕ) → IsPrintableIn false line → new ≡ old ++ written (title line)
+      → so_far new ≡ followed_by (title line) (so_far old)
+  title_is line plain added =
+      piece_read old new (written (title line)) (followed_by (title line) (so_far old)) is.state
+      (content_read (so_far old).opened (so_far old).content (title line) has
+      (subst (λ (elements : Bool). IsContent IsText elements (title line)) (sym may)
+      (refl, refl, refl, refl, tt, printable_text line (line_printable line plain), refl))) added
+
+  pub title_open : (line : List ℕ) → IsPrintableIn false line → new ≡ old ++ written (title line)
+      → IsOpen names new
+  title_open line plain added =
+      kept_open (followed_by (title line) (so_far old)) (title_is line plain added) refl refl
+      (subst IsPrintable (sym added) (both_printable is.printable
+      (both_printable (both_printable (open_printable (codes "title") (name_printable (codes "title") refl))
+      close_printable) (both_printable (value_printable line (line_printable line plain))
+      (both_printable (end_printable (codes "title") (name_printable (codes "title") refl)) (nil_printable true))))))
+
+  pub style_is : (css : List ℕ) → is_css css ≡ true → new ≡ old ++ style_bytes css
+      → so_far new ≡ followed_by (style [] css (text [])) (so_far old)
+  style_is css are added =
+      piece_read old new (style_bytes css) (followed_by (style [] css (text [])) (so_far old)) is.state
+      (style_read (so_far old).opened (so_far old).content css may are) added
+
+  pub style_open : (css : List ℕ) → is_css css ≡ true → list_all (is_printable_byte true) css ≡ true
+      → new ≡ old ++ style_bytes css → IsOpen names new
+  style_open css are plain added =
+      kept_open (followed_by (style [] css (text [])) (so_far old)) (style_is css are added) refl refl
+      (subst IsPrintable (sym added)
+      (both_printable is.printable (style_printable css (ascii_printable true css plain))))
 
   module _ (name : List ℕ) (labels : List (List ℕ)) (mid : List ℕ) (labeled : are_names [] labels ≡ true)
       (adds : AddsTag name labels old mid) where
@@ -418,3 +466,24 @@ adds_next items at item name value old mid new below name_is adds plain added =
     )
     (subst (λ (n : List ℕ). AddsAttributes (names_in (take at items) ++ n ∷ []) old new) name_is
     (adds_more (names_in (take at items)) name value old mid new adds plain added))
+
+-- ---- The whole page.
+
+none_opened : (opened : List Opened) → [] ≡ map name_in opened → opened ≡ []
+none_opened [] is = refl
+none_opened (o ∷ opened) is = absurd (cc)
+
+pub page_finished : (before : List (Bor (List ℕ))) (bytes front page : List ℕ) → IsOpen (names_of before) bytes
+    → before ≡ [] → front ≡ doctype → page ≡ front ++ bytes → IsSomePage page
+unfolding doctype
+page_finished before bytes front page is none first added =
+    let opened = none_opened (so_far bytes).opened
+    (sym (ap (λ (b : List (Bor (List ℕ))). reverse (names_of b)) none) ∙ is.names_are) in
+    subst IsSomePage (sym (added ∙ ap (λ (t : List ℕ). t ++ bytes) first)) (
+      (so_far bytes).content,
+      record {
+        printable = both_printable (ascii_printable true doctype refl) is.printable;
+        read = ap₂ (λ (state : State) (opened : List Opened). finished state opened (so_far bytes).content)
+            is.state opened;
+      },
+    )

@@ -330,7 +330,7 @@ module _ (opened : List Opened) where
       (λ byte is. record { leads = λ more. rw is })
       (λ done next is. record { leads = λ more. rw (is, run) })) last
 
-  style_read : (content : Html) (css : List ℕ) → has_elements (kind_of opened) ≡ true → IsTrue (is_css css)
+  pub style_read : (content : Html) (css : List ℕ) → has_elements (kind_of opened) ≡ true → IsTrue (is_css css)
       → Reads (reading content) (html.style_bytes css) (reading (content ⊕ style [] css (text [])))
   unfolding html.style_bytes
   style_read content css has are =
@@ -357,7 +357,7 @@ kind_inside name isnt =
     either true = (refl, refl)
     either false = (refl, refl)
 
-content_read : (opened : List Opened) (content tree : Html) → has_references (kind_of opened) ≡ true
+pub content_read : (opened : List Opened) (content tree : Html) → has_references (kind_of opened) ≡ true
     → IsContent IsText (has_elements (kind_of opened)) tree
     → Reads (reader data_state opened content) (written tree) (reader data_state opened (content ⊕ tree))
 content_read opened content (text bytes) has is = text_read opened content bytes has is

@@ -1,9 +1,9 @@
 -- A page that is written piece by piece: what reading it so far yields.
 use Rattle.std.specs.Prelude.{◌≡◌, ℕ, Bool, true, not, ◌&&◌, IsTrue, List, [], ◌∷◌, ◌++◌, flat_map, map, reverse}
-use Rattle.std.specs.Prelude.{Some}
+use Rattle.std.specs.Prelude.{Some, codes}
 use Rattle.std.specs.{Borrow.Bor, List.AllByRecursion as Each, List.list_all, List.list_any, Str.bytes_eq}
 use Rattle.printable_text.specs.Sanitize.{IsPrintable}
-use Rattle.html_writer.specs.Html.{Attribute, Html, attribute_bytes, element, is_among, is_name, is_ordinary}
+use Rattle.html_writer.specs.Html.{Attribute, Html, attribute_bytes, element, tag, is_among, is_name, is_ordinary}
 use Rattle.html_writer.specs.Html.{is_title, tag_close, tag_open, text, void, void_close}
 use Rattle.html_writer.specs.Html.{void_names, ◌⊕◌}
 use Rattle.html_writer.specs.Reader.{Opened, Reader, data_state, new_tag, read_document, reader, run}
@@ -95,7 +95,13 @@ closed_in (innermost ∷ outer) content =
 abbrev pub closed : Reader → Reader
 closed page = closed_in page.opened page.content
 
+abbrev pub title : List ℕ → Html
+title bytes = tag (codes "title") [] (text bytes)
+
 -- a printable page, which is read as this tree
 pub record IsPage (tree : Html) (bytes : List ℕ) : Type 0 where
   pub printable : IsPrintable bytes
   pub read : read_document bytes ≡ Some tree
+
+abbrev pub IsSomePage : List ℕ → Type 0
+IsSomePage bytes = (tree : Html) × IsPage tree bytes

@@ -1,9 +1,12 @@
 //! A page that is written piece by piece, with a stack of its open elements. Reading what was written so far
 //! yields these elements and what they contain; so no text and no value of an attribute becomes markup.
-ghost use Rattle.std.specs.Prelude.{◌≡◌, [], OnOk, true};
+ghost use Rattle.std.specs.Prelude.{◌≡◌, [], IfOk, OnOk, true};
+ghost use Rattle.std.specs.{List.list_all};
+ghost use Rattle.printable_text.specs.Sanitize.{is_printable_byte};
+ghost use Rattle.html_writer.specs.Html.{is_css};
 ghost use Rattle.html_writer.specs.Html as html;
 ghost use Rattle.html_writer.specs.Page.{AddsAttributes, AddsStart, AddsTag, AddsVoid, HasVoid, Opens, are_names, closed};
-ghost use Rattle.html_writer.specs.Page.{followed_by, is_tag, is_void, names_in, so_far};
+ghost use Rattle.html_writer.specs.Page.{followed_by, IsOpen, IsSomePage, is_tag, is_void, names_in, names_of, so_far, title};
 
 use crate::write::{
     push_attribute, push_close, push_doctype, push_element, push_end, push_open, push_style,
@@ -100,6 +103,22 @@ fn lost(bytes: &mut Vec<u8>, opened: &mut Vec<&'static str>) -> fmt::Error
     fmt::Error
 }
 
+#[tactic(auto, using(crate::proofs::PageLemmas::page_finished, crate::proofs::PageLemmas::ended_open))]
+fn finished(bytes: Vec<u8>, opened: Vec<&'static str>) -> Result<Vec<u8>, fmt::Error>
+    requires { IsOpen (names_of opened.items) bytes.items }
+    ensures { IfOk result (λ page. IsSomePage page.items) }
+{
+    let mut content = bytes;
+    let mut rest = opened;
+    while let Some(name) = rest.pop() {
+        push_end(&mut content, name)?;
+    }
+    let mut page = Vec::new(*content.allocator());
+    push_doctype(&mut page)?;
+    page.extend_from_slice(&content)?;
+    Ok(page)
+}
+
 impl Html {
     #[tactic(auto, using(crate::proofs::PageLemmas::nothing_open))]
     pub fn new(alloc: Global) -> Html
@@ -153,15 +172,23 @@ impl Html {
     }
 
     /// Appends a `title`, which contains a text alone.
-    pub fn title(&mut self, text: &Line) -> fmt::Result {
+    #[tactic(auto, using(crate::proofs::PageLemmas::title_is, crate::proofs::PageLemmas::nothing_open))]
+    pub fn title(&mut self, text: &Line) -> fmt::Result
+        ensures { OnOk result (so_far self.new ≡ followed_by (title text.now) (so_far self.old)) }
+    {
         let Ok(()) = push_element(&mut self.bytes, "title", text.as_str().as_bytes()) else {
             return Err(lost(&mut self.bytes, &mut self.opened));
         };
         Ok(())
     }
 
-    /// Appends a `style` element.
-    pub fn style(&mut self, css: &'static str) -> fmt::Result {
+    /// Appends a `style` element. The CSS is copied unchanged.
+    #[tactic(auto, using(crate::proofs::PageLemmas::style_is, crate::proofs::PageLemmas::nothing_open))]
+    pub fn style(&mut self, css: &'static str) -> fmt::Result
+        requires css { is_css css.now ≡ true }
+        requires printable { list_all (is_printable_byte true) css.now ≡ true }
+        ensures { OnOk result (so_far self.new ≡ followed_by (html.style [] css.now (html.text [])) (so_far self.old)) }
+    {
         let Ok(()) = push_style(&mut self.bytes, css) else {
             return Err(lost(&mut self.bytes, &mut self.opened));
         };
@@ -169,15 +196,10 @@ impl Html {
     }
 
     /// The page, in which all elements are ended.
-    pub fn finish(self) -> Result<Vec<u8>, fmt::Error> {
-        let mut page = self;
-        while !page.opened.is_empty() {
-            page.close()?;
-        }
-        let mut document = Vec::new(*page.bytes.allocator());
-        push_doctype(&mut document)?;
-        document.extend_from_slice(&page.bytes)?;
-        Ok(document)
+    pub fn finish(self) -> Result<Vec<u8>, fmt::Error>
+        ensures { IfOk result (λ page. IsSomePage page.items) }
+    {
+        finished(self.bytes, self.opened)
     }
 
     /// Ends the innermost open element. Without one it writes nothing.

@@ -7,5 +7,5 @@ invariant_of-self c =
 
 pub returns : goal.returns
 returns c =
-    rw c.self.view_is
+    rw (← c.self.view_is)
     (void_added _ _ _ _ _ c.self.invariant c.requires.name c.requires.attributes c.in-Ok.ensures)
