@@ -1,8 +1,11 @@
 -- A page that is written piece by piece: each piece is read as it was written, and is printable.
 use Rattle.std.specs.Prelude.{not, ◌&&◌, nat_lt}
-use Rattle.std.proofs.Common.{ℕ, ◌/◌, ◌+◌, ◌<◌, ◌++◌, Bool, true, false, List, [], ◌∷◌, ◌≡◌, arith, codes, flat_map}
-use Rattle.std.proofs.Common.{append-nil, append_assoc, ap, ap₂, get_or, length, map, refl, reverse, drop, slice_index_or, subst, sym, take, ◌∙◌}
-use Rattle.std.specs.{Bool.IsTrue, List.AllByRecursion as Each, List.list_all, List.list_any, Str.bytes_eq, Str.chars}
+use Rattle.std.proofs.Common.{ℕ, ◌/◌, ◌+◌, ◌<◌, ◌++◌, Bool, true, false, List, [], ◌∷◌, ◌≡◌, arith, codes}
+use Rattle.std.proofs.Common.{flat_map}
+use Rattle.std.proofs.Common.{append-nil, append_assoc, ap, ap₂, get_or, length, map, refl, reverse, drop}
+use Rattle.std.proofs.Common.{slice_index_or, subst, sym, take, ◌∙◌}
+use Rattle.std.specs.{Bool.IsTrue, List.AllByRecursion as Each, List.list_all, List.list_any, Str.bytes_eq}
+use Rattle.std.specs.{Str.chars}
 use Rattle.std.proofs.lemmas.{Bool.and_parts, Bool.not-true, Str.encodes-chars}
 use Rattle.std.proofs.lemmas.{Grind.flat_map-append}
 use Rattle.std.proofs.lemmas.List.{map-append, reverse-append, take_more}
@@ -11,17 +14,23 @@ use Rattle.std.proofs.lemmas.List.Sums.{AllPass-from_list_all, list_all-from_All
 use Rattle.printable_text.specs.Sanitize.{IsPrintable, IsPrintableIn, is_printable, is_printable_byte}
 use Rattle.printable_text.proofs.SanitizeLemmas.{append_printable, ascii_printable, chars_pass, nil_printable}
 use Rattle.printable_text.proofs.{EscapeLemmas.escaped_printable, SanitizeLemmas.line_printable}
-use Rattle.html_writer.specs.Html.{AreAttributes, Attribute, Html, IsContent, IsText, doctype, is_css, style, style_bytes, written, attribute_bytes, element, end_tag}
-use Rattle.html_writer.specs.Html.{escaped, escaped_byte, attribute, has_attribute, is_character, is_letter, is_name}
-use Rattle.html_writer.specs.Html.{is_name_byte, is_ordinary, is_title, is_style, start_tag, tag_close, tag_open, text}
+use Rattle.html_writer.specs.Html.{AreAttributes, Attribute, Html, IsContent, IsText, doctype, is_css}
+use Rattle.html_writer.specs.Html.{style, style_bytes, written, attribute_bytes, element, end_tag}
+use Rattle.html_writer.specs.Html.{escaped, escaped_byte, attribute, has_attribute, is_character, is_letter}
+use Rattle.html_writer.specs.Html.{is_name}
+use Rattle.html_writer.specs.Html.{is_name_byte, is_ordinary, is_title, is_style, start_tag, tag_close}
+use Rattle.html_writer.specs.Html.{tag_open, text}
 use Rattle.html_writer.specs.Html.{void, void_close, void_names, void_tag, is_among, ◌⊕◌}
-use Rattle.html_writer.specs.Reader.{Opened, Reader, State, finished, data_state, has_elements, has_references}
+use Rattle.html_writer.specs.Reader.{Opened, Reader, State, finished, data_state, has_elements}
+use Rattle.html_writer.specs.Reader.{has_references}
 use Rattle.html_writer.specs.Reader.{kind_of, new_tag, reader, run}
-use Rattle.html_writer.specs.Page.{AddsAttributes, AddsTag, HasNames, HasVoid, IsOpen, Opens, are_names, closed}
+use Rattle.html_writer.specs.Page.{AddsAttributes, AddsTag, HasNames, HasVoid, IsOpen, Opens, are_names}
+use Rattle.html_writer.specs.Page.{closed}
 use Rattle.std.specs.{Borrow.Bor}
 use Rattle.html_writer.specs.Page.{AddsStart, AddsVoid, IsSomePage, names_in, names_of, title}
 use Rattle.html_writer.specs.Page.{closed_in, followed_by, is_tag, is_void, name_in, so_far}
-use Rattle.html_writer.proofs.WritingLemmas.{Reads, attributes_weaker, content_read, style_read, end_read, escaped-is, kind_inside, start_read, text_read}
+use Rattle.html_writer.proofs.WritingLemmas.{Reads, attributes_weaker, content_read, style_read, end_read}
+use Rattle.html_writer.proofs.WritingLemmas.{escaped-is, kind_inside, start_read, text_read}
 use Rattle.html_writer.proofs.WritingLemmas.{void_read}
 
 -- ---- Printable pieces.
@@ -172,15 +181,16 @@ module _ (names : List (List ℕ)) (old new : List ℕ) (is : IsOpen names old) 
   may = (kind_plain (so_far old).opened is.are_tags).1
 
   -- the elements that are open stay so
-  kept_open : (last : Reader) → so_far new ≡ last → last.state ≡ data_state → last.opened ≡ (so_far old).opened
-      → IsPrintable new → IsOpen names new
+  kept_open : (last : Reader) → so_far new ≡ last → last.state ≡ data_state
+      → last.opened ≡ (so_far old).opened → IsPrintable new → IsOpen names new
   kept_open last same state opened printable =
       let both : (so_far new).opened ≡ (so_far old).opened = ap (λ (r : Reader). r.opened) same ∙ opened in
       record {
         printable = printable;
         state = ap (λ (r : Reader). r.state) same ∙ state;
         names_are = is.names_are ∙ ap (λ (o : List Opened). map name_in o) (sym both);
-        are_tags = subst (λ (o : List Opened). IsTrue (list_all is_tag (map name_in o))) (sym both) is.are_tags;
+        are_tags =
+            subst (λ (o : List Opened). IsTrue (list_all is_tag (map name_in o))) (sym both) is.are_tags;
       }
 
   pub text_is : (line : List ℕ) → IsPrintableIn false line → new ≡ old ++ escaped line
@@ -198,7 +208,8 @@ module _ (names : List (List ℕ)) (old new : List ℕ) (is : IsOpen names old) 
             (both_printable is.printable (value_printable line (line_printable line plain)));
         state = ap (λ (r : Reader). r.state) same;
         names_are = is.names_are ∙ ap (λ (r : Reader). map name_in r.opened) (sym same);
-        are_tags = subst (λ (r : Reader). IsTrue (list_all is_tag (map name_in r.opened))) (sym same) is.are_tags;
+        are_tags =
+            subst (λ (r : Reader). IsTrue (list_all is_tag (map name_in r.opened))) (sym same) is.are_tags;
       }
 
   pub title_is : (line : List ℕ) → IsPrintableIn false line → new ≡ old ++ written (title line)
@@ -216,7 +227,8 @@ module _ (names : List (List ℕ)) (old new : List ℕ) (is : IsOpen names old) 
       (subst IsPrintable (sym added) (both_printable is.printable
       (both_printable (both_printable (open_printable (codes "title") (name_printable (codes "title") refl))
       close_printable) (both_printable (value_printable line (line_printable line plain))
-      (both_printable (end_printable (codes "title") (name_printable (codes "title") refl)) (nil_printable true))))))
+      (both_printable (end_printable (codes "title") (name_printable (codes "title") refl))
+      (nil_printable true))))))
 
   pub style_is : (css : List ℕ) → is_css css ≡ true → new ≡ old ++ style_bytes css
       → so_far new ≡ followed_by (style [] css (text [])) (so_far old)
@@ -250,7 +262,8 @@ module _ (names : List (List ℕ)) (old new : List ℕ) (is : IsOpen names old) 
     whole end added =
         added ∙ ap (λ (t : List ℕ). t ++ end) adds.added
         ∙ append_assoc old (tag_open name ++ flat_map attribute_bytes attributes) end
-        ∙ ap (λ (t : List ℕ). old ++ t) (append_assoc (tag_open name) (flat_map attribute_bytes attributes) end)
+        ∙ ap (λ (t : List ℕ). old ++ t)
+        (append_assoc (tag_open name) (flat_map attribute_bytes attributes) end)
 
     tag_printable : IsTrue (is_name name) → (end : List ℕ) → IsPrintable end → new ≡ mid ++ end
         → IsPrintable new
@@ -263,14 +276,16 @@ module _ (names : List (List ℕ)) (old new : List ℕ) (is : IsOpen names old) 
     abbrev opened_now : Reader
     opened_now =
         reader data_state
-        (record { before = (so_far old).content; tag = new_tag name attributes } ∷ (so_far old).opened) (text [])
+        (record { before = (so_far old).content; tag = new_tag name attributes } ∷ (so_far old).opened)
+        (text [])
 
     start_same : is_tag name ≡ true → new ≡ mid ++ tag_close → so_far new ≡ opened_now
     start_same tag added =
         let named = and_parts (is_name name) (is_ordinary name && not (is_title name)) tag in
         let plain = and_parts (is_ordinary name) (not (is_title name)) named.1 in
         piece_read old new (start_tag name attributes) opened_now is.state
-        (start_read (so_far old).opened (so_far old).content name attributes may named.0 plain.0 text_attributes)
+        (start_read (so_far old).opened (so_far old).content name attributes may named.0 plain.0
+        text_attributes)
         (whole tag_close added)
 
     start_is : is_tag name ≡ true → new ≡ mid ++ tag_close → Opens name labels (so_far old) (so_far new)
@@ -295,13 +310,15 @@ module _ (names : List (List ℕ)) (old new : List ℕ) (is : IsOpen names old) 
         → so_far new ≡ followed_by (void [] name attributes (text [])) (so_far old)
     void_same is_one added =
         let both = and_parts (is_name name) (is_among void_names name) is_one in
-        piece_read old new (void_tag name attributes) (followed_by (void [] name attributes (text [])) (so_far old))
+        piece_read old new (void_tag name attributes)
+        (followed_by (void [] name attributes (text [])) (so_far old))
         is.state
         (void_read (so_far old).opened (so_far old).content name attributes may both.0 both.1 text_attributes)
         (whole void_close added)
 
     void_is : is_void name ≡ true → new ≡ mid ++ void_close → HasVoid name labels (so_far old) (so_far new)
-    void_is is_one added = record { attributes = attributes; named = adds.named; new_is = void_same is_one added }
+    void_is is_one added =
+        record { attributes = attributes; named = adds.named; new_is = void_same is_one added }
 
     void_open : is_void name ≡ true → new ≡ mid ++ void_close → IsOpen names new
     void_open is_one added =
@@ -311,7 +328,8 @@ module _ (names : List (List ℕ)) (old new : List ℕ) (is : IsOpen names old) 
           printable = tag_printable both.0 void_close void_close_printable added;
           state = ap (λ (r : Reader). r.state) same;
           names_are = is.names_are ∙ ap (λ (r : Reader). map name_in r.opened) (sym same);
-          are_tags = subst (λ (r : Reader). IsTrue (list_all is_tag (map name_in r.opened))) (sym same) is.are_tags;
+          are_tags =
+              subst (λ (r : Reader). IsTrue (list_all is_tag (map name_in r.opened))) (sym same) is.are_tags;
         }
 
 -- ---- The innermost element ends.
@@ -334,7 +352,8 @@ module _ (names : List (List ℕ)) (name : List ℕ) (old new : List ℕ) (is : 
   ends (o ∷ outer) same last are =
       let head = same_head name o.tag.name (reverse names) (map name_in outer) last in
       let both = and_parts (is_tag o.tag.name) (list_all is_tag (map name_in outer)) are in
-      let named = and_parts (is_name o.tag.name) (is_ordinary o.tag.name && not (is_title o.tag.name)) both.0 in
+      let named =
+      and_parts (is_name o.tag.name) (is_ordinary o.tag.name && not (is_title o.tag.name)) both.0 in
       let plain = and_parts (is_ordinary o.tag.name) (not (is_title o.tag.name)) named.1 in
       let styled = not-true (is_style o.tag.name) (and_parts (not (is_style o.tag.name)) _ plain.0).0 in
       let now = closed_in (o ∷ outer) (so_far old).content in
@@ -351,7 +370,8 @@ module _ (names : List (List ℕ)) (name : List ℕ) (old new : List ℕ) (is : 
           state = ap (λ (r : Reader). r.state) result;
           names_are = same_tail name o.tag.name (reverse names) (map name_in outer) last
               ∙ ap (λ (r : Reader). map name_in r.opened) (sym result);
-          are_tags = subst (λ (r : Reader). IsTrue (list_all is_tag (map name_in r.opened))) (sym result) both.1;
+          are_tags =
+              subst (λ (r : Reader). IsTrue (list_all is_tag (map name_in r.opened))) (sym result) both.1;
         },
       )
 
@@ -390,7 +410,8 @@ voided_open names labels name old new is one labeled adds =
     void_open names old new is name labels adds.mid labeled adds.tag one adds.added
 
 popped : (before after : List (Bor (List ℕ))) (name : Bor (List ℕ)) (old : List ℕ)
-    → IsOpen (names_of before) old → before ≡ after ++ name ∷ [] → IsOpen (names_of after ++ name.now ∷ []) old
+    → IsOpen (names_of before) old → before ≡ after ++ name ∷ []
+    → IsOpen (names_of after ++ name.now ∷ []) old
 popped before after name old is pops =
     subst (λ (names : List (List ℕ)). IsOpen names old)
     (ap names_of pops ∙ map-append (λ (n : Bor (List ℕ)). n.now) after (name ∷ [])) is
@@ -436,7 +457,8 @@ adds_more names name value old mid new adds plain added = record {
   named = record {
     names_are = map-append (λ (a : Attribute). a.name) adds.attributes (attribute name value ∷ [])
         ∙ ap (λ (l : List (List ℕ)). l ++ name ∷ []) adds.named.names_are;
-    printable = each_last adds.attributes (attribute name value) adds.named.printable (line_printable value plain);
+    printable =
+        each_last adds.attributes (attribute name value) adds.named.printable (line_printable value plain);
   };
   added =
       added ∙ ap (λ (t : List ℕ). t ++ attribute_bytes (attribute name value)) adds.added
@@ -456,7 +478,8 @@ adds_more names name value old mid new adds plain added = record {
 pub adds_next : (items : List (Bor (List ℕ) × Bor (List ℕ))) (at : ℕ) (item : Bor (List ℕ) × Bor (List ℕ))
     (name value old mid new : List ℕ) → at < length items → name ≡ (slice_index_or items at item).0.now
     → AddsAttributes (names_in (take at items)) old mid → IsPrintableIn false value
-    → new ≡ mid ++ attribute_bytes (attribute name value) → AddsAttributes (names_in (take (at + 1) items)) old new
+    → new ≡ mid ++ attribute_bytes (attribute name value)
+    → AddsAttributes (names_in (take (at + 1) items)) old new
 adds_next items at item name value old mid new below name_is adds plain added =
     let first = slice_index_or items at item in
     rw (
@@ -473,8 +496,8 @@ none_opened : (opened : List Opened) → [] ≡ map name_in opened → opened �
 none_opened [] is = refl
 none_opened (o ∷ opened) is = absurd (cc)
 
-pub page_finished : (before : List (Bor (List ℕ))) (bytes front page : List ℕ) → IsOpen (names_of before) bytes
-    → before ≡ [] → front ≡ doctype → page ≡ front ++ bytes → IsSomePage page
+pub page_finished : (before : List (Bor (List ℕ))) (bytes front page : List ℕ)
+    → IsOpen (names_of before) bytes → before ≡ [] → front ≡ doctype → page ≡ front ++ bytes → IsSomePage page
 unfolding doctype
 page_finished before bytes front page is none first added =
     let opened = none_opened (so_far bytes).opened

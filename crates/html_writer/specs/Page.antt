@@ -1,9 +1,11 @@
 -- A page that is written piece by piece: what reading it so far yields.
-use Rattle.std.specs.Prelude.{◌≡◌, ℕ, Bool, true, not, ◌&&◌, IsTrue, List, [], ◌∷◌, ◌++◌, flat_map, map, reverse}
+use Rattle.std.specs.Prelude.{◌≡◌, ℕ, Bool, true, not, ◌&&◌, IsTrue, List, [], ◌∷◌, ◌++◌, flat_map, map}
+use Rattle.std.specs.Prelude.{reverse}
 use Rattle.std.specs.Prelude.{Some, codes}
 use Rattle.std.specs.{Borrow.Bor, List.AllByRecursion as Each, List.list_all, List.list_any, Str.bytes_eq}
 use Rattle.printable_text.specs.Sanitize.{IsPrintable}
-use Rattle.html_writer.specs.Html.{Attribute, Html, attribute_bytes, element, tag, is_among, is_name, is_ordinary}
+use Rattle.html_writer.specs.Html.{Attribute, Html, attribute_bytes, element, tag, is_among, is_name}
+use Rattle.html_writer.specs.Html.{is_ordinary}
 use Rattle.html_writer.specs.Html.{is_title, tag_close, tag_open, text, void, void_close}
 use Rattle.html_writer.specs.Html.{void_names, ◌⊕◌}
 use Rattle.html_writer.specs.Reader.{Opened, Reader, data_state, new_tag, read_document, reader, run}
@@ -77,7 +79,8 @@ pub record Opens (name : List ℕ) (names : List (List ℕ)) (old new : Reader) 
   pub attributes : List Attribute
   pub named : HasNames names attributes
   pub new_is : new
-      ≡ reader data_state (record { before = old.content; tag = new_tag name attributes } ∷ old.opened) (text [])
+      ≡ reader data_state (record { before = old.content; tag = new_tag name attributes } ∷ old.opened)
+      (text [])
 
 -- one more element without content
 pub record HasVoid (name : List ℕ) (names : List (List ℕ)) (old new : Reader) : Type 0 where

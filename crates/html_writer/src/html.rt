@@ -5,8 +5,10 @@ ghost use Rattle.std.specs.{List.list_all};
 ghost use Rattle.printable_text.specs.Sanitize.{is_printable_byte};
 ghost use Rattle.html_writer.specs.Html.{is_css};
 ghost use Rattle.html_writer.specs.Html as html;
-ghost use Rattle.html_writer.specs.Page.{AddsAttributes, AddsStart, AddsTag, AddsVoid, HasVoid, Opens, are_names, closed};
-ghost use Rattle.html_writer.specs.Page.{followed_by, IsOpen, IsSomePage, is_tag, is_void, names_in, names_of, so_far, title};
+ghost use Rattle.html_writer.specs.Page.{AddsAttributes, AddsStart, AddsTag, AddsVoid, HasVoid, Opens};
+ghost use Rattle.html_writer.specs.Page.{are_names, closed};
+ghost use Rattle.html_writer.specs.Page.{followed_by, IsOpen, IsSomePage, is_tag, is_void, names_in};
+ghost use Rattle.html_writer.specs.Page.{names_of, so_far, title};
 
 use crate::write::{
     push_attribute, push_close, push_doctype, push_element, push_end, push_open, push_style,
@@ -103,7 +105,6 @@ fn lost(bytes: &mut Vec<u8>, opened: &mut Vec<&'static str>) -> fmt::Error
     fmt::Error
 }
 
-#[tactic(auto, using(crate::proofs::PageLemmas::page_finished, crate::proofs::PageLemmas::ended_open))]
 fn finished(bytes: Vec<u8>, opened: Vec<&'static str>) -> Result<Vec<u8>, fmt::Error>
     requires { IsOpen (names_of opened.items) bytes.items }
     ensures { IfOk result (λ page. IsSomePage page.items) }
@@ -163,7 +164,8 @@ impl Html {
     pub fn void(&mut self, name: &'static str, attributes: &[(&'static str, &str)]) -> fmt::Result
         requires name { is_void name.now ≡ true }
         requires attributes { are_names [] (names_in attributes.now) ≡ true }
-        ensures { OnOk result (HasVoid name.now (names_in attributes.now) (so_far self.old) (so_far self.new)) }
+        ensures { OnOk result (HasVoid name.now (names_in attributes.now) (so_far self.old)
+            (so_far self.new)) }
     {
         let Ok(()) = push_void(&mut self.bytes, &mut self.line, name, attributes) else {
             return Err(lost(&mut self.bytes, &mut self.opened));
@@ -187,7 +189,8 @@ impl Html {
     pub fn style(&mut self, css: &'static str) -> fmt::Result
         requires css { is_css css.now ≡ true }
         requires printable { list_all (is_printable_byte true) css.now ≡ true }
-        ensures { OnOk result (so_far self.new ≡ followed_by (html.style [] css.now (html.text [])) (so_far self.old)) }
+        ensures { OnOk result (so_far self.new
+            ≡ followed_by (html.style [] css.now (html.text [])) (so_far self.old)) }
     {
         let Ok(()) = push_style(&mut self.bytes, css) else {
             return Err(lost(&mut self.bytes, &mut self.opened));

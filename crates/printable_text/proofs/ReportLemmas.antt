@@ -11,7 +11,8 @@ use Rattle.printable_text.specs.Sanitize.{is_printable_byte, safe_in, without_co
 use Rattle.printable_text.specs.Text.{IsColored, IsColoredTo, IsPlainLine, IsReport, IsShownReport}
 use Rattle.printable_text.specs.Text.{begins_plainly, level_word, shown_word}
 use Rattle.printable_text.proofs.SanitizeLemmas.{append_printable, ascii_printable, ended-append}
-use Rattle.printable_text.proofs.SanitizeLemmas.{ended_printable, line_printable, safe_in_printable, without_printable}
+use Rattle.printable_text.proofs.SanitizeLemmas.{ended_printable, line_printable, safe_in_printable}
+use Rattle.printable_text.proofs.SanitizeLemmas.{without_printable}
 use Rattle.printable_text.proofs.CommandLemmas.{without_quiet}
 use Rattle.printable_text.proofs.SanitizeLemmas.{nil_printable}
 use Rattle.printable_text.proofs.PartLemmas.{colored_append, colored_same, colored_word, level_printable}
@@ -79,7 +80,8 @@ escaped_quiet old line new none added =
     subst (λ (t : List ℕ). has_command t ≡ false) (sym (rw none at added)) (without_quiet line)
 
 pub report_printable : (text : List ℕ) → IsReport text → IsPrintable text
-report_printable text is = subst IsPrintable (sym is.text_is) (ended_printable is.lines (each is.lines is.each))
+report_printable text is =
+    subst IsPrintable (sym is.text_is) (ended_printable is.lines (each is.lines is.each))
   where
     each : (lines : List (List ℕ)) → Each IsPlainLine lines → Each IsPrintable lines
     each [] are = tt
@@ -90,7 +92,8 @@ report_printable text is = subst IsPrintable (sym is.text_is) (ended_printable i
 printable_parts : (front rest : List ℕ) → IsUtf8 front → IsUtf8 rest → IsPrintable (front ++ rest)
     → IsPrintable front × IsPrintable rest
 printable_parts front rest one two is =
-    let both = and_parts (list_all (is_printable true) (chars front)) (list_all (is_printable true) (chars rest))
+    let both =
+    and_parts (list_all (is_printable true) (chars front)) (list_all (is_printable true) (chars rest))
     (rw (chars-append front rest one, list_all-append) at is.all) in
     (record { utf8 = one; all = both.0 }, record { utf8 = two; all = both.1 })
 
@@ -130,7 +133,8 @@ colored_start text is = record {
   text_is = refl;
 }
 
-pub colored_end : (all rest old new : List ℕ) → new ≡ old ++ rest → IsColoredTo all rest old → IsColored all new
+pub colored_end : (all rest old new : List ℕ) → new ≡ old ++ rest → IsColoredTo all rest old
+    → IsColored all new
 colored_end all rest old new added is =
     subst (λ (t : List ℕ). IsColored t new) (sym is.text_is)
     (subst (IsColored (is.plain ++ rest)) (sym added)
