@@ -1,4 +1,7 @@
 //! The audit as an HTML page.
+ghost use Rattle.std.specs.Prelude.{IfOk};
+ghost use Rattle.html_writer.specs.Page.{IsSomePage};
+
 mod by_line;
 mod elements;
 mod file;
@@ -109,7 +112,9 @@ pub fn page_text(
     alloc: Global,
     request: &Request<'_>,
     audit: &Audit<'_>,
-) -> Result<Vec<u8>, fmt::Error> {
+) -> Result<Vec<u8>, fmt::Error>
+    ensures { IfOk result (λ page. IsSomePage page.items) }
+{
     let mut page = Page::new(alloc);
     let title = Title(request.agent);
     page.html.open("html", &[("lang", "en")])?;
