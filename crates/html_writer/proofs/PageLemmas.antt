@@ -1,6 +1,6 @@
 -- A page that is written piece by piece: each piece is read as it was written, and is printable.
-use Rattle.std.specs.Prelude.{not, ◌&&◌, nat_lt}
-use Rattle.std.proofs.Common.{ℕ, ◌/◌, ◌+◌, ◌<◌, ◌++◌, Bool, true, false, List, [], ◌∷◌, ◌≡◌, arith, codes}
+use Rattle.std.specs.Prelude.{not, ◌&&◌}
+use Rattle.std.proofs.Common.{ℕ, ◌+◌, ◌<◌, ◌++◌, Bool, true, false, List, [], ◌∷◌, ◌≡◌, arith, codes}
 use Rattle.std.proofs.Common.{flat_map}
 use Rattle.std.proofs.Common.{append-nil, append_assoc, ap, ap₂, get_or, length, map, refl, reverse, drop}
 use Rattle.std.proofs.Common.{slice_index_or, subst, sym, take, ◌∙◌}
@@ -14,17 +14,17 @@ use Rattle.std.proofs.lemmas.List.Sums.{AllPass-from_list_all, list_all-from_All
 use Rattle.printable_text.specs.Sanitize.{IsPrintable, IsPrintableIn, is_printable, is_printable_byte}
 use Rattle.printable_text.proofs.SanitizeLemmas.{append_printable, ascii_printable, chars_pass, nil_printable}
 use Rattle.printable_text.proofs.{EscapeLemmas.escaped_printable, SanitizeLemmas.line_printable}
-use Rattle.html_writer.specs.Html.{AreAttributes, Attribute, Html, IsContent, IsText, doctype, is_css}
-use Rattle.html_writer.specs.Html.{style, style_bytes, written, attribute_bytes, element, end_tag}
+use Rattle.html_writer.specs.Html.{AreAttributes, Attribute, IsContent, IsText, doctype, is_css}
+use Rattle.html_writer.specs.Html.{style, style_bytes, written, attribute_bytes, end_tag}
 use Rattle.html_writer.specs.Html.{escaped, escaped_byte, attribute, has_attribute, is_character, is_letter}
 use Rattle.html_writer.specs.Html.{is_name}
 use Rattle.html_writer.specs.Html.{is_name_byte, is_ordinary, is_title, is_style, start_tag, tag_close}
 use Rattle.html_writer.specs.Html.{tag_open, text}
-use Rattle.html_writer.specs.Html.{void, void_close, void_names, void_tag, is_among, ◌⊕◌}
+use Rattle.html_writer.specs.Html.{void, void_close, void_names, void_tag, is_among}
 use Rattle.html_writer.specs.Reader.{Opened, Reader, State, finished, data_state, has_elements}
 use Rattle.html_writer.specs.Reader.{has_references}
 use Rattle.html_writer.specs.Reader.{kind_of, new_tag, reader, run}
-use Rattle.html_writer.specs.Page.{AddsAttributes, AddsTag, HasNames, HasVoid, IsOpen, Opens, are_names}
+use Rattle.html_writer.specs.Page.{AddsAttributes, AddsTag, HasVoid, IsOpen, Opens, are_names}
 use Rattle.html_writer.specs.Page.{closed}
 use Rattle.std.specs.{Borrow.Bor}
 use Rattle.html_writer.specs.Page.{AddsStart, AddsVoid, IsSomePage, names_in, names_of, title}
