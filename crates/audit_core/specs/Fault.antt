@@ -20,6 +20,10 @@ use Rattle.robots_io.specs.declared.streams.ReadFault.TheVariants as read
 use Rattle.robots_io.specs.declared.streams.WriteFault.TheVariants as write
 use Rattle.audit_core.specs.declared.fault.Flaw.TheVariants as flaw
 
+-- the number of a malformed line, and what is wrong with it
+abbrev pub MalformedLine : Type 0
+MalformedLine = ℕ × Flaw
+
 -- the first warning with a name that is near this one
 abbrev pub near_warning : List ℕ → Option Cause
 near_warning name = find (λ cause. is_near name (name_of cause)) all_causes

@@ -18,7 +18,6 @@ use Rattle.audit_core.specs.declared.request.Format.TheVariants.{Text, Github, H
 use Rattle.robots_audit.specs.{Answer.AnswersAudit, Command.value_of}
 use Rattle.audit_text.proofs.{GithubLemmas.github_printable}
 use Rattle.audit_json.proofs.JsonLemmas.{findings_printable, json_printable, sarif_printable}
-use Rattle.audit_page.proofs.{PageLemmas.page_printable}
 
 pub warned_next : (least : Level) (warnings : List WarningValue) (at : ℕ) (warning : WarningValue)
     → at < length warnings → is_warned (Some least) (drop at warnings)
@@ -85,8 +84,7 @@ pub output_printable : (format : Format) (requested : RequestValue) (audit : Aud
 output_printable Text requested audit output is = report_printable output is
 output_printable Json requested audit output is =
     subst IsPrintable (sym is) (json_printable (has_rows requested) (reported requested audit))
-output_printable Html requested audit output is =
-    subst IsPrintable (sym is) (page_printable requested (reported requested audit))
+output_printable Html requested audit output is = is.1.printable
 output_printable Github requested audit output is =
     subst IsPrintable (sym is)
     (github_printable (shown_name requested.file) (all_found (reported requested audit)))

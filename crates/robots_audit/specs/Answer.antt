@@ -3,7 +3,7 @@ use Rattle.std.specs.Prelude.{◌≡◌, ◌⊎◌, ℕ, Bool, true, false, List
 use Rattle.std.specs.Prelude.{◌==◌, if◌then◌else◌, length, map, not, ◌&&◌, string_bytes, ⊤}
 use Rattle.std.specs.{List.list_any}
 use Rattle.clap.specs.{declared.parser.matches.ArgMatches.ArgMatches}
-use Rattle.html_writer.specs.{Html.document}
+use Rattle.html_writer.specs.{Page.IsSomePage}
 use Rattle.printable_text.specs.{declared.level.Level.Level}
 use Rattle.printable_text.specs.Text.{IsReport, IsShownReport, reaches, written}
 use Rattle.robots_warnings.specs.{Table.is_name, Table.level_of, Message.WarningValue}
@@ -21,7 +21,6 @@ use Rattle.audit_compare.specs.Compare.{report_lines as comparison_lines}
 use Rattle.audit_expect.specs.{Expectations.IsReport, UrlList.HasUrlsIn}
 use Rattle.audit_text.specs.{Github.github_text}
 use Rattle.audit_json.specs.{Json.findings_text, Json.json_text, Sarif.sarif_text}
-use Rattle.audit_page.specs.{Page.page}
 
 -- a page has all URLs, since its tables have a row or a column for each
 abbrev pub has_all_urls : Format → Bool
@@ -39,7 +38,7 @@ reported requested audit = shown (leaves_out_allowed requested) audit
 abbrev pub IsOutput : Format → RequestValue → AuditValue → List ℕ → Type 0
 IsOutput Text requested audit text = IsReport text
 IsOutput Json requested audit text = text ≡ json_text (has_rows requested) (reported requested audit)
-IsOutput Html requested audit text = text ≡ document (page requested (reported requested audit))
+IsOutput Html requested audit text = IsSomePage text
 IsOutput Github requested audit text =
     text ≡ github_text (shown_name requested.file) (findings (reported requested audit))
 IsOutput Sarif requested audit text =
