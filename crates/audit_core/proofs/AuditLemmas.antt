@@ -2,23 +2,25 @@
 use Rattle.std.proofs.Common.{◌≡◌, ℕ, ◌||◌, Bool, true, false, List, [], ◌∷◌, ◌++◌, ap, bytes_eq, not, refl}
 use Rattle.std.proofs.Common.{if◌then◌else◌, subst, sym, ⊎_elim, ◌∙◌, ◌+◌, ◌<◌, ◌==◌, arith, drop, flat_map}
 use Rattle.std.proofs.Common.{length, map, slice_index_or, zip, append_assoc, None, Option, take}
-use Rattle.std.specs.{BTreeSet.BTreeSet, List.AllByRecursion as Each, List.AllZip}
+use Rattle.std.proofs.Common.{codes, inl, inr, is_some}
+use Rattle.std.specs.{BTreeSet.BTreeSet, List.AllByRecursion as Each, List.AllZip, List.list_any}
 use Rattle.std.specs.Str.{is_utf8, str_to_ascii_lowercase}
 use Rattle.std.proofs.Math.{Bool.or-false}
-use Rattle.std.proofs.lemmas.Bool.{cases_Bool, Decides.nat_tests, Decides.Decides-eqb}
+use Rattle.std.proofs.lemmas.Bool.{cases_Bool, false≢true, Decides.nat_tests, Decides.Decides-eqb}
 use Rattle.std.proofs.lemmas.{Slice.Eq.bytes_eq-Decides, List.Elements.filter_map-append}
 use Rattle.std.proofs.lemmas.List.{append-nil, drop_more, map-append, take_more}
 use Rattle.texting_robots.specs.Callers.{label_by_value, sitemaps_in, IsDelayFor, placed_rules}
 use Rattle.texting_robots.specs.Callers.{AnswerAlike, IsRobotWithoutSitemaps, PlacedRule, RobotValue, file_limit}
 use Rattle.texting_robots.specs.Callers.{UserAgent, by_value, HasLines, LineValue, delay_for, lines_read}
-use Rattle.texting_robots.specs.{Agents.is_among, Executable.sitemap_in}
+use Rattle.texting_robots.specs.Callers.{Allow, CrawlDelay, Disallow, Raw, Sitemap}
+use Rattle.texting_robots.specs.{Agents.is_among, Executable.sitemap_in, Line.is_sitemap}
 use Rattle.texting_robots.specs.declared.labels.{LabeledLine.LabeledLine}
 use Rattle.robots_warnings.specs.Internal.Names.{AddsName, Key}
 use Rattle.audit_core.specs.Internal.Agents.{AddsAgent, HasAgents, has_lowered}
 use Rattle.robots_warnings.proofs.{ClosedLemmas.any_last}
 use Rattle.printable_text.specs.{Lines.ended}
-use Rattle.robots_warnings.specs.File.{lines_of, space}
-use Rattle.audit_core.specs.Audit.{IsRuling, IsVerdictOn, VerdictValue, sitemap_at}
+use Rattle.robots_warnings.specs.{Closed.line_closing, File.lines_of, File.space}
+use Rattle.audit_core.specs.Audit.{IsRuling, IsVerdictOn, VerdictValue, sitemap_at, sitemaps_asked}
 use Rattle.texting_robots.proofs.Shared.{delay_is_computed, answers_computed, lines_are_read, of_lines}
 use Rattle.texting_robots.proofs.Shared.{read_robot}
 use Rattle.audit_core.specs.{Asked.asked_target}
@@ -93,6 +95,27 @@ pub asked_next : (labels : List LabeledLine) (at : ℕ) (labeled : LabeledLine) 
     ≡ sitemap_at (slice_index_or labels at labeled).number (by_value (slice_index_or labels at labeled).line)
     ++ asked (drop (at + 1) labels)
 asked_next labels at labeled below = rw (drop_more labels at labeled below) refl
+
+none_at : (number : ℕ) (line : LineValue) → is_sitemap line ≡ false → sitemap_at number line ≡ []
+none_at number (UserAgent name) isnt = refl
+none_at number (Allow value) isnt = refl
+none_at number (Disallow value) isnt = refl
+none_at number (CrawlDelay delay) isnt = refl
+none_at number (Sitemap url) isnt = absurd (false≢true (sym isnt))
+none_at number (Raw body) isnt = refl
+
+none_asked : (labels : List LabeledLine)
+    → list_any (λ labeled. is_sitemap (by_value labeled.line)) labels ≡ false → asked labels ≡ []
+none_asked [] none = refl
+none_asked (labeled ∷ labels) none = grind (arith, none_at, none_asked labels)
+
+pub without_sitemaps : (lines : List LineValue) (labels : List LabeledLine)
+    → list_any (λ labeled. is_sitemap (by_value labeled.line)) labels ≡ false
+    → sitemaps_asked lines (map label_by_value labels) ≡ []
+without_sitemaps lines labels none = elim (cases_Bool (is_some (line_closing lines (codes "*")))) [
+  | inl closed ↦ rw closed refl
+  | inr open ↦ rw open (none_asked labels none)
+]
 
 pub zip_none : {K X : Type 0} (ks : List K) (xs : List X) → length xs < 1 → zip ks xs ≡ []
 zip_none [] xs short = refl

@@ -1,7 +1,7 @@
 //! The audit of a file: its lines, what applies to each requested crawler, and the warnings.
-ghost use Rattle.std.specs.Prelude.{◌≡◌, ◌++◌, ℕ, IfErr, IfOk, List, codes, is_none, length, map, option_map};
+ghost use Rattle.std.specs.Prelude.{◌≡◌, ◌++◌, ℕ, IfErr, IfOk, List, codes, is_none, map, option_map};
 ghost use Rattle.std.specs.List.{AllZip};
-ghost use Rattle.texting_robots.specs.Callers.{file_lines, label_by_value, lines_read, placed_rules};
+ghost use Rattle.texting_robots.specs.Callers.{file_lines, label_by_value, lines_read};
 ghost use Rattle.audit_core.specs.Audit.{AreOfSitemaps, IsAgentAudit, IsAuditOf, IsRuling, IsVerdictOn};
 ghost use Rattle.audit_core.specs.Audit.{agents_requested, all_allowed, allows_all, labeling_agent};
 ghost use Rattle.audit_core.specs.Audit.{rejects_some};
@@ -19,6 +19,7 @@ use crate::sitemaps::warn_of_sitemaps;
 use rfc9309_laws::conformance::{Conformance, conformance_of};
 use robots_needless::needless::NeedlessRule;
 use robots_warnings::closed::{Reach, reach_of};
+use robots_warnings::own_rules::own_rules;
 use robots_warnings::read::FileRead;
 use robots_warnings::warning::Warning;
 use robots_warnings::warnings::warnings;
@@ -26,7 +27,7 @@ use std::alloc::Global;
 use std::marker::Model;
 use texting_robots::labels::LabeledLine;
 use texting_robots::robot::Decision;
-use texting_robots::{Rejection, Robot, Site};
+use texting_robots::{Rejection, Robot};
 
 #[derive(Drop)]
 pub struct Verdict<'a> {
@@ -141,12 +142,6 @@ pub(crate) fn ruling<'a>(
     }
 }
 
-fn rule_count(site: &Site, agent: &str) -> usize
-    ensures { result ≡ length (placed_rules agent.now (file_lines site.now)) }
-{
-    site.rules(agent).count()
-}
-
 /// What the file, which is read so for the crawler, means for it.
 fn agent_audit<'a>(
     alloc: Global,
@@ -161,13 +156,14 @@ fn agent_audit<'a>(
         (lines_read read.now.bytes.now) agent.now audit) }
     ensures fault { IfErr result (λ fault. fault ≡ Fault.Memory) }
 {
-    let reach = reach_of(alloc, &read.site, agent)?;
+    let rules = own_rules(alloc, &read.site, agent)?;
+    let reach = reach_of(alloc, &read.site, agent, &rules)?;
     let (rejected, verdicts) = ruling(alloc, reading, urls)?;
     Ok(AgentAudit {
         agent,
         group: group_of(agent, &read.site),
         group_line: naming_line(agent, &read.site, &read.labels),
-        rules: rule_count(&read.site, agent),
+        rules: rules.len(),
         reach,
         delay: read.site.delay(agent),
         rejected,

@@ -1,7 +1,8 @@
 //! The sitemaps that a file lists, and the warnings about those that the rules for `*` deny.
 ghost use Rattle.std.specs.Prelude.{◌≡◌, ◌++◌, ◌∷◌, [], IfErr, IfOk, List, OnOk, codes, flat_map, map, zip};
 ghost use Rattle.texting_robots.specs.Callers.{by_value, file_lines, label_by_value, lines_read};
-ghost use Rattle.texting_robots.specs.Callers.{sitemaps_in};
+ghost use Rattle.texting_robots.specs.{Callers.sitemaps_in, Line.is_sitemap};
+ghost use Rattle.std.specs.List.{list_any};
 ghost use Rattle.robots_warnings.specs.{File.lines_of, Internal.Adds, Message.WarningValue, Read.IsRead};
 ghost use Rattle.audit_core.specs.Audit.{AreOfSitemaps, sitemap_at, sitemap_warning, sitemaps_asked};
 ghost use Rattle.audit_core.specs.Internal.{IsReading};
@@ -71,6 +72,18 @@ fn ask_about<'a>(
     Ok(())
 }
 
+fn is_sitemap(labeled: &LabeledLine<'_>) -> bool
+    ensures { result ≡ is_sitemap (by_value labeled.now.line) }
+{
+    matches!(labeled.line, Line::Sitemap(_))
+}
+
+fn has_sitemap(labels: &[LabeledLine<'_>]) -> bool
+    ensures { result ≡ list_any (λ labeled. is_sitemap (by_value labeled.line)) labels.now }
+{
+    labels.iter().any(is_sitemap)
+}
+
 /// None if the whole site is closed to `*`.
 #[tactic(auto, using(crate::proofs::AuditLemmas::asked_next))]
 fn ask_about_all<'a>(
@@ -87,6 +100,9 @@ fn ask_about_all<'a>(
         ++ map (λ sitemap. sitemap.1)
         (sitemaps_asked (file_lines site.now) (map label_by_value labels.now))) }
 {
+    if !has_sitemap(labels) {
+        return Ok(());
+    }
     if is_closed(alloc, site, "*")? {
         return Ok(());
     }
