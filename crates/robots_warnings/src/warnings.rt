@@ -27,7 +27,7 @@ use crate::positions::{Preceding, first_delay, last_group, preceding_with, sole_
 use crate::read::FileRead;
 use crate::repeated::repeated;
 use crate::replaced::{disallow_count, replacing};
-use crate::rules::is_expression;
+use crate::rules::{is_expression, is_plain};
 use crate::spellings::{Spelling, unpaired};
 use crate::table::Cause;
 use crate::warning::{Detail, Found, Warning};
@@ -109,9 +109,13 @@ fn warn_in_general<'a>(
     warn_of_urls(alloc, found, urls)
 }
 
+#[tactic(auto, using(crate::proofs::PlainLemmas::plain_has_none))]
 fn warn_of_rule(found: &mut Found<'_>, line: Option<usize>, value: &[u8]) -> Result<(), AllocError>
     ensures { OnOk result (Adds found.old.items found.new.items (warned line None (rule_checks value.now))) }
 {
+    if is_plain(value) {
+        return Ok(());
+    }
     let is_regex = is_expression(value);
     warn(found, line, None, &form_checks(value, is_regex))?;
     warn(found, line, None, &content_checks(value, is_regex))
