@@ -2,7 +2,7 @@
 ghost use Rattle.std.specs.Prelude.{◌≡◌, ◌++◌, ◌||◌, ◌∷◌, [], Bool, IfOk, List, OnOk, bytes_eq, codes, false, filter, flat_map, if◌then◌else◌};
 ghost use Rattle.std.specs.Prelude.{is_some, length, map, nat_lt, option_map, slice_get, string_bytes, ℕ};
 ghost use Rattle.std.specs.{HashSet.contains_text, List.filter_map, List.list_all, List.list_any, Str.str_eq_ignore_ascii_case};
-ghost use Rattle.texting_robots.specs.Callers.{PlacedRule, by_value, file_lines, label_by_value, placed_rules, sitemaps_in};
+ghost use Rattle.texting_robots.specs.Callers.{PlacedRule, file_lines, label_by_value, placed_rules};
 ghost use Rattle.robots_warnings.specs.Closed.{closed_at, closes, closing_line, is_allow, is_anything, is_closing, is_exempt};
 ghost use Rattle.robots_warnings.specs.Closed.{is_literally, is_major, is_number, is_rival, is_root, is_star_or_dollar};
 ghost use Rattle.robots_warnings.specs.Closed.{is_whole_site, line_closing, matches_no_path, opened_path};
@@ -16,12 +16,10 @@ use crate::rules::{begins_oddly, has_dollar_inside};
 use crate::table::Cause;
 use crate::targets::prepared;
 use crate::tokens::token_front;
-use crate::urls::as_text;
 use crate::warning::{Detail, Found, Warning};
 use std::alloc::{AllocError, Global};
 use std::collections::{BTreeMap, HashSet};
 use texting_robots::labels::LabeledLine;
-use texting_robots::parser::{Line, file_lines};
 use texting_robots::site::{Site, SiteRule};
 
 type Patterns = HashSet<String>;
@@ -252,27 +250,14 @@ fn add_url(alloc: Global, patterns: &mut Patterns, url: &str) -> Result<(), Allo
     Ok(())
 }
 
-fn add_line(alloc: Global, patterns: &mut Patterns, line: Line<'_>) -> Result<(), AllocError>
-    ensures { OnOk result ((pattern : List ℕ) → contains_text patterns.new pattern
-        ≡ (contains_text patterns.old pattern
-        || list_any (is_literally pattern) (filter_map opened_path (sitemaps_in (by_value line.entry ∷ []))))) }
-{
-    let Line::Sitemap(value) = line else {
-        return Ok(());
-    };
-    match as_text(value) {
-        Some(url) => add_url(alloc, patterns, url),
-        None => Ok(()),
-    }
-}
-
 fn exempt_patterns(alloc: Global, site: &Site) -> Result<Patterns, AllocError>
     ensures { IfOk result (HasExempt (file_lines site.now)) }
 {
     let mut patterns = HashSet::new(alloc);
     add_path(alloc, &mut patterns, "/robots.txt")?;
-    for line in file_lines(site.text()) {
-        add_line(alloc, &mut patterns, line)?;
+    let urls = site.sitemaps(alloc)?;
+    for url in &urls {
+        add_url(alloc, &mut patterns, url)?;
     }
     Ok(patterns)
 }
