@@ -131,18 +131,6 @@ fn url_changes<'a>(
     Ok(found)
 }
 
-fn changes_of<'a>(
-    alloc: Global,
-    rules: &RuleChanges,
-    older: &AgentAudit<'a>,
-    newer: &AgentAudit<'a>,
-) -> Result<Vec<UrlChange<'a>>, AllocError>
-    ensures { IfOk result (λ found. found.items
-        ≡ url_changes rules.now.removed.items rules.now.added.items older.now.verdicts newer.now.verdicts) }
-{
-    url_changes(alloc, rules, &older.verdicts, &newer.verdicts)
-}
-
 pub(crate) fn compared_for<'a>(
     alloc: Global,
     agent: &'a str,
@@ -159,7 +147,12 @@ pub(crate) fn compared_for<'a>(
     let older_audit = audit_for(alloc, agent, older, urls)?;
     let newer_audit = audit_for(alloc, agent, newer, urls)?;
     let rules = rule_changes(alloc, agent, &older.site, &newer.site)?;
-    let changes = changes_of(alloc, &rules, &older_audit, &newer_audit)?;
+    let changes = url_changes(
+        alloc,
+        &rules,
+        &older_audit.verdicts,
+        &newer_audit.verdicts,
+    )?;
     Ok(Compared {
         agent,
         older: older_audit,
