@@ -10,7 +10,7 @@ use Rattle.html_writer.specs.Html.{escaped, escaped_byte, escaped_bytes, AreAttr
 use Rattle.html_writer.specs.Html.{IsContent, element, is_title, style, void, with_text, written, ◌⊕◌, IsHtml}
 use Rattle.html_writer.specs.Html.{IsText, attribute, attribute_bytes, document, has_attribute, is_among}
 use Rattle.html_writer.specs.Html.{is_character, is_css, is_letter, is_name, is_name_byte, is_ordinary}
-use Rattle.html_writer.specs.Html.{is_style, is_text, void_names}
+use Rattle.html_writer.specs.Html.{is_style, is_text, is_written_as_is, void_names}
 use Rattle.std.proofs.lemmas.List.{append-nil, Concat.flat_map_single}
 use Rattle.html_writer.specs.Reader.{Kind, Opened, Reader, Tag, after_attribute_value, any_content}
 use Rattle.html_writer.specs.Reader.{attribute_name, attribute_value, data_state, finished}
@@ -24,6 +24,18 @@ pub escaped-is : (bytes : List ℕ) → escaped bytes ≡ flat_map escaped_byte 
 unfolding escaped_bytes
 escaped-is [] = refl
 escaped-is (byte ∷ bytes) = refl
+
+one_same : (byte : ℕ) → is_written_as_is byte ≡ true → escaped_byte byte ≡ byte ∷ []
+one_same byte is = grind (arith, nat_tests)
+
+each_same : (bytes : List ℕ) → list_all is_written_as_is bytes ≡ true → flat_map escaped_byte bytes ≡ bytes
+each_same [] are = refl
+each_same (byte ∷ bytes) are =
+    let (here, later) = and_parts (is_written_as_is byte) _ are in
+    rw (one_same byte here, each_same bytes later) refl
+
+pub escaped_same : (bytes : List ℕ) → list_all is_written_as_is bytes ≡ true → escaped bytes ≡ bytes
+escaped_same bytes are = escaped-is bytes ∙ each_same bytes are
 
 pub escaped-append : (one two : List ℕ) → escaped (one ++ two) ≡ escaped one ++ escaped two
 escaped-append one two =
