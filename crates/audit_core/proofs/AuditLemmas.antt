@@ -19,7 +19,7 @@ use Rattle.robots_warnings.specs.Internal.Names.{AddsName, Key}
 use Rattle.audit_core.specs.Internal.Agents.{AddsAgent, HasAgents, has_lowered}
 use Rattle.robots_warnings.proofs.{ClosedLemmas.any_last}
 use Rattle.printable_text.specs.{Lines.ended}
-use Rattle.robots_warnings.specs.{Closed.line_closing, File.lines_of, File.space}
+use Rattle.robots_warnings.specs.{Closed.line_closing, File.lines_of}
 use Rattle.audit_core.specs.Audit.{AreOfSitemaps, IsRuling, IsVerdictOn, VerdictValue, all_sitemaps}
 use Rattle.audit_core.specs.Audit.{sitemap_at, sitemap_warning, sitemaps_asked}
 use Rattle.audit_core.specs.Internal.{AddsSitemaps, warnings_of}

@@ -1,21 +1,15 @@
 -- Errors, and the exit status.
-use Rattle.std.specs.Prelude.{◌≡◌, ℕ, nat_eq, Bool, not, ◌&&◌, ◌||◌, List, [], ◌∷◌, ◌++◌, Option}
-use Rattle.std.specs.Prelude.{Some, None, Result, Ok, Err, bytes_eq, codes, if◌then◌else◌, map, string_bytes}
-use Rattle.std.specs.{List.ends_with, List.find, List.starts_with, Str.byte}
-use Rattle.std.proofs.{Common.refl}
-use Rattle.printable_text.specs.{Sanitize.sanitized_lines}
+use Rattle.std.specs.Prelude.{◌≡◌, ℕ, not, List, Option}
+use Rattle.std.specs.Prelude.{Result, Ok, Err, if◌then◌else◌, string_bytes}
+use Rattle.std.specs.{List.find}
 use Rattle.robots_io.specs.declared.streams.{ReadFault.ReadFault, WriteFault.WriteFault}
-use Rattle.robots_warnings.specs.{Crawlers.is_near, Table.all_causes, Table.name_of, Urls.begins_as_url}
-use Rattle.robots_warnings.specs.Rules.{before_byte, has}
+use Rattle.robots_warnings.specs.{Crawlers.is_near, Table.all_causes, Table.name_of}
 use Rattle.robots_warnings.specs.declared.table.{Cause.Cause}
-use Rattle.printable_text.specs.Text.{Absent, Named, Number, Part, PartValue, ReportLine, Untrusted, Value}
-use Rattle.printable_text.specs.Text.{label, line_from, only, value_text, word, written}
 use Rattle.audit_core.specs.declared.answer.{Outcome.Outcome}
-use Rattle.audit_core.specs.declared.fault.Entry.{Entry, TheVariants.Expectation, TheVariants.Url}
 use Rattle.audit_core.specs.declared.fault.{Fault.Fault, Flaw.Flaw}
-use Rattle.audit_core.specs.declared.fault.Fault.TheVariants.{Argument, Closed, Empty, File, Format, Memory}
-use Rattle.audit_core.specs.declared.fault.Fault.TheVariants.{Malformed, NotUtf8, NoUrl, Read, StdinTwice}
-use Rattle.audit_core.specs.declared.fault.Fault.TheVariants.{UnknownWarning, Usage, Words, Write}
+use Rattle.audit_core.specs.declared.fault.Fault.TheVariants.{Argument, Closed, Memory}
+use Rattle.audit_core.specs.declared.fault.Fault.TheVariants.{Read}
+use Rattle.audit_core.specs.declared.fault.Fault.TheVariants.{UnknownWarning, Write}
 use Rattle.robots_io.specs.declared.streams.ReadFault.TheVariants as read
 use Rattle.robots_io.specs.declared.streams.WriteFault.TheVariants as write
 use Rattle.audit_core.specs.declared.fault.Flaw.TheVariants as flaw

@@ -1,13 +1,13 @@
 -- The rows of a report: one for each line of the file.
-use Rattle.std.specs.Prelude.{ℕ, ◌==◌, Bool, true, false, not, List, [], ◌∷◌, Some, None, codes, decimal, map}
-use Rattle.std.specs.Prelude.{if◌then◌else◌, is_some, length}
+use Rattle.std.specs.Prelude.{ℕ, ◌==◌, Bool, true, false, not, List, [], Some, None, codes}
+use Rattle.std.specs.Prelude.{is_some, length}
 use Rattle.std.proofs.{Common.refl}
 use Rattle.texting_robots.specs.{Callers.Allow, declared.labels.Membership.Membership}
-use Rattle.texting_robots.specs.Callers.{CrawlDelay, Disallow, LineValue, Label, Raw, Sitemap, UserAgent}
+use Rattle.texting_robots.specs.Callers.{CrawlDelay, Disallow, LineValue, Raw, Sitemap, UserAgent}
 use Rattle.texting_robots.specs.declared.labels.Membership.TheVariants.{Other, Ungrouped, Own}
 use Rattle.robots_warnings.specs.{Contents.comment_of as comment_in, File.is_blank}
-use Rattle.printable_text.specs.Text.{Label as Front, PartValue, ReportLine, Untrusted, line_from, value_text}
-use Rattle.printable_text.specs.Text.{Absent, Aligned, Column, Delay, Nothing, Part, Value, label, only, word}
+use Rattle.printable_text.specs.Text.{Label as Front, Untrusted, value_text}
+use Rattle.printable_text.specs.Text.{Delay, Nothing, Value, label, word}
 
 -- a line that isn't a directive
 abbrev pub raw_kind : (is_blank : Bool) → Front

@@ -4,8 +4,8 @@ use Rattle.std.specs.Prelude.{ℕ, Bool, true, false, List, [], ◌∷◌, ◌++
 use Rattle.std.proofs.Common.{refl}
 use Rattle.audit_core.specs.declared.group.Group.{Group}
 use Rattle.audit_core.specs.declared.group.Group.TheVariants.{Everyone, Named, Nobody, Star}
-use Rattle.printable_text.specs.Text.{Absent, Delay, Fixed, Number, Part, PartValue, ReportLine, Untrusted}
-use Rattle.printable_text.specs.Text.{Value, label, line_from, only, parts_text, value_text, word}
+use Rattle.printable_text.specs.Text.{Absent, Delay, Fixed, Number, Part, PartValue, Untrusted}
+use Rattle.printable_text.specs.Text.{Value, label, only, parts_text, value_text, word}
 use Rattle.robots_warnings.specs.declared.closed.Reach.{Reach}
 use Rattle.robots_warnings.specs.declared.closed.Reach.TheVariants as reach
 

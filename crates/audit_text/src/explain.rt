@@ -1,6 +1,6 @@
 //! The list of all warnings, and the explanation of one.
 ghost use Rattle.std.specs.Prelude.{◌≡◌, ◌==◌, IfErr, IfOk, true};
-ghost use Rattle.robots_warnings.specs.Table.{is_name, number_of};
+ghost use Rattle.robots_warnings.specs.Table.{is_name};
 ghost use Rattle.audit_text.specs.Explain.{IsUnexplained};
 
 use crate::conditions::{Named, conditions, corrections, theorems};

@@ -1,8 +1,8 @@
 -- Messages and reports are printable.
 use Rattle.std.specs.Prelude.{IfOk}
 use Rattle.std.proofs.Common.{◌≡◌, ℕ, ◌+◌, ◌<◌, ◌||◌, List, Some, Result, Ok, Err, drop, length, refl, Bool}
-use Rattle.std.proofs.Common.{slice_index_or, true, false, [], inl, inr, Option, None, string_bytes, ◌∙◌, ap}
-use Rattle.std.proofs.Common.{codes, subst, sym, ◌++◌, map}
+use Rattle.std.proofs.Common.{slice_index_or, true, [], inl, inr, Option, None, string_bytes, ◌∙◌, ap}
+use Rattle.std.proofs.Common.{codes, subst, sym, map}
 use Rattle.std.proofs.{lemmas.List.drop_more, lemmas.Simd.map-map}
 use Rattle.printable_text.specs.{declared.level.Level.Level, Sanitize.IsPrintable}
 use Rattle.printable_text.specs.Text.{reaches, IsShownReport}

@@ -39,7 +39,7 @@ use command::{check_files, command, file_read, format_of, requested};
 use printable_text::report::Report;
 use program::{audited, comparison, expectations, given_name, unread};
 use robots_io::streams::{ReadFault, read_all};
-use std::alloc::{AllocError, Global};
+use std::alloc::Global;
 use std::fs::File;
 use std::io::ErrorKind;
 use std::process::ExitCode;

@@ -1,6 +1,6 @@
 -- A plain value, as `/a/b-2`, has none of the warnings about values of rules.
 use Rattle.std.specs.Prelude.{nat_eq, nat_le, not}
-use Rattle.std.proofs.Common.{◌≡◌, ◌∙◌, ℕ, zero, suc, ◌==◌, ◌<◌, ◌&&◌, Bool, true, false, List, [], ◌∷◌, ap}
+use Rattle.std.proofs.Common.{◌≡◌, ◌∙◌, ℕ, zero, suc, ◌==◌, ◌<◌, Bool, true, false, List, [], ◌∷◌, ap}
 use Rattle.std.proofs.Common.{Option, None, arith, bytes_eq, codes, drop, inl, inr, length, refl, subst, sym}
 use Rattle.std.proofs.Common.{slice_index, take}
 use Rattle.std.specs.{Char.to_ascii_lowercase, List.AllByRecursion as Each, List.ends_with, List.list_all}
@@ -12,7 +12,7 @@ use Rattle.std.proofs.lemmas.Bool.{and_parts, cases_Bool, eqb-true, false≢true
 use Rattle.std.proofs.lemmas.{Bool.Decides.nat_tests, Slice.Eq.bytes_eq-Decides}
 use Rattle.std.proofs.lemmas.List.{drop_all, take_all}
 use Rattle.std.proofs.lemmas.Str.{IsUtf8-from_ascii, is_utf8-from_IsUtf8}
-use Rattle.robots_warnings.specs.{Internal.Plain.is_plain, Internal.Plain.is_plain_byte, Message.WarningValue}
+use Rattle.robots_warnings.specs.{Internal.Plain.is_plain, Internal.Plain.is_plain_byte}
 use Rattle.robots_warnings.specs.Rules.{after_byte, before_byte, begins_dot_segment, begins_host, from_first}
 use Rattle.robots_warnings.specs.Rules.{begins_lone_percent, begins_quote, begins_sign, begins_wildcard, has}
 use Rattle.robots_warnings.specs.Rules.{has_any, has_odd_character, has_quote_at_end, holds_otherwise}

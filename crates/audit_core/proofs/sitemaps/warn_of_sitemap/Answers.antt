@@ -1,5 +1,4 @@
 use Rattle.std.proofs.Common.{append-nil, ap, refl, sym, ◌++◌, ◌∙◌, ◌∷◌, []}
-use Rattle.robots_warnings.specs.{Message.WarningValue}
 use Rattle.audit_core.proofs.AuditLemmas.{none_added}
 use Rattle.audit_core.proofs.sitemaps.warn_of_sitemap.Goals as goal
 
