@@ -8,7 +8,7 @@ ghost use Rattle.robots_warnings.specs.Closed.{denies, is_lacking, is_partial, i
 ghost use Rattle.robots_warnings.specs.Closed.{replacing, star_rules};
 ghost use Rattle.robots_warnings.specs.{File.lines_of, Positions.begin_with_one};
 ghost use Rattle.robots_warnings.specs.Internal.Names.{Key, key_cmp};
-ghost use Rattle.robots_warnings.specs.Internal.Rules.{HasDenied, HasThose, is_kept_in};
+ghost use Rattle.robots_warnings.specs.Internal.Rules.{HasDenied, HasThose, is_kept_in, is_other_name};
 
 use crate::closed::is_whole_site;
 use crate::names::{Names, add_name};
@@ -180,6 +180,22 @@ fn is_replacing(
     Ok(begin_with_one(alloc, names, from_here)? && !name_star(from_here))
 }
 
+fn is_other_name(labeled: &LabeledLine<'_>) -> bool
+    ensures { result ≡ is_other_name (by_value labeled.now.line) }
+{
+    match labeled.line {
+        Line::UserAgent(value) => value != b"*".as_slice(),
+        _ => false,
+    }
+}
+
+/// Whether a user-agent line has another name than `*`.
+fn has_other_name(labels: &[LabeledLine<'_>]) -> bool
+    ensures { result ≡ list_any (λ labeled. is_other_name (by_value labeled.line)) labels.now }
+{
+    labels.iter().any(is_other_name)
+}
+
 /// `star` are the rules of `*`.
 pub(crate) fn replacing(
     alloc: Global,
@@ -194,6 +210,9 @@ pub(crate) fn replacing(
 {
     let mut found = Vec::new(alloc);
     if !has_partial(star) {
+        return Ok(found);
+    }
+    if !has_other_name(labels) {
         return Ok(found);
     }
     let names = lacking(alloc, site, star, agents)?;
