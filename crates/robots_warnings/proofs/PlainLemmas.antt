@@ -165,11 +165,11 @@ all_lowered (b ∷ text) plain =
 other_front : (front text : List ℕ) → are_plain (str_to_ascii_lowercase front) ≡ false
     → are_plain text ≡ true → begins_in_any_case front text ≡ false
 other_front front text other plain =
-    let begin = str_to_ascii_lowercase (take (length front) text) in
-    let end = str_to_ascii_lowercase front in
-    elim (cases_Bool (bytes_eq begin end)) [
+    let one = str_to_ascii_lowercase (take (length front) text) in
+    let two = str_to_ascii_lowercase front in
+    elim (cases_Bool (bytes_eq one two)) [
       | inl same ↦
-          let is = (bytes_eq-Decides begin end).0 same in
+          let is = (bytes_eq-Decides one two).0 same in
           absurd (false≢true (sym other ∙ ap are_plain (sym is) ∙ all_lowered _ (taken _ text plain)))
       | inr differs ↦ differs
     ]

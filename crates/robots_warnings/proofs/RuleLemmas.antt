@@ -162,5 +162,5 @@ pub nothing_replaced : (agents : List (List ℕ)) (lines : List LineValue) (labe
     → replacing agents lines (map label_by_value labels) ≡ []
 nothing_replaced agents lines labels none = elim (cases_Bool (list_any is_partial (star_rules lines))) [
   | inl some ↦ rw some (none_replacing agents lines Other labels none)
-  | inr none ↦ rw none refl
+  | inr isnt ↦ rw isnt refl
 ]
