@@ -1,12 +1,10 @@
 //! The rows of a report: one for each line of the file.
 ghost use Rattle.std.specs.Prelude.{◌≡◌, ◌++◌, OnOk, string_bytes};
 ghost use Rattle.texting_robots.specs.Callers.{by_value};
-ghost use Rattle.printable_text.specs.{Raw.raw_value, Text.value_text};
-ghost use Rattle.audit_core.specs.Rows.{comment_of, has_value, kind_text, line_value, line_value_text, membership_word};
+ghost use Rattle.audit_core.specs.Rows.{comment_of, has_value, kind_text, line_value_text, membership_word};
 
 use itoa::Buffer;
 use printable_text::delay::{Delay, push_delay_text};
-use printable_text::parts::Value;
 use printable_text::report::{Report, Untrusted};
 use printable_text::sanitize::push_sanitized;
 use robots_warnings::contents::split_content;
@@ -52,21 +50,6 @@ pub fn has_value(line: Line<'_>) -> bool
         | Line::Sitemap(value)
         | Line::Raw(value) => !value.is_empty(),
         Line::CrawlDelay(delay) => delay.is_some(),
-    }
-}
-
-/// A delay in seconds, any other value sanitized.
-pub fn line_value<'a>(line: Line<'a>) -> Value<'a>
-    ensures { raw_value result ≡ value_text (line_value (by_value line.entry)) }
-{
-    match line {
-        Line::UserAgent(value)
-        | Line::Allow(value)
-        | Line::Disallow(value)
-        | Line::Sitemap(value)
-        | Line::Raw(value) => Value::Untrusted(value),
-        Line::CrawlDelay(Some(micros)) => Value::Delay(micros),
-        Line::CrawlDelay(None) => Value::Nothing,
     }
 }
 

@@ -20,7 +20,7 @@ use Rattle.bstr.proofs.lemmas.{EncodeLemmas.decoded-encode, SoundLemmas.SpellsCh
 use Rattle.texting_robots.specs.Escape.{escape_byte, escaped, is_escaped}
 use Rattle.printable_text.specs.Sanitize.{IsPrintable, IsPrintableIn, has_command, is_printable, safe_chunk}
 use Rattle.printable_text.specs.Sanitize.{is_printable_byte, safe_chunks, safe_in, sanitized, sanitized_in}
-use Rattle.printable_text.specs.Sanitize.{sanitized_lines, without_commands, without_hash}
+use Rattle.printable_text.specs.Sanitize.{without_commands, without_hash}
 use lib.Utf8.{scalar}
 
 pub ended-append : (lines more : List (List ℕ)) → ended (lines ++ more) ≡ ended lines ++ ended more
@@ -255,6 +255,3 @@ line_printable text is = record { utf8 = is.utf8; all = with_lines (chars text) 
 
 pub sanitized_printable : (bytes : List ℕ) → IsPrintable (sanitized bytes)
 sanitized_printable bytes = line_printable (sanitized bytes) (sanitized_in_printable false bytes)
-
-pub sanitized_lines_printable : (bytes : List ℕ) → IsPrintable (sanitized_lines bytes)
-sanitized_lines_printable = sanitized_in_printable true

@@ -2,7 +2,7 @@
 ghost use Rattle.std.specs.Prelude.{◌≡◌, ◌++◌, OnOk, encode_utf8_all, flat_map, string_bytes};
 ghost use Rattle.std.specs.{List.list_all, Str.chars, Io.StartsWith};
 ghost use Rattle.printable_text.specs.Sanitize.{has_command, is_printable, is_printable_byte, safe_chunk};
-ghost use Rattle.printable_text.specs.Sanitize.{safe_in, sanitized, sanitized_in, sanitized_lines, turns_text};
+ghost use Rattle.printable_text.specs.Sanitize.{safe_in, sanitized, sanitized_in, turns_text};
 ghost use Rattle.printable_text.specs.Sanitize.{without_commands, without_hash};
 
 use bstr::decode_utf8;
@@ -147,12 +147,4 @@ pub fn push_sanitized(text: &mut String, bytes: &[u8]) -> Result<(), AllocError>
     ensures kept { StartsWith (string_bytes text.new) (string_bytes text.old) }
 {
     push_sanitized_in(text, bytes, false)
-}
-
-/// The text may have several lines.
-pub fn push_sanitized_lines(text: &mut String, bytes: &[u8]) -> Result<(), AllocError>
-    ensures added { OnOk result (string_bytes text.new ≡ string_bytes text.old ++ sanitized_lines bytes.now) }
-    ensures kept { StartsWith (string_bytes text.new) (string_bytes text.old) }
-{
-    push_sanitized_in(text, bytes, true)
 }

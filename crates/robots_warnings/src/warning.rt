@@ -2,7 +2,7 @@
 ghost use Rattle.std.specs.Prelude.{◌≡◌, ◌++◌, OnOk, option_map, string_bytes};
 ghost use Rattle.printable_text.specs.{Raw.raw_line, Raw.raw_text, Text.part_text, Text.parts_text};
 ghost use Rattle.robots_warnings.specs.Message.{about_part, detail_end, detail_part, message_parts};
-ghost use Rattle.robots_warnings.specs.Message.{reason_part, reported_parts, warning_text};
+ghost use Rattle.robots_warnings.specs.Message.{reason_part, warning_text};
 
 use crate::crawlers::row_at;
 use crate::table::Cause;
@@ -138,27 +138,6 @@ pub fn push_warning_text(text: &mut String, warning: &Warning<'_>) -> Result<(),
         ++ warning_text warning.now) }
 {
     push_parts(text, &message_parts(warning))
-}
-
-fn reported_parts<'a>(warning: &Warning<'a>) -> [Part<'a>; 6]
-    ensures { raw_line result ≡ parts_text (reported_parts warning.now) }
-{
-    [
-        about_part(warning.cause, warning.about),
-        reason_part(warning.cause, warning.about),
-        detail_part(warning.detail),
-        detail_end(warning.detail),
-        Part(" [", Value::Word(warning.cause.name())),
-        Part("]", Value::Nothing),
-    ]
-}
-
-/// Appends the message and the name of a warning.
-pub fn push_reported(text: &mut String, warning: &Warning<'_>) -> Result<(), AllocError>
-    ensures { OnOk result (string_bytes text.new ≡ string_bytes text.old
-        ++ parts_text (reported_parts warning.now)) }
-{
-    push_parts(text, &reported_parts(warning))
 }
 
 impl fmt::Display for Detail {
