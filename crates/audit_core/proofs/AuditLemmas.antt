@@ -3,10 +3,10 @@ use Rattle.std.proofs.Common.{◌≡◌, ℕ, ◌||◌, Bool, true, false, List,
 use Rattle.std.proofs.Common.{if◌then◌else◌, subst, sym, ⊎_elim, ◌∙◌, ◌+◌, ◌<◌, ◌==◌, arith, drop, flat_map}
 use Rattle.std.proofs.Common.{length, map, slice_index_or, zip, append_assoc, None, Option, take}
 use Rattle.std.proofs.Common.{Some, codes, inl, inr, is_some}
-use Rattle.std.specs.{BTreeSet.BTreeSet, List.AllByRecursion as Each, List.AllZip, List.list_any}
+use Rattle.std.specs.{BTreeSet.BTreeSet, List.AllZip, List.list_any}
 use Rattle.std.specs.Str.{is_utf8, str_to_ascii_lowercase}
 use Rattle.std.proofs.Math.{Bool.or-false}
-use Rattle.std.proofs.lemmas.Bool.{cases_Bool, false≢true, Decides.nat_tests, Decides.Decides-eqb}
+use Rattle.std.proofs.lemmas.Bool.{cases_Bool, false≢true, Decides.Decides-eqb}
 use Rattle.std.proofs.lemmas.{Slice.Eq.bytes_eq-Decides, List.Elements.filter_map-append}
 use Rattle.std.proofs.lemmas.List.{append-nil, drop_more, map-append, take_more, Concat.flat_map-append}
 use Rattle.texting_robots.specs.Callers.{label_by_value, sitemaps_in, IsDelayFor, placed_rules}
@@ -18,7 +18,6 @@ use Rattle.texting_robots.specs.declared.labels.{LabeledLine.LabeledLine}
 use Rattle.robots_warnings.specs.Internal.Names.{AddsName, Key}
 use Rattle.audit_core.specs.Internal.Agents.{AddsAgent, HasAgents, has_lowered}
 use Rattle.robots_warnings.proofs.{ClosedLemmas.any_last}
-use Rattle.printable_text.specs.{Lines.ended}
 use Rattle.robots_warnings.specs.{Closed.line_closing, File.lines_of}
 use Rattle.audit_core.specs.Audit.{AreOfSitemaps, IsRuling, IsVerdictOn, VerdictValue, all_sitemaps}
 use Rattle.audit_core.specs.Audit.{sitemap_at, sitemap_warning, sitemaps_asked}
@@ -73,11 +72,6 @@ agent_added {old_met} {new_met} {old} {new} {name} {is_new} utf8 adds added =
             ∙ ap (λ names. has_lowered key.items names) (sym (grown has));
       };
     }
-
-pub lines_empty : (lines : List (List ℕ)) → (length (ended lines) == 0) ≡ (length lines == 0)
-lines_empty [] = refl
-lines_empty ([] ∷ lines) = grind (arith, nat_tests)
-lines_empty ((b ∷ line) ∷ lines) = grind (arith, nat_tests)
 
 pub sitemaps_next : (labels : List LabeledLine) (at : ℕ) (labeled : LabeledLine) → at < length labels
     → sitemaps_in (lines_of (map label_by_value (drop at labels)))
@@ -154,11 +148,6 @@ pub sitemaps_more : (labels : List LabeledLine) (at : ℕ) (labeled : LabeledLin
     ++ sitemap_at (slice_index_or labels at labeled).number (by_value (slice_index_or labels at labeled).line)
 sitemaps_more labels at labeled below =
     rw (take_more labels at labeled below) (simp (map-append, flat_map-append, append-nil))
-
-pub each_map : {X : Type 0} (P : List ℕ → Type 0) (f : X → List ℕ) → ((x : X) → P (f x)) → (xs : List X)
-    → Each P (map f xs)
-each_map P f are [] = tt
-each_map P f are (x ∷ xs) = (are x, each_map P f are xs)
 
 pub some_length : {X : Type 0} (x : X) (xs : List X) → (length (x ∷ xs) == 0) ≡ true → ⊥
 some_length x xs is = let none : length (x ∷ xs) ≡ 0 = (Decides-eqb (length (x ∷ xs)) 0).0 is in omega arith

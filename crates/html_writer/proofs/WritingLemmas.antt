@@ -1,10 +1,10 @@
 -- Writing trees, and reading them back.
 use Rattle.std.specs.Prelude.{if◌then◌else◌}
-use Rattle.std.proofs.Common.{ℕ, zero, suc, ◌/◌, ◌%◌, ◌<◌, ◌==◌, false, List, [], ◌∷◌, ◌++◌, ap, arith, refl}
-use Rattle.std.proofs.Common.{decimal, flat_map, ◌≡◌, ◌∙◌, Bool, append_assoc, not, true, ◌&&◌, Some, codes}
+use Rattle.std.proofs.Common.{ℕ, ◌/◌, ◌<◌, ◌==◌, false, List, [], ◌∷◌, ◌++◌, ap, arith, refl}
+use Rattle.std.proofs.Common.{flat_map, ◌≡◌, ◌∙◌, Bool, append_assoc, not, true, ◌&&◌, Some, codes}
 use Rattle.std.proofs.Common.{inl, inr, map-id, subst, sym}
-use Rattle.std.specs.{Fmt.digit_glyph, Fmt.digits, Fmt.digits_onto, Bool.IsTrue, List.list_all}
-use Rattle.std.proofs.lemmas.Bool.{cond_both, Decides.nat_tests, and_parts, cases_Bool, eqb-true, not-true}
+use Rattle.std.specs.{Bool.IsTrue, List.list_all}
+use Rattle.std.proofs.lemmas.Bool.{Decides.nat_tests, and_parts, cases_Bool, eqb-true, not-true}
 use Rattle.std.proofs.lemmas.{Grind.flat_map-append, Slice.Eq.bytes_eq-Decides}
 use Rattle.html_writer.specs.Html.{escaped, escaped_byte, escaped_bytes, AreAttributes, Attribute, Html, text}
 use Rattle.html_writer.specs.Html.{IsContent, element, is_title, style, void, with_text, written, ◌⊕◌, IsHtml}
@@ -40,29 +40,6 @@ escaped_same bytes are = escaped-is bytes ∙ each_same bytes are
 pub escaped-append : (one two : List ℕ) → escaped (one ++ two) ≡ escaped one ++ escaped two
 escaped-append one two =
     rw (escaped-is (one ++ two), escaped-is one, escaped-is two) (flat_map-append escaped_byte one two)
-
-pub decimal_written : (n : ℕ) → escaped (decimal n) ≡ decimal n
-unfolding digits
-decimal_written n = escaped-is (decimal n) ∙ onto 64 n [] refl
-  where
-    unchanged : (byte : ℕ) → 47 < byte → byte < 58 → escaped_byte byte ≡ byte ∷ []
-    unchanged byte low high = grind (arith, nat_tests)
-
-    glyph : (digit : ℕ) → digit < 10 → escaped_byte (digit_glyph false digit) ≡ digit_glyph false digit ∷ []
-    glyph digit below =
-        let low : 47 < digit_glyph false digit = grind (arith, nat_tests) in
-        let high : digit_glyph false digit < 58 = grind (arith, nat_tests) in
-        unchanged (digit_glyph false digit) low high
-
-    onto : (k n : ℕ) (tail : List ℕ) → flat_map escaped_byte tail ≡ tail
-        → flat_map escaped_byte (digits_onto k 10 false n tail) ≡ digits_onto k 10 false n tail
-    onto zero n tail is = is
-    onto (suc k) n tail is =
-        let digit = digit_glyph false (n % 10) in
-        let more : flat_map escaped_byte (digit ∷ tail) ≡ digit ∷ tail =
-        rw (glyph (n % 10) (omega arith)) (ap (λ (t : List ℕ). digit ∷ t) is) in
-        cond_both (n / 10 == 0) (digit ∷ tail) (digits_onto k 10 false (n / 10) (digit ∷ tail))
-        (λ t. flat_map escaped_byte t ≡ t) (λ _. more) (λ _. onto k (n / 10) (digit ∷ tail) more)
 
 -- ---- Trees one after the other, what is written for them, and when they can be read back.
 

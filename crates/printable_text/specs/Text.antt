@@ -6,7 +6,6 @@ use Rattle.printable_text.specs.declared.level.Level.TheVariants.{Error, Note, W
 use Rattle.std.specs.{Str.byte, List.AllByRecursion as Each, List.list_all}
 use Rattle.printable_text.specs.Sanitize.{IsPrintableIn, has_command, IsPrintable, begins_apart, ends_apart}
 use Rattle.printable_text.specs.Sanitize.{is_printable_byte, sanitized}
-use Rattle.std.proofs.{Common.refl}
 
 abbrev pub level_word : Level → List ℕ
 level_word Error = codes "error"
@@ -77,11 +76,6 @@ pub record IsColored (plain text : List ℕ) : Type 0 where
   pub text_is : text ≡ flat_map (λ part. part.0) parts
   pub plain_is : plain ≡ flat_map (λ part. part.1) parts
 
--- printable or, if there are colors, printable parts and colored words
-abbrev pub IsForTerminal : (has_colors : Bool) → List ℕ → Type 0
-IsForTerminal false text = IsPrintable text
-IsForTerminal true text = (plain : List ℕ) × IsColored plain text
-
 -- `shown` shows the text up to `rest`
 pub record IsColoredTo (text rest shown : List ℕ) : Type 0 where
   pub plain : List ℕ
@@ -106,14 +100,6 @@ is_fixed text = list_all (is_printable_byte false) text && (begins_apart text &&
 pub record Fixed : Type 0 where
   pub text : List ℕ
   pub safe : is_fixed text ≡ true
-
-pub level_safe : (level : Level) → is_fixed (level_word level) ≡ true
-level_safe Error = refl
-level_safe Warning = refl
-level_safe Note = refl
-
-abbrev pub fixed_level : Level → Fixed
-fixed_level level = record { text = level_word level; safe = level_safe level }
 
 -- a fixed text that doesn't end with a byte of the start of a command, so that any text can follow
 abbrev pub is_label : List ℕ → Bool
@@ -211,15 +197,3 @@ pub record NamedLine : Type 0 where
 
 abbrev pub named_text : NamedLine → List ℕ
 named_text line = sanitized line.name ++ parts_text line.rest
-
--- as compilers write them: the file's name, the place, and the level, which may be in color
-pub record LevelLine : Type 0 where
-  pub name : List ℕ
-  pub place : PartValue
-  pub level : Level
-  pub rest : List PartValue
-
-abbrev pub level_text : (has_colors : Bool) → LevelLine → List ℕ
-level_text has_colors line =
-    sanitized line.name
-    ++ (part_text line.place ++ ((codes ": " ++ shown_word has_colors line.level) ++ parts_text line.rest))

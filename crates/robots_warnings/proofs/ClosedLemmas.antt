@@ -13,16 +13,14 @@ use Rattle.std.specs.{BTreeSet.Updates, BTreeSet.contains, Str.str_to_ascii_lowe
 use Rattle.texting_robots.specs.Callers.{AreSitemapsOf, HasLines, PlacedRule, escaped, file_lines, sitemaps_in}
 use Rattle.texting_robots.specs.{Escape.is_escaped, Line.AreFileLinesOf, Line.nul_as_lf}
 use Rattle.texting_robots.proofs.Shared.{each_text_has_its_lines, of_lines, sitemaps_are_computed}
-use Rattle.robots_warnings.specs.{Closed.closes, Message.passes_at, Internal.IsRowAt, Internal.Row}
+use Rattle.robots_warnings.specs.{Closed.closes, Internal.IsRowAt, Internal.Row}
 use Rattle.robots_warnings.specs.Closed.{is_anything, is_closing, is_rival, is_star_or_dollar, is_literally}
 use Rattle.robots_warnings.specs.Closed.{is_number, is_root, is_whole_site, opened_path, without_stars}
 use Rattle.robots_warnings.specs.Internal.{Rules.IsNeeded, Names.AddsName, Names.Key, Names.key_cmp, IsAt}
 use Rattle.std.proofs.Math.{Bool.or-false}
 use Rattle.robots_warnings.specs.contracts.table.{Cause.the_type}
 use Rattle.robots_warnings.specs.declared.table.{Cause.Cause, TheConstants.WARNINGS}
-use Rattle.robots_warnings.specs.Table.{all_examples, example_of, number_of, all_causes}
-use Rattle.printable_text.specs.Sanitize.{IsPrintable, is_printable_byte}
-use Rattle.printable_text.proofs.{SanitizeLemmas.ascii_printable}
+use Rattle.robots_warnings.specs.Table.{number_of, all_causes}
 use borrow.Enum.Match.{tag_small}
 use denote.Enum.Bare.{tag_one}
 use native.Mathlib.Nat.{zero-add}
@@ -231,15 +229,6 @@ any_last test xs x =
     list_any-append test xs (x ∷ []) ∙ ap (λ is. list_any test xs || is) (or-false (test x))
 
 -- ---- Examples of warnings contain no control or bidirectional-formatting characters other than LF.
-
-abbrev is_ascii : List ℕ → Bool
-is_ascii text = list_all (is_printable_byte true) text
-
-pub example_printable : (cause : Cause) → IsPrintable (example_of cause)
-unfolding example_of
-example_printable cause =
-    ascii_printable true (example_of cause)
-    (passes_at is_ascii all_examples (number_of cause) (tag_small the_type cause) refl)
 
 -- ---- The rows of the tables of warnings and of their examples.
 
