@@ -2,7 +2,7 @@
 use Rattle.std.specs.Prelude.{if◌then◌else◌, not}
 use Rattle.std.proofs.Common.{◌≡◌, ◌∙◌, ◌==◌, ◌<◌, ◌-◌, ◌*◌, ◌/◌, ◌%◌, ℕ, zero, suc, Bool, true, false, List}
 use Rattle.std.proofs.Common.{[], ◌∷◌, ◌++◌, ap, append-nil, append_assoc, arith, codes, decimal, length, map}
-use Rattle.std.proofs.Common.{inl, inr, refl, replicate, sym, ap₂, flat_map, subst}
+use Rattle.std.proofs.Common.{inl, inr, refl, sym, ap₂, flat_map, subst}
 use Rattle.std.specs.{List.AllByRecursion as Each, List.list_all, Fmt.digit_glyph}
 use Rattle.std.proofs.{lemmas.List.Concat.flat_map-append}
 use Rattle.std.proofs.lemmas.Bool.{and_parts, cases_Bool, ne_eqb, not-true, or_right, Decides.nat_tests}
@@ -10,16 +10,16 @@ use Rattle.printable_text.specs.Sanitize.{IsPrintable, IsPrintableIn, begins_apa
 use Rattle.printable_text.specs.Sanitize.{is_printable_byte, sanitized}
 use Rattle.printable_text.specs.Delay.{delay_text, fraction, million, seconds}
 use Rattle.printable_text.specs.{Text.IsPlainLine, declared.level.Level.Level}
-use Rattle.printable_text.specs.Text.{begins_plainly, starts, Absent, Aligned, Column, Count, Delay, Fixed}
+use Rattle.printable_text.specs.Text.{begins_plainly, starts, Absent, Count, Delay, Fixed}
 use Rattle.printable_text.specs.Text.{Label, Named, NamedLine, Nothing, Number, Only, Part, Value}
-use Rattle.printable_text.specs.Text.{PartValue, ReportLine, Untrusted, Word, is_fixed, blanks}
+use Rattle.printable_text.specs.Text.{PartValue, ReportLine, Untrusted, Word, is_fixed}
 use Rattle.printable_text.specs.Text.{line_text, named_text, part_text, parts_text, starts_line, value_text}
 use Rattle.printable_text.specs.Text.{written, level_word, shown_word, IsColored, IsShownAs}
 use Rattle.printable_text.proofs.CommandLemmas.{IsFront, front_append, front_nil, front_text, IsMiddle, seam}
-use Rattle.printable_text.proofs.CommandLemmas.{after_front, blanks_front, byte_middle, decimal_middle}
+use Rattle.printable_text.proofs.CommandLemmas.{decimal_middle}
 use Rattle.printable_text.proofs.CommandLemmas.{middle_text, sanitized_quiet}
 use Rattle.printable_text.proofs.SanitizeLemmas.{ascii_printable, sanitized_in_printable}
-use Rattle.printable_text.proofs.SanitizeLemmas.{append_printable, blanks_printable, decimal_printable}
+use Rattle.printable_text.proofs.SanitizeLemmas.{append_printable, decimal_printable}
 use Rattle.printable_text.proofs.SanitizeLemmas.{decimal_by, ended_printable, line_printable, nil_printable}
 use Rattle.printable_text.specs.declared.level.Level.TheVariants.{Error, Note, Warning}
 use Rattle.texting_robots.proofs.Shared.{each_append}
@@ -142,23 +142,11 @@ value_quiet (Delay micros) = (delay_front micros).quiet
 number_apart : (number : ℕ) → IsApart (decimal number)
 number_apart number = record { after = λ less quiet. ((decimal_middle number).after less quiet).quiet }
 
-blanks_apart : (n : ℕ) → IsApart (blanks n)
-blanks_apart zero = nil_apart
-blanks_apart (suc n) =
-    middle_apart (codes " ") (blanks n) (byte_middle 32 refl) (blanks_front n).quiet
-
 part_apart : (part : PartValue) → IsApart (part_text part)
 part_apart Absent = nil_apart
 part_apart (Part front value) = middle_apart front.text _ (label_middle front) (value_quiet value)
 part_apart (Only fixed) = rw (append-nil fixed.text) (fixed_apart fixed)
-part_apart (Column width front value) =
-    let space = width - length front.text in
-    middle_apart front.text _ (label_middle front)
-    (after_front (blanks space) (value_text value) (blanks_front space) (value_quiet value))
 part_apart (Count number) = number_apart number
-part_apart (Aligned width number) =
-    let space = width - length (decimal number) in
-    apart_append (blanks space) (decimal number) (blanks_apart space) (number_apart number)
 
 parts_apart : (parts : List PartValue) → IsApart (parts_text parts)
 parts_apart [] = nil_apart
@@ -170,16 +158,7 @@ part_printable Absent = nil_printable false
 part_printable (Part front value) =
     append_printable false front.text (value_text value) (label_printable front) (value_printable value)
 part_printable (Only fixed) = rw (append-nil fixed.text) (fixed_printable fixed)
-part_printable (Column width front value) =
-    let space = width - length front.text in
-    append_printable false front.text (blanks space ++ value_text value) (label_printable front)
-    (append_printable false (blanks space) (value_text value) (blanks_printable false space)
-    (value_printable value))
 part_printable (Count number) = decimal_printable false number
-part_printable (Aligned width number) =
-    let space = width - length (decimal number) in
-    append_printable false (blanks space) (decimal number) (blanks_printable false space)
-    (decimal_printable false number)
 
 pub parts_printable : (parts : List PartValue) → IsPrintableIn false (parts_text parts)
 parts_printable [] = nil_printable false
@@ -203,10 +182,6 @@ starts_append (b ∷ one) two is = elim (cases_Bool (b == 32)) [
   | inr other ↦ rw other (rw other at is)
 ]
 
-starts_blanks : (n : ℕ) (text : List ℕ) → starts text ≡ true → starts (replicate n 32 ++ text) ≡ true
-starts_blanks zero text is = is
-starts_blanks (suc n) text is = starts_blanks n text is
-
 starts_digit : (digit : ℕ) (text : List ℕ) → digit < 10 → starts (digit_glyph false digit ∷ text) ≡ true
 starts_digit digit text below =
     let visible : (digit_glyph false digit == 32) ≡ false = grind (arith, nat_tests) in
@@ -222,11 +197,7 @@ part_starts : (part : PartValue) → starts_line part ≡ true → starts (part_
 part_starts Absent is = absurd (cc)
 part_starts (Part front value) is = starts_append front.text (value_text value) is
 part_starts (Only fixed) is = starts_append fixed.text (value_text Nothing) is
-part_starts (Column width front value) is =
-    starts_append front.text (blanks (width - length front.text) ++ value_text value) is
 part_starts (Count number) is = starts_decimal number
-part_starts (Aligned width number) is =
-    starts_blanks (width - length (decimal number)) (decimal number) (starts_decimal number)
 
 pub line_plain : (line : ReportLine) → IsPlainLine (line_text line)
 line_plain line =

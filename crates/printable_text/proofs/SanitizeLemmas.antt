@@ -2,7 +2,6 @@
 use Rattle.std.proofs.Common.{◌≡◌, ℕ, ◌≤◌, List, [], ◌∷◌, ◌++◌, sym, ap, ◌∙◌, append_assoc, arith, drop, take}
 use Rattle.std.proofs.Common.{length, zero, suc, ◌<◌, ◌/◌, ◌%◌, ◌==◌, nat_lt, Bool, true, false, Option, Some}
 use Rattle.std.proofs.Common.{None, codes, decimal, flat_map, get_or, inl, inr, length-append, refl, subst}
-use Rattle.std.proofs.Common.{replicate}
 use Rattle.std.specs.{Io.StartsWith, Bool.IsTrue, Char.IsScalar, Char.encode_utf8, Str.chars, Str.IsAscii}
 use Rattle.std.specs.{Str.all_scalars, Str.encode_utf8_all, List.AllByRecursion as Each, List.list_all}
 use Rattle.std.specs.Fmt.{digit_glyph, digits, digits_onto}
@@ -114,11 +113,6 @@ module _ (has_lines : Bool) where
       → (xs : List X) → IsPrintableIn has_lines (flat_map f xs)
   flat_printable f are [] = nil_printable
   flat_printable f are (x ∷ xs) = append_printable (f x) (flat_map f xs) (are x) (flat_printable f are xs)
-
-  pub blanks_printable : (n : ℕ) → IsPrintableIn has_lines (replicate n 32)
-  blanks_printable zero = nil_printable
-  blanks_printable (suc n) =
-      append_printable (32 ∷ []) (replicate n 32) (ascii_printable (32 ∷ []) refl) (blanks_printable n)
 
   glyph : (upper : Bool) (digit : ℕ) → digit < 16
       → is_printable_byte has_lines (digit_glyph upper digit) ≡ true

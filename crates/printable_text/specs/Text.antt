@@ -1,6 +1,6 @@
 -- Lines as data, their parts, levels and colors.
 use Rattle.std.specs.Prelude.{ℕ, Bool, true, false, List, codes, ◌≡◌, ◌==◌, not, IsTrue, [], ◌∷◌, ◌⊎◌}
-use Rattle.std.specs.Prelude.{if◌then◌else◌, ◌++◌, flat_map, ◌-◌, ◌&&◌, decimal, length, map, replicate}
+use Rattle.std.specs.Prelude.{if◌then◌else◌, ◌++◌, flat_map, ◌&&◌, decimal, length, map}
 use Rattle.printable_text.specs.{declared.level.Level.Level, Lines.ended, Delay.delay_text}
 use Rattle.printable_text.specs.declared.level.Level.TheVariants.{Error, Note, Warning}
 use Rattle.std.specs.{Str.byte, List.AllByRecursion as Each, List.list_all}
@@ -136,9 +136,6 @@ value_text (Named name) = shown_name name
 value_text (Number number) = decimal number
 value_text (Delay micros) = delay_text micros
 
-abbrev pub blanks : ℕ → List ℕ
-blanks n = replicate n (byte " ")
-
 pub data PartValue : Type 0 where
   -- nothing
   Absent : PartValue
@@ -146,20 +143,13 @@ pub data PartValue : Type 0 where
   Part : Label → Value → PartValue
   -- a fixed text that nothing follows
   Only : Fixed → PartValue
-  -- with spaces after the label up to this column
-  Column : ℕ → Label → Value → PartValue
   Count : ℕ → PartValue
-  -- right-aligned within this width
-  Aligned : ℕ → ℕ → PartValue
 
 abbrev pub part_text : PartValue → List ℕ
 part_text Absent = []
 part_text (Part front value) = front.text ++ value_text value
 part_text (Only fixed) = fixed.text ++ value_text Nothing
-part_text (Column width front value) =
-    front.text ++ (blanks (width - length front.text) ++ value_text value)
 part_text (Count number) = decimal number
-part_text (Aligned width number) = blanks (width - length (decimal number)) ++ decimal number
 
 abbrev pub only : (text : List ℕ) → is_fixed text ≡ true → PartValue
 only text is = Only (record { text = text; safe = is })
@@ -172,9 +162,7 @@ abbrev pub starts_line : PartValue → Bool
 starts_line Absent = false
 starts_line (Part front value) = starts front.text
 starts_line (Only fixed) = starts fixed.text
-starts_line (Column width front value) = starts front.text
 starts_line (Count number) = true
-starts_line (Aligned width number) = true
 
 pub record ReportLine : Type 0 where
   pub first : PartValue
