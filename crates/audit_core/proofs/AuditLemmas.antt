@@ -10,7 +10,8 @@ use Rattle.std.proofs.lemmas.Bool.{cases_Bool, false≢true, Decides.Decides-eqb
 use Rattle.std.proofs.lemmas.{Slice.Eq.bytes_eq-Decides, List.Elements.filter_map-append}
 use Rattle.std.proofs.lemmas.List.{append-nil, drop_more, map-append, take_more, Concat.flat_map-append}
 use Rattle.texting_robots.specs.Callers.{label_by_value, sitemaps_in, IsDelayFor, placed_rules}
-use Rattle.texting_robots.specs.Callers.{AnswerAlike, IsRobotWithoutSitemaps, PlacedRule, RobotValue, file_limit}
+use Rattle.texting_robots.specs.Callers.{AnswerAlike, IsRobotWithoutSitemaps, PlacedRule, RobotValue}
+use Rattle.texting_robots.specs.Callers.{file_limit}
 use Rattle.texting_robots.specs.Callers.{UserAgent, by_value, HasLines, LineValue, delay_for, lines_read}
 use Rattle.texting_robots.specs.Callers.{Allow, CrawlDelay, Disallow, IsFirstOverlong, Label, Raw, Sitemap}
 use Rattle.texting_robots.specs.{Agents.is_among, Executable.sitemap_in, Line.is_sitemap}
@@ -108,15 +109,15 @@ without_sitemaps lines labels none = elim (cases_Bool (is_some (line_closing lin
 pub none_added : (rules : List PlacedRule) (found : List WarningValue) → AddsSitemaps rules [] found found
 none_added rules found = record { verdicts = []; are = tt; added = sym (append-nil found) }
 
-zips_joined : {A B : Type 0} (R : A → B → Type 0) (xs : List A) (ys : List B) (more : List A) (others : List B)
-    → AllZip R xs ys → AllZip R more others → AllZip R (xs ++ more) (ys ++ others)
+zips_joined : {A B : Type 0} (R : A → B → Type 0) (xs : List A) (ys : List B) (more : List A)
+    (others : List B) → AllZip R xs ys → AllZip R more others → AllZip R (xs ++ more) (ys ++ others)
 zips_joined R [] [] more others are too = too
 zips_joined R [] (y ∷ ys) more others are too = absurd are
 zips_joined R (x ∷ xs) [] more others are too = absurd are
 zips_joined R (x ∷ xs) (y ∷ ys) more others are too = (are.0, zips_joined R xs ys more others are.1 too)
 
-warnings_joined : (rules : List PlacedRule) (one two : List (ℕ × List ℕ)) (verdicts others : List VerdictValue)
-    → AllZip (IsVerdictOn rules) (map (λ sitemap. sitemap.1) one) verdicts
+warnings_joined : (rules : List PlacedRule) (one two : List (ℕ × List ℕ))
+    (verdicts others : List VerdictValue) → AllZip (IsVerdictOn rules) (map (λ sitemap. sitemap.1) one) verdicts
     → warnings_of (one ++ two) (verdicts ++ others) ≡ warnings_of one verdicts ++ warnings_of two others
 warnings_joined rules [] two [] others are = refl
 warnings_joined rules [] two (verdict ∷ verdicts) others are = absurd are

@@ -32,7 +32,8 @@ use Rattle.rfc9309_laws.specs.declared.conformance.Conformance.{Conformance}
 use Rattle.rfc9309_laws.specs.declared.conformance.Conformance.TheVariants.{OtherFile, OtherLine, Syntax}
 use Rattle.rfc9309_laws.specs.declared.conformance.Conformance.TheVariants.{Verdicts}
 use Rattle.audit_json.specs.Json.{finding_json, findings_json, findings_text, sanitized_json, text_json}
-use Rattle.audit_json.specs.Json.{agent_json, audit_json, fault_json, group_word, number_json, verdict_json, warning_json}
+use Rattle.audit_json.specs.Json.{agent_json, audit_json, fault_json, group_word, number_json, verdict_json}
+use Rattle.audit_json.specs.Json.{warning_json}
 use Rattle.audit_json.specs.Json.{json_text, known_json, line_json, list_json, value_json, word_json}
 use Rattle.std.specs.Str.{IsUtf8, all_scalars, chars, encode_utf8_all}
 use Rattle.std.proofs.lemmas.Str.{chars-encodes, encodes-append, scalars-chars}

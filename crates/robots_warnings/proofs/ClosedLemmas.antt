@@ -10,7 +10,8 @@ use Rattle.std.proofs.lemmas.Bool.{and_parts, cases_Bool, eqb-true, false≢true
 use Rattle.std.proofs.lemmas.{Bool.Decides.nat_tests, Map.Text.is_eq-slice_cmp, Simd.map-map}
 use Rattle.std.specs.{List.filter_map, List.list_all, List.list_any, Str.byte, BTreeSet.BTreeSet}
 use Rattle.std.specs.{BTreeSet.Updates, BTreeSet.contains, Str.str_to_ascii_lowercase, List.range_with_len}
-use Rattle.texting_robots.specs.Callers.{AreSitemapsOf, HasLines, PlacedRule, escaped, file_lines, sitemaps_in}
+use Rattle.texting_robots.specs.Callers.{AreSitemapsOf, HasLines, PlacedRule, escaped, file_lines}
+use Rattle.texting_robots.specs.Callers.{sitemaps_in}
 use Rattle.texting_robots.specs.{Escape.is_escaped, Line.AreFileLinesOf, Line.nul_as_lf}
 use Rattle.texting_robots.proofs.Shared.{each_text_has_its_lines, of_lines, sitemaps_are_computed}
 use Rattle.robots_warnings.specs.{Closed.closes, Internal.IsRowAt, Internal.Row}
@@ -126,7 +127,8 @@ whole_site_stays pattern whole = elim (or_cases (is_anything pattern) _ whole) [
 pub sitemaps_read : (text : List ℕ) (urls : List (List ℕ)) → HasLines text (λ lines. AreSitemapsOf lines urls)
     → urls ≡ sitemaps_in (file_lines text)
 sitemaps_read text urls has =
-    let read : AreFileLinesOf (file_lines text) text = (each_text_has_its_lines (map nul_as_lf text) _).1 refl in
+    let read : AreFileLinesOf (file_lines text) text =
+    (each_text_has_its_lines (map nul_as_lf text) _).1 refl in
     (sitemaps_are_computed (file_lines text) urls).0
     (of_lines text (λ lines. AreSitemapsOf lines urls) has (file_lines text) read)
 

@@ -12,7 +12,8 @@ decision_of-requires c =
 pub returns-clause-ok : goal.returns-clause-ok
 returns-clause-ok c =
     let file = c.args.read.now.bytes.now in
-    decided_normally (bodies_read file) (placed_rules c.args.agent.now (lines_read file)) _ c.in_ok-decision.decision
+    decided_normally (bodies_read file) (placed_rules c.args.agent.now (lines_read file)) _
+    c.in_ok-decision.decision
     (rw (
       c.deref-2.ensures.value,
       c.in_ok-rules-2.ensures,

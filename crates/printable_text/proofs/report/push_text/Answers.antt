@@ -10,4 +10,5 @@ returns-then-are_printable_bytes c =
 
 pub returns : goal.returns
 returns c =
-    safe_added _ _ c.args.text.now c.requires (rw c.as_bytes-2.ensures.value at c.in_ok-push_chunks.ensures.added)
+    safe_added _ _ c.args.text.now c.requires
+    (rw c.as_bytes-2.ensures.value at c.in_ok-push_chunks.ensures.added)
