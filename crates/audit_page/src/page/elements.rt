@@ -1,4 +1,7 @@
 //! Elements that several parts of a page contain.
+ghost use Rattle.std.specs.Prelude.{◌≡◌, true};
+ghost use Rattle.html_writer.specs.Page.{is_tag};
+
 use html_writer::html::Html;
 use printable_text::report::{Line, Untrusted};
 use std::alloc::Global;
@@ -21,7 +24,9 @@ impl Page {
     }
 
     /// An element that contains this text alone.
-    pub(crate) fn element(&mut self, name: &'static str, text: &str) -> fmt::Result {
+    pub(crate) fn element(&mut self, name: &'static str, text: &str) -> fmt::Result
+        requires { is_tag name.now ≡ true }
+    {
         self.html.open(name, &[])?;
         self.html.write_str(text)?;
         self.html.close()

@@ -1,4 +1,7 @@
 //! The verdicts of a page, and what else applies to its crawlers.
+ghost use Rattle.std.specs.Prelude.{◌≡◌, true};
+ghost use Rattle.html_writer.specs.Page.{is_tag};
+
 use crate::page::elements::Page;
 use audit_core::audit::{AgentAudit, Verdict};
 use audit_core::texts::{Applied, DelayOrNone, may_fetch};
@@ -75,14 +78,18 @@ fn fetch_word(agent: &AgentAudit<'_>) -> &'static str {
     }
 }
 
-fn write_fetch(page: &mut Page, name: &'static str, agent: &AgentAudit<'_>) -> fmt::Result {
+fn write_fetch(page: &mut Page, name: &'static str, agent: &AgentAudit<'_>) -> fmt::Result
+    requires { is_tag name.now ≡ true }
+{
     let word = fetch_word(agent);
     page.html.open(name, &[("class", word)])?;
     page.html.write_str(word)?;
     page.html.close()
 }
 
-fn write_fact<D: fmt::Display + Drop>(page: &mut Page, name: &'static str, fact: D) -> fmt::Result {
+fn write_fact<D: fmt::Display + Drop>(page: &mut Page, name: &'static str, fact: D) -> fmt::Result
+    requires { is_tag name.now ≡ true }
+{
     page.html.open(name, &[])?;
     write!(page.html, "{fact}")?;
     page.html.close()
