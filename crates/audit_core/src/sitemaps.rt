@@ -69,10 +69,13 @@ fn asked_about<'a>(alloc: Global, line: Line<'a>) -> Result<Option<&'a str>, All
     let Line::Sitemap(value) = line else {
         return Ok(None);
     };
+    let Some(url) = as_text(value) else {
+        return Ok(None);
+    };
     if !is_absolute_url(alloc, value)? {
         return Ok(None);
     }
-    Ok(as_text(value))
+    Ok(Some(url))
 }
 
 fn warn_of_verdict(
