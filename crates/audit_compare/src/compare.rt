@@ -5,14 +5,15 @@ ghost use Rattle.texting_robots.specs.Callers.{lines_read};
 ghost use Rattle.audit_core.specs.Audit.{agents_requested as specified_agents};
 ghost use Rattle.audit_compare.specs.Compare.{IsCompared, IsComparison, differs_nowhere, has_no_directive};
 ghost use Rattle.audit_compare.specs.Compare.{rejects_some, side_of};
-ghost use Rattle.audit_compare.specs.Internal.Compare.{IsVersion};
+ghost use Rattle.robots_warnings.specs.Read.{IsRead};
 
-use crate::compared::{Compared, Version, compared_for, read_version};
+use crate::compared::{Compared, compared_for};
 use crate::differences::{all_unchanged, is_rejected};
 use crate::sitemaps::sitemaps_only_in;
 use audit_core::agents::agents_requested;
 use audit_core::fault::Fault;
-use robots_warnings::facts::{LineKinds, facts_of};
+use robots_warnings::facts::LineKinds;
+use robots_warnings::read::FileRead;
 use std::alloc::{AllocError, Global};
 use std::marker::Model;
 
@@ -66,14 +67,13 @@ fn has_no_directive(kinds: LineKinds) -> bool
     !(kinds.user_agent || kinds.rule || kinds.extra)
 }
 
-fn side_of<'a>(name: &'a str, version: &Version<'_>) -> Side<'a>
-    requires { IsVersion version.now }
-    ensures { result ≡ side_of name.entry.now version.now.bytes.now }
+fn side_of<'a>(name: &'a str, read: &FileRead<'_>) -> Side<'a>
+    requires { IsRead read.now }
+    ensures { result ≡ side_of name.entry.now read.now.bytes.now }
 {
-    let facts = facts_of(version.bytes, &version.labels);
     Side {
         name,
-        has_no_directive: has_no_directive(facts.kinds),
+        has_no_directive: has_no_directive(read.facts.kinds),
     }
 }
 
@@ -81,11 +81,11 @@ fn side_of<'a>(name: &'a str, version: &Version<'_>) -> Side<'a>
 fn agents_of<'a>(
     alloc: Global,
     agents: &[&'a str],
-    older: &Version<'a>,
-    newer: &Version<'a>,
+    older: &FileRead<'a>,
+    newer: &FileRead<'a>,
 ) -> Result<Vec<&'a str>, AllocError>
-    requires older { IsVersion older.now }
-    requires newer { IsVersion newer.now }
+    requires older { IsRead older.now }
+    requires newer { IsRead newer.now }
     ensures { IfOk result (λ names. map (λ name. name.now) names.items
         ≡ specified_agents (map (λ agent. agent.now) agents.now)
         (lines_read older.now.bytes.now ++ lines_read newer.now.bytes.now)) }
@@ -99,12 +99,12 @@ fn agents_of<'a>(
 fn crawlers_of<'a>(
     alloc: Global,
     agents: &[&'a str],
-    older: &Version<'_>,
-    newer: &Version<'_>,
+    older: &FileRead<'_>,
+    newer: &FileRead<'_>,
     urls: &[&'a str],
 ) -> Result<Vec<Compared<'a>>, Fault>
-    requires older { IsVersion older.now }
-    requires newer { IsVersion newer.now }
+    requires older { IsRead older.now }
+    requires newer { IsRead newer.now }
     ensures ok { IfOk result (λ crawlers. AllZip (IsCompared (map (λ url. url.now) urls.now)
         (lines_read older.now.bytes.now) (lines_read newer.now.bytes.now))
         (map (λ agent. agent.now) agents.now) crawlers.items) }
@@ -131,8 +131,8 @@ pub fn compare<'a>(
         older.entry.name.now older.entry.bytes.now newer.entry.name.now newer.entry.bytes.now) }
     ensures fault { IfErr result (λ fault. fault ≡ Fault.Memory) }
 {
-    let old = read_version(alloc, older.bytes)?;
-    let new = read_version(alloc, newer.bytes)?;
+    let old = FileRead::new(alloc, "*", older.bytes)?;
+    let new = FileRead::new(alloc, "*", newer.bytes)?;
     let names = agents_of(alloc, agents, &old, &new)?;
     let crawlers = crawlers_of(alloc, &names, &old, &new, urls)?;
     let removed = sitemaps_only_in(alloc, &old.labels, &new.labels)?;

@@ -1,29 +1,19 @@
 //! What two versions of a file mean for a crawler.
 ghost use Rattle.std.specs.Prelude.{◌≡◌, ◌++◌, IfErr, IfOk, OnOk, map};
 ghost use Rattle.texting_robots.specs.Callers.{file_lines, lines_read};
-ghost use Rattle.audit_core.specs.Audit.{IsAgentAudit};
 ghost use Rattle.audit_compare.specs.Compare.{IsCompared, change_at, is_in_line_of, is_same_decision, rules_only_in};
 ghost use Rattle.audit_compare.specs.Compare.{url_changes};
-ghost use Rattle.audit_compare.specs.Internal.Compare.{IsVersion};
+ghost use Rattle.robots_warnings.specs.Read.{IsRead};
 
 use crate::rule_sets::{RuleSet, rules_lacked};
-use audit_core::audit::{AgentAudit, Verdict, agent_audit};
+use audit_core::audit::{AgentAudit, Verdict, audit_for};
 use audit_core::fault::Fault;
 use audit_core::rules::{Rule, rules_for};
-use robots_warnings::file::labels_for;
+use robots_warnings::read::FileRead;
 use std::alloc::{AllocError, Global};
 use std::marker::Model;
 use texting_robots::Site;
-use texting_robots::labels::LabeledLine;
 use texting_robots::robot::Decision;
-
-/// One of the two files.
-#[derive(Drop)]
-pub(crate) struct Version<'a> {
-    pub(crate) bytes: &'a [u8],
-    pub(crate) labels: Vec<LabeledLine<'a>>,
-    pub(crate) site: Site,
-}
 
 #[derive(Drop)]
 pub struct UrlChange<'a> {
@@ -71,19 +61,6 @@ struct RuleChanges {
     added: Vec<Rule>,
 }
 
-pub(crate) fn read_version<'a>(alloc: Global, bytes: &'a [u8]) -> Result<Version<'a>, AllocError>
-    ensures bytes { IfOk result (λ version. version.bytes.now ≡ bytes.entry.now) }
-    ensures parts { IfOk result IsVersion }
-{
-    let labels = labels_for(alloc, "*", bytes)?;
-    let site = Site::new(alloc, bytes)?;
-    Ok(Version {
-        bytes,
-        labels,
-        site,
-    })
-}
-
 fn rule_changes(
     alloc: Global,
     agent: &str,
@@ -102,21 +79,6 @@ fn rule_changes(
     let removed = rules_lacked(&new_set, old_rules);
     let added = rules_lacked(&old_set, new_rules);
     Ok(RuleChanges { removed, added })
-}
-
-fn audit_for<'a>(
-    alloc: Global,
-    agent: &'a str,
-    version: &Version<'_>,
-    urls: &[&'a str],
-) -> Result<AgentAudit<'a>, Fault>
-    requires { IsVersion version.now }
-    ensures ok { IfOk result (λ audit. IsAgentAudit (map (λ url. url.now) urls.now)
-        (lines_read version.now.bytes.now) agent.now audit) }
-    ensures fault { IfErr result (λ fault. fault ≡ Fault.Memory) }
-{
-    let (bytes, site) = (version.bytes, &version.site);
-    agent_audit(alloc, agent, bytes, &version.labels, site, urls)
 }
 
 fn is_in_line_of(rules: &[Rule], line: Option<usize>) -> bool
@@ -169,27 +131,15 @@ fn url_changes<'a>(
     Ok(found)
 }
 
-fn changes_of<'a>(
-    alloc: Global,
-    rules: &RuleChanges,
-    older: &AgentAudit<'a>,
-    newer: &AgentAudit<'a>,
-) -> Result<Vec<UrlChange<'a>>, AllocError>
-    ensures { IfOk result (λ found. found.items
-        ≡ url_changes rules.now.removed.items rules.now.added.items older.now.verdicts newer.now.verdicts) }
-{
-    url_changes(alloc, rules, &older.verdicts, &newer.verdicts)
-}
-
 pub(crate) fn compared_for<'a>(
     alloc: Global,
     agent: &'a str,
-    older: &Version<'_>,
-    newer: &Version<'_>,
+    older: &FileRead<'_>,
+    newer: &FileRead<'_>,
     urls: &[&'a str],
 ) -> Result<Compared<'a>, Fault>
-    requires older { IsVersion older.now }
-    requires newer { IsVersion newer.now }
+    requires older { IsRead older.now }
+    requires newer { IsRead newer.now }
     ensures ok { IfOk result (IsCompared (map (λ url. url.now) urls.now)
         (lines_read older.now.bytes.now) (lines_read newer.now.bytes.now) agent.now) }
     ensures fault { IfErr result (λ fault. fault ≡ Fault.Memory) }
@@ -197,7 +147,12 @@ pub(crate) fn compared_for<'a>(
     let older_audit = audit_for(alloc, agent, older, urls)?;
     let newer_audit = audit_for(alloc, agent, newer, urls)?;
     let rules = rule_changes(alloc, agent, &older.site, &newer.site)?;
-    let changes = changes_of(alloc, &rules, &older_audit, &newer_audit)?;
+    let changes = url_changes(
+        alloc,
+        &rules,
+        &older_audit.verdicts,
+        &newer_audit.verdicts,
+    )?;
     Ok(Compared {
         agent,
         older: older_audit,

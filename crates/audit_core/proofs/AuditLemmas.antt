@@ -1,26 +1,31 @@
 -- How an audit is built: crawlers, rows and lists of lines.
 use Rattle.std.proofs.Common.{◌≡◌, ℕ, ◌||◌, Bool, true, false, List, [], ◌∷◌, ◌++◌, ap, bytes_eq, not, refl}
 use Rattle.std.proofs.Common.{if◌then◌else◌, subst, sym, ⊎_elim, ◌∙◌, ◌+◌, ◌<◌, ◌==◌, arith, drop, flat_map}
-use Rattle.std.proofs.Common.{length, map, slice_index_or, zip, append_assoc, replicate, None, Option, take}
-use Rattle.std.specs.{BTreeSet.BTreeSet, List.AllByRecursion as Each, List.AllZip}
+use Rattle.std.proofs.Common.{length, map, slice_index_or, zip, append_assoc, None, Option, take}
+use Rattle.std.proofs.Common.{Some, codes, inl, inr, is_some}
+use Rattle.std.specs.{BTreeSet.BTreeSet, List.AllZip, List.list_any}
 use Rattle.std.specs.Str.{is_utf8, str_to_ascii_lowercase}
 use Rattle.std.proofs.Math.{Bool.or-false}
-use Rattle.std.proofs.lemmas.Bool.{cases_Bool, Decides.nat_tests, Decides.Decides-eqb}
+use Rattle.std.proofs.lemmas.Bool.{cases_Bool, false≢true, Decides.Decides-eqb}
 use Rattle.std.proofs.lemmas.{Slice.Eq.bytes_eq-Decides, List.Elements.filter_map-append}
-use Rattle.std.proofs.lemmas.List.{append-nil, drop_more, replicate-append-replicate, map-append, take_more}
+use Rattle.std.proofs.lemmas.List.{append-nil, drop_more, map-append, take_more, Concat.flat_map-append}
 use Rattle.texting_robots.specs.Callers.{label_by_value, sitemaps_in, IsDelayFor, placed_rules}
-use Rattle.texting_robots.specs.Callers.{AnswerAlike, IsRobotWithoutSitemaps, PlacedRule, RobotValue, file_limit, group_name}
+use Rattle.texting_robots.specs.Callers.{AnswerAlike, IsRobotWithoutSitemaps, PlacedRule, RobotValue}
+use Rattle.texting_robots.specs.Callers.{file_limit}
 use Rattle.texting_robots.specs.Callers.{UserAgent, by_value, HasLines, LineValue, delay_for, lines_read}
-use Rattle.texting_robots.specs.{Agents.is_among, Callers.bodies_read, Executable.sitemap_in}
+use Rattle.texting_robots.specs.Callers.{Allow, CrawlDelay, Disallow, IsFirstOverlong, Label, Raw, Sitemap}
+use Rattle.texting_robots.specs.{Agents.is_among, Executable.sitemap_in, Line.is_sitemap}
 use Rattle.texting_robots.specs.declared.labels.{LabeledLine.LabeledLine}
 use Rattle.robots_warnings.specs.Internal.Names.{AddsName, Key}
 use Rattle.audit_core.specs.Internal.Agents.{AddsAgent, HasAgents, has_lowered}
 use Rattle.robots_warnings.proofs.{ClosedLemmas.any_last}
-use Rattle.printable_text.specs.{Lines.ended}
-use Rattle.robots_warnings.specs.File.{lines_of, space, labels_for}
-use Rattle.audit_core.specs.Audit.{sitemap_at, IsRuling, IsVerdictOn, VerdictValue, agents_requested}
-use Rattle.texting_robots.proofs.Shared.{delay_is_computed, labels_hold, answers_computed, lines_are_read}
-use Rattle.texting_robots.proofs.Shared.{of_lines, read_robot}
+use Rattle.robots_warnings.specs.{Closed.line_closing, File.lines_of}
+use Rattle.audit_core.specs.Audit.{AreOfSitemaps, IsRuling, IsVerdictOn, VerdictValue, all_sitemaps}
+use Rattle.audit_core.specs.Audit.{sitemap_at, sitemap_warning, sitemaps_asked}
+use Rattle.audit_core.specs.Internal.{AddsSitemaps, warnings_of}
+use Rattle.robots_warnings.specs.{Message.WarningValue}
+use Rattle.texting_robots.proofs.Shared.{delay_is_computed, answers_computed, lines_are_read, of_lines}
+use Rattle.texting_robots.proofs.Shared.{read_robot}
 use Rattle.audit_core.specs.{Asked.asked_target}
 
 absorbed : (names : List (List ℕ)) (name key : List ℕ) → is_among name names ≡ true
@@ -69,11 +74,6 @@ agent_added {old_met} {new_met} {old} {new} {name} {is_new} utf8 adds added =
       };
     }
 
-pub lines_empty : (lines : List (List ℕ)) → (length (ended lines) == 0) ≡ (length lines == 0)
-lines_empty [] = refl
-lines_empty ([] ∷ lines) = grind (arith, nat_tests)
-lines_empty ((b ∷ line) ∷ lines) = grind (arith, nat_tests)
-
 pub sitemaps_next : (labels : List LabeledLine) (at : ℕ) (labeled : LabeledLine) → at < length labels
     → sitemaps_in (lines_of (map label_by_value (drop at labels)))
     ≡ sitemaps_in (by_value (slice_index_or labels at labeled).line ∷ [])
@@ -84,25 +84,71 @@ sitemaps_next labels at labeled below =
     ap (λ labels. sitemaps_in (lines_of (map label_by_value labels))) (drop_more labels at labeled below)
     ∙ filter_map-append sitemap_in here later
 
--- the sitemaps that `*` is asked about in these lines
-abbrev pub asked : List LabeledLine → List (ℕ × List ℕ)
-asked labels = flat_map (λ label. sitemap_at label.number label.line) (map label_by_value labels)
+none_at : (number : ℕ) (line : LineValue) → is_sitemap line ≡ false → sitemap_at number line ≡ []
+none_at number (UserAgent name) isnt = refl
+none_at number (Allow value) isnt = refl
+none_at number (Disallow value) isnt = refl
+none_at number (CrawlDelay delay) isnt = refl
+none_at number (Sitemap url) isnt = absurd (false≢true (sym isnt))
+none_at number (Raw body) isnt = refl
 
-pub asked_next : (labels : List LabeledLine) (at : ℕ) (labeled : LabeledLine) → at < length labels
-    → asked (drop at labels)
-    ≡ sitemap_at (slice_index_or labels at labeled).number (by_value (slice_index_or labels at labeled).line)
-    ++ asked (drop (at + 1) labels)
-asked_next labels at labeled below = rw (drop_more labels at labeled below) refl
+none_asked : (labels : List LabeledLine)
+    → list_any (λ labeled. is_sitemap (by_value labeled.line)) labels ≡ false
+    → all_sitemaps (map label_by_value labels) ≡ []
+none_asked [] none = refl
+none_asked (labeled ∷ labels) none = grind (arith, none_at, none_asked labels)
 
-pub zip_none : {K X : Type 0} (ks : List K) (xs : List X) → length xs < 1 → zip ks xs ≡ []
-zip_none [] xs short = refl
-zip_none (k ∷ ks) [] short = refl
-zip_none (k ∷ ks) (x ∷ xs) short = absurd (omega (arith, short))
+pub without_sitemaps : (lines : List LineValue) (labels : List LabeledLine)
+    → list_any (λ labeled. is_sitemap (by_value labeled.line)) labels ≡ false
+    → sitemaps_asked lines (map label_by_value labels) ≡ []
+without_sitemaps lines labels none = elim (cases_Bool (is_some (line_closing lines (codes "*")))) [
+  | inl closed ↦ rw closed refl
+  | inr open ↦ rw open (none_asked labels none)
+]
 
-pub each_map : {X : Type 0} (P : List ℕ → Type 0) (f : X → List ℕ) → ((x : X) → P (f x)) → (xs : List X)
-    → Each P (map f xs)
-each_map P f are [] = tt
-each_map P f are (x ∷ xs) = (are x, each_map P f are xs)
+pub none_added : (rules : List PlacedRule) (found : List WarningValue) → AddsSitemaps rules [] found found
+none_added rules found = record { verdicts = []; are = tt; added = sym (append-nil found) }
+
+zips_joined : {A B : Type 0} (R : A → B → Type 0) (xs : List A) (ys : List B) (more : List A)
+    (others : List B) → AllZip R xs ys → AllZip R more others → AllZip R (xs ++ more) (ys ++ others)
+zips_joined R [] [] more others are too = too
+zips_joined R [] (y ∷ ys) more others are too = absurd are
+zips_joined R (x ∷ xs) [] more others are too = absurd are
+zips_joined R (x ∷ xs) (y ∷ ys) more others are too = (are.0, zips_joined R xs ys more others are.1 too)
+
+warnings_joined : (rules : List PlacedRule) (one two : List (ℕ × List ℕ))
+    (verdicts others : List VerdictValue) → AllZip (IsVerdictOn rules) (map (λ sitemap. sitemap.1) one) verdicts
+    → warnings_of (one ++ two) (verdicts ++ others) ≡ warnings_of one verdicts ++ warnings_of two others
+warnings_joined rules [] two [] others are = refl
+warnings_joined rules [] two (verdict ∷ verdicts) others are = absurd are
+warnings_joined rules (sitemap ∷ one) two [] others are = absurd are
+warnings_joined rules (sitemap ∷ one) two (verdict ∷ verdicts) others are =
+    let here = sitemap_warning (sitemap.0, verdict) in
+    ap (λ more. here ++ more) (warnings_joined rules one two verdicts others are.1)
+    ∙ sym (append_assoc here (warnings_of one verdicts) (warnings_of two others))
+
+pub more_added : (rules : List PlacedRule) (one two : List (ℕ × List ℕ)) (old mid new : List WarningValue)
+    → AddsSitemaps rules one old mid → AddsSitemaps rules two mid new
+    → AddsSitemaps rules (one ++ two) old new
+more_added rules one two old mid new first second =
+    let url = λ (sitemap : ℕ × List ℕ). sitemap.1 in
+    let before = warnings_of one first.verdicts in
+    let after = warnings_of two second.verdicts in
+    record {
+      verdicts = first.verdicts ++ second.verdicts;
+      are = rw (map-append url one two) (zips_joined (IsVerdictOn rules) (map url one) first.verdicts
+          (map url two) second.verdicts first.are second.are);
+      added = second.added ∙ ap (λ found. found ++ after) first.added ∙ append_assoc old before after
+          ∙ ap (λ more. old ++ more)
+          (sym (warnings_joined rules one two first.verdicts second.verdicts first.are));
+    }
+
+pub sitemaps_more : (labels : List LabeledLine) (at : ℕ) (labeled : LabeledLine) → at < length labels
+    → all_sitemaps (map label_by_value (take (at + 1) labels))
+    ≡ all_sitemaps (map label_by_value (take at labels))
+    ++ sitemap_at (slice_index_or labels at labeled).number (by_value (slice_index_or labels at labeled).line)
+sitemaps_more labels at labeled below =
+    rw (take_more labels at labeled below) (simp (map-append, flat_map-append, append-nil))
 
 pub some_length : {X : Type 0} (x : X) (xs : List X) → (length (x ∷ xs) == 0) ≡ true → ⊥
 some_length x xs is = let none : length (x ∷ xs) ≡ 0 = (Decides-eqb (length (x ∷ xs)) 0).0 is in omega arith
@@ -110,13 +156,6 @@ some_length x xs is = let none : length (x ∷ xs) ≡ 0 = (Decides-eqb (length 
 pub none_of : {X : Type 0} (xs : List X) → (length xs == 0) ≡ true → xs ≡ []
 none_of [] is = refl
 none_of (x ∷ xs) is = absurd (some_length x xs is)
-
-pub blanks_more : (n : ℕ) (old mid new : List ℕ) → new ≡ mid ++ space ∷ []
-    → mid ≡ old ++ replicate n space
-    → new ≡ old ++ replicate (n + 1) space
-blanks_more n old mid new added before =
-    added ∙ ap (λ t. t ++ space ∷ []) before ∙ append_assoc old (replicate n space) (space ∷ [])
-    ∙ ap (λ t. old ++ t) (replicate-append-replicate n 1 space)
 
 pub zip_push : {B V : Type 0} (R : B → V → Type 0) (items : List B) (found : List V) (item : B) (next : V)
     → AllZip R items found → R item next → AllZip R (items ++ item ∷ []) (found ++ next ∷ [])
@@ -133,19 +172,6 @@ pub zip_next : {A B V : Type 0} (R : B → V → Type 0) (f : A → B) (items : 
 zip_next R f items place item found next below are is =
     rw (take_more items place item below, map-append)
     (zip_push R (map f (take place items)) found (f (slice_index_or items place item)) next are is)
-
-pub lines_labeled : (agent file : List ℕ) → lines_of (labels_for agent file) ≡ lines_read file
-lines_labeled agent file = (labels_hold (group_name agent (lines_read file)) (bodies_read file)).0
-
--- the crawlers requested, computed from labels, are those computed from the lines
-pub names_requested : (agents : List (List ℕ)) (labeling file : List ℕ)
-    (labels others : List LabeledLine) (names : List (List ℕ))
-    → names ≡ agents_requested agents (lines_of (map label_by_value others)) → others ≡ labels
-    → map label_by_value labels ≡ labels_for labeling file → names ≡ agents_requested agents (lines_read file)
-names_requested agents labeling file labels others names requested same are =
-    requested ∙ ap (λ labels. agents_requested agents (lines_of (map label_by_value labels))) same
-    ∙ ap (λ labels. agents_requested agents (lines_of labels)) are
-    ∙ ap (agents_requested agents) (lines_labeled labeling file)
 
 verdicts_like : (rules others : List PlacedRule) → AnswerAlike rules others
     → (urls : List (List ℕ)) (verdicts : List VerdictValue) → AllZip (IsVerdictOn rules) urls verdicts
@@ -173,6 +199,44 @@ ruling_made urls file agent robot verdicts of are =
     let is = read_robot agent file _ of.2 in
     let alike = answers_computed agent lines robot.rules is.rules in
     (is.accepted, verdicts_like robot.rules (placed_rules agent lines) alike urls verdicts are)
+
+-- if the file is accepted for `*`: the sitemaps are asked about, and these are the warnings
+pub all_asked : (file : List ℕ) (labels : List Label) (robot : RobotValue) (old new : List WarningValue)
+    → IsRobotWithoutSitemaps (codes "*") (take file_limit file) robot
+    → AddsSitemaps robot.rules (sitemaps_asked (lines_read file) labels) old new
+    → (sitemaps : List WarningValue) × AreOfSitemaps (lines_read file) labels sitemaps
+    × (new ≡ old ++ sitemaps)
+all_asked file labels robot old new of is =
+    let asked = sitemaps_asked (lines_read file) labels in (
+      warnings_of asked is.verdicts,
+      record {
+        overlong = None;
+        verdicts = is.verdicts;
+        ruling = ruling_made (map (λ sitemap. sitemap.1) asked) file (codes "*") robot is.verdicts of is.are;
+        found_are = refl;
+      },
+      is.added,
+    )
+
+zip_nil : (numbers : List ℕ) → zip numbers ([] : List VerdictValue) ≡ []
+zip_nil [] = refl
+zip_nil (number ∷ numbers) = refl
+
+-- if it is rejected, there are none
+pub none_denied : (lines : List LineValue) (labels : List Label) (line : ℕ) (found : List WarningValue)
+    → IsFirstOverlong (placed_rules (codes "*") lines) line
+    → (sitemaps : List WarningValue) × AreOfSitemaps lines labels sitemaps × (found ≡ found ++ sitemaps)
+none_denied lines labels line found is =
+    let numbers = map (λ (sitemap : ℕ × List ℕ). sitemap.0) (sitemaps_asked lines labels) in (
+      [],
+      record {
+        overlong = Some line;
+        verdicts = [];
+        ruling = (is, refl);
+        found_are = ap (flat_map sitemap_warning) (sym (zip_nil numbers));
+      },
+      sym (append-nil found),
+    )
 
 pub delay_read : (agent file : List ℕ) (delay : Option ℕ)
     → HasLines (take file_limit file) (λ lines. IsDelayFor agent lines delay)

@@ -4,12 +4,13 @@ use Rattle.std.specs.Prelude.{◌≡◌, ℕ, true, false, List, [], Option, Res
 use Rattle.std.specs.Prelude.{string_bytes}
 use Rattle.std.specs.Io.KnownBytes.{Appends, Keeps}
 use Rattle.robots_io.specs.{Streams.AppendsBeginning, declared.streams.WriteFault.WriteFault}
+use Rattle.printable_text.specs.{Text.IsReport}
 use Rattle.audit_core.specs.declared.answer.{Answer.Answer, Outcome.Outcome}
 use Rattle.audit_core.specs.{declared.fault.Fault.Fault, Fault.fault_of_write}
 
--- there are no warnings, and the exit status is 0
-pub record IsText (text : List ℕ) (answer : Answer) : Type 0 where
-  pub report : answer.report.items ≡ text
+-- a report as text; there are no warnings, and the exit status is 0
+pub record IsText (answer : Answer) : Type 0 where
+  pub report : IsReport answer.report.items
   pub accepted : answer.outcome.is_rejected ≡ false
   pub passed : answer.outcome.has_passed ≡ true
   pub unwarned : answer.outcome.is_warned ≡ false

@@ -91,11 +91,13 @@ abbrev pub sitemap_at : ℕ → LineValue → List (ℕ × List ℕ)
 sitemap_at number (Sitemap url) = if is_absolute_url url then (number, url) ∷ [] else []
 sitemap_at number _ = []
 
+abbrev pub all_sitemaps : List Label → List (ℕ × List ℕ)
+all_sitemaps labels = flat_map (λ label. sitemap_at label.number label.line) labels
+
 -- all such sitemaps, or none if the whole site is closed to `*`
 abbrev pub sitemaps_asked : List LineValue → List Label → List (ℕ × List ℕ)
 sitemaps_asked lines labels =
-    if is_some (line_closing lines (codes "*")) then []
-    else flat_map (λ label. sitemap_at label.number label.line) labels
+    if is_some (line_closing lines (codes "*")) then [] else all_sitemaps labels
 
 -- if this verdict denies the sitemap in this line, a warning, with the line of the rule that does
 abbrev pub sitemap_warning : ℕ × VerdictValue → List WarningValue

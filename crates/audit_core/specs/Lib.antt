@@ -8,7 +8,6 @@ pub mod Audit
 pub mod Chosen
 pub mod Content
 pub mod Counts
-pub mod Syntax
 pub mod Needless
 pub mod Findings
 pub mod Internal

@@ -1,23 +1,13 @@
 -- The rows of a report: one for each line of the file.
-use Rattle.std.specs.Prelude.{ℕ, ◌==◌, Bool, true, false, not, List, [], ◌∷◌, Some, None, codes, decimal, map}
-use Rattle.std.specs.Prelude.{if◌then◌else◌, is_some, length}
+use Rattle.std.specs.Prelude.{ℕ, ◌==◌, Bool, true, false, not, List, [], Some, None, codes}
+use Rattle.std.specs.Prelude.{is_some, length}
 use Rattle.std.proofs.{Common.refl}
 use Rattle.texting_robots.specs.{Callers.Allow, declared.labels.Membership.Membership}
-use Rattle.texting_robots.specs.Callers.{CrawlDelay, Disallow, LineValue, Label, Raw, Sitemap, UserAgent}
+use Rattle.texting_robots.specs.Callers.{CrawlDelay, Disallow, LineValue, Raw, Sitemap, UserAgent}
 use Rattle.texting_robots.specs.declared.labels.Membership.TheVariants.{Other, Ungrouped, Own}
 use Rattle.robots_warnings.specs.{Contents.comment_of as comment_in, File.is_blank}
-use Rattle.printable_text.specs.Text.{Label as Front, PartValue, ReportLine, Untrusted, line_from, value_text}
-use Rattle.printable_text.specs.Text.{Absent, Aligned, Column, Delay, Nothing, Part, Value, label, only, word}
-
--- the longest directive is followed by a space
-abbrev pub word_width : ℕ
-word_width = 12
-
--- `+` in the crawler's group, `-` in another, a space in none
-abbrev pub mark_of : Membership → Value
-mark_of Own = word (codes "+") refl
-mark_of Other = word (codes "-") refl
-mark_of Ungrouped = word (codes " ") refl
+use Rattle.printable_text.specs.Text.{Label as Front, Untrusted, value_text}
+use Rattle.printable_text.specs.Text.{Delay, Nothing, Value, label, word}
 
 -- a line that isn't a directive
 abbrev pub raw_kind : (is_blank : Bool) → Front
@@ -58,29 +48,10 @@ has_value (CrawlDelay delay) = is_some delay
 has_value (Sitemap value) = not (length value == 0)
 has_value (Raw body) = not (length body == 0)
 
-abbrev pub kind_part : (has_value : Bool) → LineValue → PartValue
-kind_part true line = Column word_width (kind_of line) (line_value line)
-kind_part false line = Part (kind_of line) Nothing
-
 -- the comment in the content of a directive; other lines are shown with their comments
 abbrev pub comment_of : LineValue → List ℕ → List ℕ
 comment_of (Raw value) body = []
 comment_of line body = comment_in body
-
-abbrev pub comment_part : List ℕ → PartValue
-comment_part comment =
-    if length comment == 0 then Absent else Part (label (codes "  ") refl) (Untrusted comment)
-
--- the number, the mark, the directive, the value and the comment of a line
-abbrev pub row : ℕ → Label → ReportLine
-row width labeled =
-    line_from (Aligned width labeled.number) refl
-    (Part (label (codes " ") refl) (mark_of labeled.membership) ∷ only (codes " ") refl
-    ∷ kind_part (has_value labeled.line) labeled.line ∷ comment_part (comment_of labeled.line labeled.body) ∷ [])
-
--- a row for each line, the numbers right-aligned
-abbrev pub rows : List Label → List ReportLine
-rows labels = map (row (length (decimal (length labels)))) labels
 
 abbrev pub membership_value : Membership → Value
 membership_value Own = word (codes "own") refl

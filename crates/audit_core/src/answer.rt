@@ -2,6 +2,7 @@
 ghost use Rattle.audit_core.specs.Answer.{IsText, Writes};
 
 use crate::fault::Fault;
+use printable_text::report::Report;
 use robots_io::streams::write_out;
 use std::alloc::Global;
 use std::io::Write;
@@ -27,11 +28,11 @@ pub struct Answer {
     pub outcome: Outcome,
 }
 
-pub fn text_answer(alloc: Global, text: Vec<u8>) -> Answer
-    ensures { IsText text.items result }
+pub fn text_answer(alloc: Global, report: Report) -> Answer
+    ensures { IsText result }
 {
     Answer {
-        report: text,
+        report: report.into_string().into_bytes(),
         outcome: Outcome {
             is_rejected: false,
             has_passed: true,

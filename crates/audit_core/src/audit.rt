@@ -1,14 +1,12 @@
 //! The audit of a file: its lines, what applies to each requested crawler, and the warnings.
-ghost use Rattle.std.specs.Prelude.{◌≡◌, ◌++◌, IfErr, IfOk, List, is_none, length, map, option_map, take};
+ghost use Rattle.std.specs.Prelude.{◌≡◌, ◌++◌, ℕ, IfErr, IfOk, List, codes, is_none, map, option_map};
 ghost use Rattle.std.specs.List.{AllZip};
-ghost use Rattle.texting_robots.specs.Callers.{file_limit, file_lines, lines_read, label_by_value, placed_rules};
+ghost use Rattle.texting_robots.specs.Callers.{file_lines, label_by_value, lines_read};
 ghost use Rattle.audit_core.specs.Audit.{AreOfSitemaps, IsAgentAudit, IsAuditOf, IsRuling, IsVerdictOn};
 ghost use Rattle.audit_core.specs.Audit.{agents_requested, all_allowed, allows_all, labeling_agent};
 ghost use Rattle.audit_core.specs.Audit.{rejects_some};
 ghost use Rattle.audit_core.specs.{Request.requested_by, Needless.needless_warning, Internal.IsReading};
-ghost use Rattle.robots_warnings.specs.File.{lines_of, labels_for};
-ghost use Rattle.robots_warnings.specs.Message.{WarningValue};
-ghost use Rattle.robots_warnings.specs.Warnings.{warnings};
+ghost use Rattle.robots_warnings.specs.{Message.WarningValue, Read.IsRead, Warnings.warnings};
 
 use crate::agents::agents_requested;
 use crate::asked::decision_on;
@@ -21,16 +19,15 @@ use crate::sitemaps::warn_of_sitemaps;
 use rfc9309_laws::conformance::{Conformance, conformance_of};
 use robots_needless::needless::NeedlessRule;
 use robots_warnings::closed::{Reach, reach_of};
-use robots_warnings::facts::{FileFacts, facts_of};
-use robots_warnings::file::labels_for;
+use robots_warnings::own_rules::own_rules;
+use robots_warnings::read::FileRead;
 use robots_warnings::warning::Warning;
-use robots_warnings::warnings::{FileRead, warnings};
-use std::alloc::{AllocError, Global};
+use robots_warnings::warnings::warnings;
+use std::alloc::Global;
 use std::marker::Model;
 use texting_robots::labels::LabeledLine;
 use texting_robots::robot::Decision;
-use texting_robots::site::SiteRule;
-use texting_robots::{Rejection, Robot, Site};
+use texting_robots::{Rejection, Robot};
 
 #[derive(Drop)]
 pub struct Verdict<'a> {
@@ -100,13 +97,13 @@ pub enum Reading {
     Rejected(usize),
 }
 
-/// Parses the first 512,000 bytes of the file for the crawler.
-pub fn read_for(alloc: Global, agent: &str, file: &[u8], site: &Site) -> Result<Reading, Fault>
-    requires { site.now ≡ take file_limit file.now }
-    ensures ok { IfOk result (IsReading agent.now file.now) }
+/// How the file is read for the crawler.
+pub fn read_for(alloc: Global, agent: &str, read: &FileRead<'_>) -> Result<Reading, Fault>
+    requires { IsRead read.now }
+    ensures ok { IfOk result (IsReading agent.now read.now.bytes.now) }
     ensures fault { IfErr result (λ fault. fault ≡ Fault.Memory) }
 {
-    match site.robot_without_sitemaps(alloc, agent) {
+    match read.site.robot_without_sitemaps(alloc, agent) {
         Ok(robot) => Ok(Reading::Accepted(robot)),
         Err(Rejection::Overlong(line)) => Ok(Reading::Rejected(line)),
         Err(Rejection::Memory) => Err(Fault::Memory),
@@ -132,76 +129,100 @@ fn verdicts_on<'a>(
 
 pub(crate) fn ruling<'a>(
     alloc: Global,
-    agent: &str,
-    file: &[u8],
-    site: &Site,
+    reading: &Reading,
     urls: &[&'a str],
 ) -> Result<(Option<usize>, Vec<Verdict<'a>>), Fault>
-    requires { site.now ≡ take file_limit file.now }
-    ensures ok { IfOk result (λ ruling. IsRuling (map (λ url. url.now) urls.now) (lines_read file.now)
-        agent.now ruling.0 ruling.1.items) }
+    ensures ok { IfOk result (λ ruling. (agent file : List ℕ) → IsReading agent file reading.now
+        → IsRuling (map (λ url. url.now) urls.now) (lines_read file) agent ruling.0 ruling.1.items) }
     ensures fault { IfErr result (λ fault. fault ≡ Fault.Memory) }
 {
-    match read_for(alloc, agent, file, site)? {
-        Reading::Accepted(robot) => Ok((None, verdicts_on(alloc, &robot, urls)?)),
-        Reading::Rejected(line) => Ok((Some(line), Vec::new(alloc))),
+    match reading {
+        Reading::Accepted(robot) => Ok((None, verdicts_on(alloc, robot, urls)?)),
+        Reading::Rejected(line) => Ok((Some(*line), Vec::new(alloc))),
     }
 }
 
-fn rule_count(alloc: Global, site: &Site, agent: &str) -> Result<usize, AllocError>
-    ensures { IfOk result (λ count. count ≡ length (placed_rules agent.now (file_lines site.now))) }
-{
-    let rules: Vec<SiteRule<'_>> = site.rules(agent).collect(alloc)?;
-    Ok(rules.len())
-}
-
-/// What the file means for one crawler. The labels are those of the file's lines.
-pub fn agent_audit<'a>(
+/// What the file, which is read so for the crawler, means for it.
+fn agent_audit<'a>(
     alloc: Global,
     agent: &'a str,
-    file: &[u8],
-    labels: &[LabeledLine<'_>],
-    site: &Site,
+    reading: &Reading,
+    read: &FileRead<'_>,
     urls: &[&'a str],
 ) -> Result<AgentAudit<'a>, Fault>
-    requires lines { lines_of (map label_by_value labels.now) ≡ lines_read file.now }
-    requires site { site.now ≡ take file_limit file.now }
-    ensures ok { IfOk result (λ audit. IsAgentAudit (map (λ url. url.now) urls.now) (lines_read file.now)
-        agent.now audit) }
+    requires read { IsRead read.now }
+    requires reading { IsReading agent.now read.now.bytes.now reading.now }
+    ensures ok { IfOk result (λ audit. IsAgentAudit (map (λ url. url.now) urls.now)
+        (lines_read read.now.bytes.now) agent.now audit) }
     ensures fault { IfErr result (λ fault. fault ≡ Fault.Memory) }
 {
-    let rules = rule_count(alloc, site, agent)?;
-    let reach = reach_of(alloc, site, agent)?;
-    let (rejected, verdicts) = ruling(alloc, agent, file, site, urls)?;
+    let rules = own_rules(alloc, &read.site, agent)?;
+    let reach = reach_of(alloc, &read.site, agent, &rules)?;
+    let (rejected, verdicts) = ruling(alloc, reading, urls)?;
     Ok(AgentAudit {
         agent,
-        group: group_of(agent, site),
-        group_line: naming_line(agent, site, labels),
-        rules,
+        group: group_of(agent, &read.site),
+        group_line: naming_line(agent, &read.site, &read.labels),
+        rules: rules.len(),
         reach,
-        delay: site.delay(agent),
+        delay: read.site.delay(agent),
         rejected,
         verdicts,
     })
 }
 
+/// What the file means for one crawler.
+pub fn audit_for<'a>(
+    alloc: Global,
+    agent: &'a str,
+    read: &FileRead<'_>,
+    urls: &[&'a str],
+) -> Result<AgentAudit<'a>, Fault>
+    requires { IsRead read.now }
+    ensures ok { IfOk result (λ audit. IsAgentAudit (map (λ url. url.now) urls.now)
+        (lines_read read.now.bytes.now) agent.now audit) }
+    ensures fault { IfErr result (λ fault. fault ≡ Fault.Memory) }
+{
+    let reading = read_for(alloc, agent, read)?;
+    agent_audit(alloc, agent, &reading, read, urls)
+}
+
+/// The same. `star` is how the file is read for `*`.
+fn audit_beside<'a>(
+    alloc: Global,
+    agent: &'a str,
+    star: &Reading,
+    read: &FileRead<'_>,
+    urls: &[&'a str],
+) -> Result<AgentAudit<'a>, Fault>
+    requires read { IsRead read.now }
+    requires star { IsReading (codes "*") read.now.bytes.now star.now }
+    ensures ok { IfOk result (λ audit. IsAgentAudit (map (λ url. url.now) urls.now)
+        (lines_read read.now.bytes.now) agent.now audit) }
+    ensures fault { IfErr result (λ fault. fault ≡ Fault.Memory) }
+{
+    if agent == "*" {
+        return agent_audit(alloc, agent, star, read, urls);
+    }
+    audit_for(alloc, agent, read, urls)
+}
+
 fn agent_audits<'a>(
     alloc: Global,
     agents: &[&'a str],
-    file: &[u8],
-    labels: &[LabeledLine<'_>],
-    site: &Site,
+    star: &Reading,
+    read: &FileRead<'_>,
     urls: &[&'a str],
 ) -> Result<Vec<AgentAudit<'a>>, Fault>
-    requires lines { lines_of (map label_by_value labels.now) ≡ lines_read file.now }
-    requires site { site.now ≡ take file_limit file.now }
-    ensures ok { IfOk result (λ audits. AllZip (IsAgentAudit (map (λ url. url.now) urls.now) (lines_read file.now))
-        (map (λ agent. agent.now) agents.now) audits.items) }
+    requires read { IsRead read.now }
+    requires star { IsReading (codes "*") read.now.bytes.now star.now }
+    ensures ok { IfOk result (λ audits. AllZip (IsAgentAudit (map (λ url. url.now) urls.now)
+        (lines_read read.now.bytes.now)) (map (λ agent. agent.now) agents.now) audits.items) }
     ensures fault { IfErr result (λ fault. fault ≡ Fault.Memory) }
 {
     let mut audits = Vec::with_capacity(alloc, agents.len())?;
     for agent in agents {
-        audits.push(agent_audit(alloc, agent, file, labels, site, urls)?)?;
+        audits.push(audit_beside(alloc, agent, star, read, urls)?)?;
     }
     Ok(audits)
 }
@@ -216,54 +237,30 @@ pub fn labeling_agent<'a>(agent: Option<&'a str>) -> &'a str
     }
 }
 
-/// All warnings about the file and the request, and then those about these needless rules.
-fn warnings_of<'a>(
-    alloc: Global,
-    request: &Request<'a>,
-    agents: &[&'a str],
-    file: &[u8],
-    facts: FileFacts,
-    labels: &[LabeledLine<'_>],
-    site: &Site,
-    needless: &[NeedlessRule],
-) -> Result<Vec<Warning<'a>>, AllocError>
-    ensures { IfOk result (λ found. found.items
-        ≡ warnings (is_none (requested_by request.now).agent) (map (λ agent. agent.now) agents.now)
-        (requested_by request.now).urls file.now facts (map label_by_value labels.now) (file_lines site.now)
-        ++ map needless_warning needless.now) }
-{
-    let everywhere = request.agent.is_none();
-    let read = FileRead {
-        bytes: file,
-        facts,
-        labels,
-        site,
-    };
-    let mut found = warnings(alloc, everywhere, agents, &request.urls, &read)?;
-    add_needless(&mut found, needless)?;
-    Ok(found)
-}
-
+/// All warnings about the file and the request, then those about these needless rules, and those about
+/// sitemaps. `star` is how the file is read for `*`.
 fn all_warnings<'a>(
     alloc: Global,
     request: &Request<'a>,
     agents: &[&'a str],
-    file: &[u8],
-    facts: FileFacts,
-    labels: &[LabeledLine<'_>],
-    site: &Site,
+    star: &Reading,
+    read: &FileRead<'_>,
     needless: &[NeedlessRule],
 ) -> Result<Vec<Warning<'a>>, Fault>
-    requires { site.now ≡ take file_limit file.now }
+    requires read { IsRead read.now }
+    requires star { IsReading (codes "*") read.now.bytes.now star.now }
     ensures ok { IfOk result (λ found. (sitemaps : List WarningValue)
-        × AreOfSitemaps (lines_read file.now) (map label_by_value labels.now) sitemaps
+        × AreOfSitemaps (lines_read read.now.bytes.now) (map label_by_value read.now.labels.items) sitemaps
         × (found.items ≡ (warnings (is_none (requested_by request.now).agent)
-        (map (λ agent. agent.now) agents.now) (requested_by request.now).urls file.now facts
-        (map label_by_value labels.now) (file_lines site.now) ++ map needless_warning needless.now) ++ sitemaps)) }
+        (map (λ agent. agent.now) agents.now) (requested_by request.now).urls read.now.bytes.now read.now.facts
+        (map label_by_value read.now.labels.items) (file_lines read.now.site)
+        ++ map needless_warning needless.now) ++ sitemaps)) }
     ensures fault { IfErr result (λ fault. fault ≡ Fault.Memory) }
 {
-    let mut found = warnings_of(alloc, request, agents, file, facts, labels, site, needless)?;
-    warn_of_sitemaps(alloc, &mut found, file, labels, site)?;
+    let everywhere = request.agent.is_none();
+    let mut found = warnings(alloc, everywhere, agents, &request.urls, read)?;
+    add_needless(&mut found, needless)?;
+    warn_of_sitemaps(alloc, &mut found, star, read)?;
     Ok(found)
 }
 
@@ -276,19 +273,21 @@ pub fn audit_of<'a>(
     ensures ok { IfOk result (λ audit. IsAuditOf (requested_by request.now) file.now audit) }
     ensures fault { IfErr result (λ fault. fault ≡ Fault.Memory) }
 {
-    let labels = labels_for(alloc, labeling_agent(request.agent), file)?;
-    let facts = facts_of(file, &labels);
-    let names = agents_requested(alloc, &request.agents, &labels)?;
-    let site = Site::new(alloc, file)?;
-    let agents = agent_audits(alloc, &names, file, &labels, &site, &request.urls)?;
-    let needless = needless_rules(alloc, request.has_needless, facts.is_too_large, &site)?;
-    let mut warnings = all_warnings(
-        alloc, request, &names, file, facts, &labels, &site, &needless,
+    let read = FileRead::new(alloc, labeling_agent(request.agent), file)?;
+    let names = agents_requested(alloc, &request.agents, &read.labels)?;
+    let star = read_for(alloc, "*", &read)?;
+    let agents = agent_audits(alloc, &names, &star, &read, &request.urls)?;
+    let needless = needless_rules(
+        alloc,
+        request.has_needless,
+        read.facts.is_too_large,
+        &read.site,
     )?;
-    let syntax = conformance_of(alloc, file, &site)?;
+    let mut warnings = all_warnings(alloc, request, &names, &star, &read, &needless)?;
+    let syntax = conformance_of(alloc, file, &read.site)?;
     choose(&request.only, &request.ignored, &mut warnings);
     Ok(Audit {
-        labels,
+        labels: read.labels,
         agents,
         warnings,
         syntax,

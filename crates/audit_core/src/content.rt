@@ -3,8 +3,8 @@ ghost use Rattle.std.specs.Prelude.{◌≡◌, IfErr, None, OnOk};
 ghost use Rattle.audit_core.specs.Content.{IsContentFault, content_flaw, flaw_of};
 
 use crate::fault::{Fault, Flaw, argument};
-use robots_warnings::facts::{FileFacts, facts_of};
-use robots_warnings::file::labels_for;
+use robots_warnings::facts::FileFacts;
+use robots_warnings::read::FileRead;
 use std::alloc::Global;
 
 fn flaw_of(facts: FileFacts) -> Option<Flaw>
@@ -26,8 +26,8 @@ pub fn check_content(alloc: Global, name: &str, file: &[u8]) -> Result<(), Fault
     ensures ok { OnOk result (content_flaw file.now ≡ None) }
     ensures fault { IfErr result (IsContentFault name.now file.now) }
 {
-    let labels = labels_for(alloc, "*", file)?;
-    match flaw_of(facts_of(file, &labels)) {
+    let read = FileRead::new(alloc, "*", file)?;
+    match flaw_of(read.facts) {
         Some(flaw) => Err(argument(alloc, name, flaw)),
         None => Ok(()),
     }

@@ -1,20 +1,17 @@
 //! Errors, their messages, and the exit status.
-ghost use Rattle.std.specs.Prelude.{◌≡◌, ◌++◌, IfOk, OnOk, map, string_bytes};
-ghost use Rattle.printable_text.specs.Raw.{raw_line, raw_text};
-ghost use Rattle.printable_text.specs.Text.{line_text, part_text, parts_text, written};
-ghost use Rattle.audit_core.specs.Fault.{IsArgument, IsUnknown, begins_as_host, entry_text, fault_parts};
-ghost use Rattle.audit_core.specs.Fault.{fault_text, file_hint, flaw_text, is_level, malformed_line};
-ghost use Rattle.audit_core.specs.Fault.{near_part, near_warning, status_after};
+ghost use Rattle.std.specs.Prelude.{◌≡◌, IfOk};
+ghost use Rattle.audit_core.specs.Fault.{IsArgument, IsUnknown, near_warning, status_after};
 
 use crate::answer::Outcome;
-use printable_text::parts::{Part, Value, push_line_of};
-use printable_text::sanitize::push_sanitized_lines;
+use printable_text::report::{Named, Report};
 use robots_io::streams::{ReadFault, WriteFault};
 use robots_warnings::crawlers::is_near;
 use robots_warnings::rules::{before_byte, has};
 use robots_warnings::table::{Cause, causes};
 use robots_warnings::urls::begins_as_url;
 use std::alloc::{AllocError, AllocFailed, Global};
+use std::fmt;
+use std::fmt::Write;
 
 /// What is wrong with a line of the file of `--expect` or `--urls`, with a crawler's name or a URL in
 /// arguments, or with a file that can't be a robots.txt file.
@@ -103,6 +100,17 @@ impl From<AllocError> for Fault {
     }
 }
 
+impl From<fmt::Error> for Fault {
+    ghost use Rattle.std.specs.Prelude.{◌≡◌};
+    ghost use Rattle.audit_core.specs.declared.fault.Fault.TheVariants.{Memory};
+
+    ghost from_gives = { λ _ fault. fault ≡ Memory };
+
+    fn from(_: fmt::Error) -> Fault {
+        Fault::Memory
+    }
+}
+
 impl<T: Drop> From<AllocFailed<T>> for Fault {
     ghost use Rattle.std.specs.Prelude.{◌≡◌};
     ghost use Rattle.audit_core.specs.declared.fault.Fault.TheVariants.{Memory};
@@ -142,9 +150,7 @@ impl From<WriteFault> for Fault {
     }
 }
 
-fn flaw_text(flaw: Flaw) -> &'static str
-    ensures { result.now ≡ flaw_text flaw }
-{
+fn flaw_text(flaw: Flaw) -> &'static str {
     match flaw {
         Flaw::Form => "write \"allow AGENT URL\" or \"deny AGENT URL\"",
         Flaw::NotUtf8 => "the line isn't valid UTF-8",
@@ -171,44 +177,31 @@ fn flaw_text(flaw: Flaw) -> &'static str
     }
 }
 
-fn entry_text(entry: Entry) -> &'static str
-    ensures { result.now ≡ entry_text entry }
-{
+fn entry_text(entry: Entry) -> &'static str {
     match entry {
         Entry::Expectation => "there are no expectations",
         Entry::Url => "there are no URLs",
     }
 }
 
-const NONE: Part<'static> = Part("", Value::Nothing);
-
 /// It follows an error in the arguments that `clap` doesn't report.
-const USAGE: Part<'static> = Part(
-    "; usage: robots_audit [OPTIONS] FILE [URL]..",
-    Value::Nothing,
-);
+const USAGE: &str = "; usage: robots_audit [OPTIONS] FILE [URL]..";
 
 /// They follow the usage if FILE is missing.
 const EXAMPLES: &str = "example: robots_audit robots.txt /search\n\
-    example: curl -s https://example.com/robots.txt | robots_audit --agent Googlebot -\n";
+    example: curl -s https://example.com/robots.txt | robots_audit --agent Googlebot -";
 
-fn is_level(name: &[u8]) -> bool
-    ensures { result ≡ is_level name.now }
-{
+fn is_level(name: &[u8]) -> bool {
     name == b"error".as_slice() || (name == b"warning".as_slice() || name == b"note".as_slice())
 }
 
-fn begins_as_host(name: &[u8]) -> bool
-    ensures { result ≡ begins_as_host name.now }
-{
+fn begins_as_host(name: &[u8]) -> bool {
     let host = before_byte(b'/', name);
     has(b'.', host) && !(host.starts_with(b".") || host.ends_with(b".txt"))
 }
 
-fn file_hint(name: &[u8]) -> Part<'static>
-    ensures { raw_text result ≡ part_text (file_hint name.now) }
-{
-    let hint = if begins_as_url(name) {
+fn file_hint(name: &[u8]) -> &'static str {
+    if begins_as_url(name) {
         "; a URL isn't a file, try: curl -s https://example.com/robots.txt | robots_audit -"
     } else if begins_as_host(name) {
         "; for a host, try: curl -s https://example.com/robots.txt | robots_audit -"
@@ -218,134 +211,81 @@ fn file_hint(name: &[u8]) -> Part<'static>
         "; before a path to check, write FILE, or - for standard input"
     } else {
         ""
-    };
-    Part(hint, Value::Nothing)
-}
-
-fn near_part(near: Option<Cause>) -> Part<'static>
-    ensures { raw_text result ≡ part_text (near_part near) }
-{
-    match near {
-        Some(cause) => Part(
-            "; a similar one is ",
-            Value::Untrusted(cause.name().as_bytes()),
-        ),
-        None => NONE,
     }
 }
 
-fn malformed_parts<'a>(file: &'a str, line: MalformedLine) -> [Part<'a>; 3]
-    ensures { raw_line result ≡ line_text (malformed_line file.entry.now line) }
-{
-    [
-        Part("robots_audit: ", Value::Untrusted(file.as_bytes())),
-        Part(":", Value::Number(line.0)),
-        Part(": ", Value::Word(flaw_text(line.1))),
-    ]
+fn write_unknown(out: &mut Report, name: &str, near: Option<Cause>) -> fmt::Result {
+    let name = Named(name);
+    write!(out, ": unknown warning {name}")?;
+    if let Some(near) = near {
+        let near = near.name();
+        write!(out, "; a similar one is {near}")?;
+    }
+    out.write_str("; all are in --list-warnings")
 }
 
-fn push_malformed(text: &mut String, file: &str, lines: &[MalformedLine]) -> Result<(), AllocError>
-    ensures { OnOk result (string_bytes text.new ≡ string_bytes text.old
-        ++ written (map (malformed_line file.now) lines.now)) }
-{
-    for line in lines {
-        push_line_of(text, &malformed_parts(file, *line))?;
+fn write_malformed(out: &mut Report, file: &str, lines: &[MalformedLine]) -> fmt::Result {
+    for (line, flaw) in lines {
+        let flaw = flaw_text(*flaw);
+        write!(out, "robots_audit: {file}:{line}: {flaw}")?;
+        out.end_line()?;
     }
     Ok(())
 }
 
-/// `clap` has messages of its own, and each malformed line has one.
-fn fault_parts(fault: &Fault) -> [Part<'_>; 3]
-    ensures { raw_line result ≡ parts_text (fault_parts fault.now) }
-{
+/// What follows the name of the program.
+fn write_reason(out: &mut Report, fault: &Fault) -> fmt::Result {
     match fault {
-        Fault::Words(_) | Fault::Closed | Fault::Malformed(_, _) => [NONE, NONE, NONE],
-        Fault::Usage => [Part(": missing FILE", Value::Nothing), USAGE, NONE],
-        Fault::NoUrl => [
-            Part(
-                ": --denied needs URLs, as arguments or by --urls FILE",
-                Value::Nothing,
-            ),
-            USAGE,
-            NONE,
-        ],
-        Fault::NotUtf8 => [
-            Part(": arguments must be valid UTF-8", Value::Nothing),
-            USAGE,
-            NONE,
-        ],
-        Fault::UnknownWarning(name, near) => [
-            Part(": unknown warning ", Value::Named(name.as_bytes())),
-            near_part(*near),
-            Part("; all are in --list-warnings", Value::Nothing),
-        ],
-        Fault::File(name) => [
-            Part(": cannot read ", Value::Named(name.as_bytes())),
-            file_hint(name.as_bytes()),
-            NONE,
-        ],
-        Fault::Argument(text, flaw) => [
-            Part(": ", Value::Named(text.as_bytes())),
-            Part(": ", Value::Word(flaw_text(*flaw))),
-            NONE,
-        ],
-        Fault::Empty(file, entry) => [
-            Part(": ", Value::Untrusted(file.as_bytes())),
-            Part(": ", Value::Word(entry_text(*entry))),
-            NONE,
-        ],
-        Fault::StdinTwice => [
-            Part(
-                ": standard input can't be two files; give the name of one",
-                Value::Nothing,
-            ),
-            USAGE,
-            NONE,
-        ],
-        Fault::Format => [
-            Part(
-                ": --compare and --expect write text, json or github, not html or sarif",
-                Value::Nothing,
-            ),
-            USAGE,
-            NONE,
-        ],
-        Fault::Read => [
-            Part(": cannot read standard input", Value::Nothing),
-            NONE,
-            NONE,
-        ],
-        Fault::Write => [
-            Part(": cannot write the report", Value::Nothing),
-            NONE,
-            NONE,
-        ],
-        Fault::Memory => [Part(": out of memory", Value::Nothing), NONE, NONE],
+        Fault::Words(_) | Fault::Closed | Fault::Malformed(_, _) => Ok(()),
+        Fault::Usage => write!(out, ": missing FILE{USAGE}"),
+        Fault::NoUrl => write!(
+            out,
+            ": --denied needs URLs, as arguments or by --urls FILE{USAGE}"
+        ),
+        Fault::NotUtf8 => write!(out, ": arguments must be valid UTF-8{USAGE}"),
+        Fault::UnknownWarning(name, near) => write_unknown(out, name, *near),
+        Fault::File(file) => {
+            let (name, hint) = (Named(file), file_hint(file.as_bytes()));
+            write!(out, ": cannot read {name}{hint}")
+        }
+        Fault::Argument(text, flaw) => {
+            let (text, flaw) = (Named(text), flaw_text(*flaw));
+            write!(out, ": {text}: {flaw}")
+        }
+        Fault::Empty(file, entry) => {
+            let entry = entry_text(*entry);
+            write!(out, ": {file}: {entry}")
+        }
+        Fault::StdinTwice => write!(
+            out,
+            ": standard input can't be two files; give the name of one{USAGE}"
+        ),
+        Fault::Format => write!(
+            out,
+            ": --compare and --expect write text, json or github, not html or sarif{USAGE}"
+        ),
+        Fault::Read => out.write_str(": cannot read standard input"),
+        Fault::Write => out.write_str(": cannot write the report"),
+        Fault::Memory => out.write_str(": out of memory"),
     }
 }
 
-/// A line, one for each malformed line, or the message of `clap`.
-pub fn fault_text(alloc: Global, fault: &Fault) -> Result<String, AllocError>
-    ensures { IfOk result (λ text. string_bytes text ≡ fault_text fault.now) }
-{
-    let mut text = String::new(alloc);
-    if let Fault::Words(words) = fault {
-        push_sanitized_lines(&mut text, words.as_bytes())?;
-        return Ok(text);
+/// Writes a line, one for each malformed line, or the message of `clap`.
+pub fn write_fault(out: &mut Report, fault: &Fault) -> fmt::Result {
+    match fault {
+        Fault::Words(words) => out.lines(words),
+        Fault::Malformed(file, lines) => write_malformed(out, file, lines),
+        Fault::Closed => Ok(()),
+        _ => {
+            out.write_str("robots_audit")?;
+            write_reason(out, fault)?;
+            out.end_line()?;
+            match fault {
+                Fault::Usage => out.lines(EXAMPLES),
+                _ => Ok(()),
+            }
+        }
     }
-    if let Fault::Malformed(file, lines) = fault {
-        push_malformed(&mut text, file, lines)?;
-        return Ok(text);
-    }
-    if let Fault::Closed = fault {
-        return Ok(text);
-    }
-    text.push_str("robots_audit")?;
-    push_line_of(&mut text, &fault_parts(fault))?;
-    if let Fault::Usage = fault {
-        text.push_str(EXAMPLES)?;
-    }
-    Ok(text)
 }
 
 /// The exit status of the process.

@@ -1,47 +1,22 @@
 //! The rows of a report: one for each line of the file.
-ghost use Rattle.std.specs.Prelude.{◌≡◌, ◌++◌, ◌∷◌, [], OnOk, decimal, length, map, string_bytes};
-ghost use Rattle.texting_robots.specs.Callers.{by_value, label_by_value};
-ghost use Rattle.printable_text.specs.Raw.{raw_value};
-ghost use Rattle.printable_text.specs.Text.{Aligned, blanks, part_text, value_text, written};
-ghost use Rattle.audit_core.specs.Rows.{comment_of, comment_part, has_value, kind_part, kind_text, line_value};
-ghost use Rattle.audit_core.specs.Rows.{line_value_text, mark_of, membership_word, row, rows};
+ghost use Rattle.std.specs.Prelude.{◌≡◌, ◌++◌, OnOk, string_bytes};
+ghost use Rattle.texting_robots.specs.Callers.{by_value};
+ghost use Rattle.audit_core.specs.Rows.{comment_of, has_value, kind_text, line_value_text, membership_word};
 
 use itoa::Buffer;
-use printable_text::delay::push_delay_text;
-use printable_text::parts::{Part, Value, push_parts};
+use printable_text::delay::{Delay, push_delay_text};
+use printable_text::report::{Report, Untrusted};
 use printable_text::sanitize::push_sanitized;
 use robots_warnings::contents::split_content;
 use robots_warnings::file::is_blank;
 use std::alloc::AllocError;
+use std::fmt;
+use std::fmt::Write;
 use texting_robots::labels::{LabeledLine, Membership};
 use texting_robots::parser::Line;
 
-/// The longest directive is followed by a space.
-const WORD_WIDTH: usize = 12;
-
-#[tactic(auto, using(crate::proofs::AuditLemmas::blanks_more))]
-fn push_blanks(text: &mut String, count: usize) -> Result<(), AllocError>
-    ensures { OnOk result (string_bytes text.new ≡ string_bytes text.old ++ blanks count) }
-{
-    for _ in 0..count {
-        text.push(' ')?;
-    }
-    Ok(())
-}
-
-fn push_aligned(text: &mut String, width: usize, number: usize) -> Result<(), AllocError>
-    ensures { OnOk result (string_bytes text.new ≡ string_bytes text.old ++ part_text (Aligned width number)) }
-{
-    let mut buffer = Buffer::new();
-    let digits = buffer.format(number);
-    push_blanks(text, width.saturating_sub(digits.len()))?;
-    text.push_str(digits)
-}
-
 /// `+` in the crawler's group, `-` in another, a space in none.
-fn mark_of(membership: Membership) -> &'static str
-    ensures { result.now ≡ value_text (mark_of membership) }
-{
+fn mark_of(membership: Membership) -> &'static str {
     match membership {
         Membership::Own => "+",
         Membership::Other => "-",
@@ -78,21 +53,6 @@ pub fn has_value(line: Line<'_>) -> bool
     }
 }
 
-/// A delay in seconds, any other value sanitized.
-pub fn line_value<'a>(line: Line<'a>) -> Value<'a>
-    ensures { raw_value result ≡ value_text (line_value (by_value line.entry)) }
-{
-    match line {
-        Line::UserAgent(value)
-        | Line::Allow(value)
-        | Line::Disallow(value)
-        | Line::Sitemap(value)
-        | Line::Raw(value) => Value::Untrusted(value),
-        Line::CrawlDelay(Some(micros)) => Value::Delay(micros),
-        Line::CrawlDelay(None) => Value::Nothing,
-    }
-}
-
 pub fn push_value(text: &mut String, line: Line<'_>) -> Result<(), AllocError>
     ensures { OnOk result (string_bytes text.new ≡ string_bytes text.old ++ line_value_text (by_value line.entry)) }
 {
@@ -107,19 +67,6 @@ pub fn push_value(text: &mut String, line: Line<'_>) -> Result<(), AllocError>
     }
 }
 
-fn push_kind(text: &mut String, line: Line<'_>) -> Result<(), AllocError>
-    ensures { OnOk result (string_bytes text.new ≡ string_bytes text.old
-        ++ part_text (kind_part (has_value (by_value line.entry)) (by_value line.entry))) }
-{
-    let word = kind_text(line);
-    text.push_str(word)?;
-    if has_value(line) {
-        push_blanks(text, WORD_WIDTH.saturating_sub(word.len()))?;
-        push_parts(text, &[Part("", line_value(line))])?;
-    }
-    Ok(())
-}
-
 /// If the line is a directive; other lines are shown with their comments.
 pub fn comment_of<'a>(line: Line<'_>, body: &'a [u8]) -> &'a [u8]
     ensures { result.now ≡ comment_of (by_value line.entry) body.now }
@@ -130,48 +77,59 @@ pub fn comment_of<'a>(line: Line<'_>, body: &'a [u8]) -> &'a [u8]
     }
 }
 
-fn push_comment(text: &mut String, comment: &[u8]) -> Result<(), AllocError>
-    ensures { OnOk result (string_bytes text.new ≡ string_bytes text.old ++ part_text (comment_part comment.now)) }
-{
-    if comment.is_empty() {
-        return Ok(());
+/// What is shown of a line: a delay in seconds, or another value.
+#[derive(Clone, Copy)]
+pub struct Shown<'a>(pub Line<'a>);
+
+impl<'a> fmt::Display for Shown<'a> {
+    fn fmt<W: fmt::Write>(&self, f: &mut fmt::Formatter<W>) -> fmt::Result {
+        match self.0 {
+            Line::UserAgent(value)
+            | Line::Allow(value)
+            | Line::Disallow(value)
+            | Line::Sitemap(value)
+            | Line::Raw(value) => {
+                let value = Untrusted(value);
+                write!(f, "{value}")
+            }
+            Line::CrawlDelay(Some(micros)) => {
+                let delay = Delay(micros);
+                write!(f, "{delay}")
+            }
+            Line::CrawlDelay(None) => Ok(()),
+        }
     }
-    push_parts(text, &[Part("  ", Value::Untrusted(comment))])
 }
 
-fn push_row(text: &mut String, width: usize, labeled: &LabeledLine<'_>) -> Result<(), AllocError>
-    ensures { OnOk result (string_bytes text.new ≡ string_bytes text.old
-        ++ written (row width (label_by_value labeled.now) ∷ [])) }
-{
-    push_aligned(text, width, labeled.number)?;
-    push_parts(
-        text,
-        &[
-            Part(" ", Value::Word(mark_of(labeled.membership))),
-            Part(" ", Value::Nothing),
-        ],
-    )?;
-    push_kind(text, labeled.line)?;
-    push_comment(text, comment_of(labeled.line, labeled.body))?;
-    text.push('\n')
+fn write_row(out: &mut Report, width: usize, labeled: &LabeledLine<'_>) -> fmt::Result {
+    let (number, mark) = (labeled.number, mark_of(labeled.membership));
+    write!(out, "{number:>width$} {mark} ")?;
+    let kind = kind_text(labeled.line);
+    if has_value(labeled.line) {
+        let value = Shown(labeled.line);
+        write!(out, "{kind:<12}{value}")?;
+    } else {
+        out.write_str(kind)?;
+    }
+    let comment = comment_of(labeled.line, labeled.body);
+    if !comment.is_empty() {
+        let comment = Untrusted(comment);
+        write!(out, "  {comment}")?;
+    }
+    out.end_line()
 }
 
-fn digits(number: usize) -> usize
-    ensures { result ≡ length (decimal number) }
-{
-    Buffer::new().format(number).len()
-}
-
-/// Appends a row for each of these lines.
-pub fn push_rows(text: &mut String, labels: &[LabeledLine<'_>]) -> Result<(), AllocError>
-    ensures { OnOk result (string_bytes text.new ≡ string_bytes text.old
-        ++ written (rows (map label_by_value labels.now))) }
-{
+/// Writes a row for each of these lines.
+pub fn write_rows(out: &mut Report, labels: &[LabeledLine<'_>]) -> fmt::Result {
     let width = digits(labels.len());
     for labeled in labels {
-        push_row(text, width, labeled)?;
+        write_row(out, width, labeled)?;
     }
     Ok(())
+}
+
+fn digits(number: usize) -> usize {
+    Buffer::new().format(number).len()
 }
 
 /// The name of a membership in the JSON.

@@ -1,18 +1,22 @@
 //! The sitemaps that a file lists, and the warnings about those that the rules for `*` deny.
-ghost use Rattle.std.specs.Prelude.{◌≡◌, ◌++◌, ◌∷◌, [], IfErr, IfOk, List, OnOk, flat_map, map, take, zip};
-ghost use Rattle.texting_robots.specs.Callers.{by_value, file_limit, file_lines, label_by_value, lines_read};
-ghost use Rattle.texting_robots.specs.Callers.{sitemaps_in};
-ghost use Rattle.robots_warnings.specs.{File.lines_of, Internal.Adds, Message.WarningValue};
-ghost use Rattle.audit_core.specs.Audit.{AreOfSitemaps, sitemap_at, sitemap_warning, sitemaps_asked};
+ghost use Rattle.std.specs.Prelude.{◌≡◌, ◌++◌, ◌∷◌, [], ℕ, IfErr, IfOk, List, OnOk, codes, map};
+ghost use Rattle.std.specs.{List.list_any, Option.option_to_list};
+ghost use Rattle.texting_robots.specs.Callers.{by_value, label_by_value, lines_read, sitemaps_in};
+ghost use Rattle.texting_robots.specs.Line.{is_sitemap};
+ghost use Rattle.robots_warnings.specs.{File.lines_of, Internal.Adds, Message.WarningValue, Read.IsRead};
+ghost use Rattle.audit_core.specs.Audit.{AreOfSitemaps, all_sitemaps, sitemap_at, sitemap_warning};
+ghost use Rattle.audit_core.specs.Internal.{AddsSitemaps, IsReading};
 
-use crate::audit::{Verdict, ruling};
+use crate::asked::decision_on;
+use crate::audit::{Reading, Verdict};
 use crate::fault::Fault;
 use robots_warnings::closed::is_closed;
+use robots_warnings::read::FileRead;
 use robots_warnings::table::Cause;
 use robots_warnings::urls::{as_text, is_absolute_url};
 use robots_warnings::warning::{Detail, Warning};
 use std::alloc::{AllocError, Global};
-use texting_robots::Site;
+use texting_robots::Robot;
 use texting_robots::labels::LabeledLine;
 use texting_robots::parser::Line;
 
@@ -45,53 +49,33 @@ pub fn sitemaps_of<'a>(
     Ok(sitemaps)
 }
 
-fn ask_about<'a>(
-    alloc: Global,
-    numbers: &mut Vec<usize>,
-    urls: &mut Vec<&'a str>,
-    labeled: &LabeledLine<'a>,
-) -> Result<(), AllocError>
-    ensures numbers { OnOk result (numbers.new.items ≡ numbers.old.items
-        ++ map (λ sitemap. sitemap.0) (sitemap_at labeled.now.number (by_value labeled.now.line))) }
-    ensures urls { OnOk result (map (λ url. url.now) urls.new.items ≡ map (λ url. url.now) urls.old.items
-        ++ map (λ sitemap. sitemap.1) (sitemap_at labeled.now.number (by_value labeled.now.line))) }
+fn is_sitemap(labeled: &LabeledLine<'_>) -> bool
+    ensures { result ≡ is_sitemap (by_value labeled.now.line) }
 {
-    let Line::Sitemap(value) = labeled.line else {
-        return Ok(());
-    };
-    let Some(url) = as_text(value) else {
-        return Ok(());
-    };
-    if is_absolute_url(alloc, value)? {
-        numbers.push(labeled.number)?;
-        urls.push(url)?;
-    }
-    Ok(())
+    matches!(labeled.line, Line::Sitemap(_))
 }
 
-/// None if the whole site is closed to `*`.
-#[tactic(auto, using(crate::proofs::AuditLemmas::asked_next))]
-fn ask_about_all<'a>(
-    alloc: Global,
-    numbers: &mut Vec<usize>,
-    urls: &mut Vec<&'a str>,
-    site: &Site,
-    labels: &[LabeledLine<'a>],
-) -> Result<(), AllocError>
-    ensures numbers { OnOk result (numbers.new.items ≡ numbers.old.items
-        ++ map (λ sitemap. sitemap.0)
-        (sitemaps_asked (file_lines site.now) (map label_by_value labels.now))) }
-    ensures urls { OnOk result (map (λ url. url.now) urls.new.items ≡ map (λ url. url.now) urls.old.items
-        ++ map (λ sitemap. sitemap.1)
-        (sitemaps_asked (file_lines site.now) (map label_by_value labels.now))) }
+fn has_sitemap(labels: &[LabeledLine<'_>]) -> bool
+    ensures { result ≡ list_any (λ labeled. is_sitemap (by_value labeled.line)) labels.now }
 {
-    if is_closed(alloc, site, "*")? {
-        return Ok(());
+    labels.iter().any(is_sitemap)
+}
+
+/// The sitemap in the line, if that is an absolute http(s) URL.
+fn asked_about<'a>(alloc: Global, line: Line<'a>) -> Result<Option<&'a str>, AllocError>
+    ensures { IfOk result (λ url. (number : ℕ) → sitemap_at number (by_value line.entry)
+        ≡ map (λ url. (number, url.now)) (option_to_list url)) }
+{
+    let Line::Sitemap(value) = line else {
+        return Ok(None);
+    };
+    let Some(url) = as_text(value) else {
+        return Ok(None);
+    };
+    if !is_absolute_url(alloc, value)? {
+        return Ok(None);
     }
-    for labeled in labels {
-        ask_about(alloc, numbers, urls, labeled)?;
-    }
-    Ok(())
+    Ok(Some(url))
 }
 
 fn warn_of_verdict(
@@ -116,42 +100,64 @@ fn warn_of_verdict(
     })?)
 }
 
-fn warn_of_verdicts(
+/// Appends a warning about the sitemap in this line, if the robot denies it.
+fn warn_of_sitemap(
+    alloc: Global,
     found: &mut Vec<Warning<'_>>,
-    numbers: &[usize],
-    verdicts: &[Verdict<'_>],
-) -> Result<(), AllocError>
-    ensures { OnOk result (Adds found.old.items found.new.items
-        (flat_map sitemap_warning (zip numbers.now verdicts.now))) }
+    robot: &Robot,
+    labeled: &LabeledLine<'_>,
+) -> Result<(), Fault>
+    ensures ok { OnOk result (AddsSitemaps robot.now.rules
+        (sitemap_at labeled.now.number (by_value labeled.now.line)) found.old.items found.new.items) }
+    ensures fault { IfErr result (λ fault. fault ≡ Fault.Memory) }
 {
-    let mut rest = verdicts;
-    for number in numbers {
-        let [verdict, after @ ..] = rest else {
-            return Ok(());
-        };
-        warn_of_verdict(found, *number, verdict)?;
-        rest = after;
+    let Some(url) = asked_about(alloc, labeled.line)? else {
+        return Ok(());
+    };
+    let decision = decision_on(alloc, robot, url)?;
+    let verdict = Verdict { url, decision };
+    Ok(warn_of_verdict(found, labeled.number, &verdict)?)
+}
+
+fn warn_of_each(
+    alloc: Global,
+    found: &mut Vec<Warning<'_>>,
+    robot: &Robot,
+    labels: &[LabeledLine<'_>],
+) -> Result<(), Fault>
+    ensures ok { OnOk result (AddsSitemaps robot.now.rules (all_sitemaps (map label_by_value labels.now))
+        found.old.items found.new.items) }
+    ensures fault { IfErr result (λ fault. fault ≡ Fault.Memory) }
+{
+    for labeled in labels {
+        warn_of_sitemap(alloc, found, robot, labeled)?;
     }
     Ok(())
 }
 
-/// Appends the warnings about the sitemaps that the rules for `*` deny.
+/// Appends the warnings about the sitemaps that the rules for `*` deny, unless these close the whole site.
+/// `star` is how the file is read for `*`.
 pub(crate) fn warn_of_sitemaps(
     alloc: Global,
     found: &mut Vec<Warning<'_>>,
-    file: &[u8],
-    labels: &[LabeledLine<'_>],
-    site: &Site,
+    star: &Reading,
+    read: &FileRead<'_>,
 ) -> Result<(), Fault>
-    requires { site.now ≡ take file_limit file.now }
+    requires read { IsRead read.now }
+    requires star { IsReading (codes "*") read.now.bytes.now star.now }
     ensures ok { OnOk result ((sitemaps : List WarningValue)
-        × AreOfSitemaps (lines_read file.now) (map label_by_value labels.now) sitemaps
+        × AreOfSitemaps (lines_read read.now.bytes.now) (map label_by_value read.now.labels.items) sitemaps
         × Adds found.old.items found.new.items sitemaps) }
     ensures fault { IfErr result (λ fault. fault ≡ Fault.Memory) }
 {
-    let mut numbers = Vec::new(alloc);
-    let mut urls = Vec::new(alloc);
-    ask_about_all(alloc, &mut numbers, &mut urls, site, labels)?;
-    let (_, verdicts) = ruling(alloc, "*", file, site, &urls)?;
-    Ok(warn_of_verdicts(found, &numbers, &verdicts)?)
+    let Reading::Accepted(robot) = star else {
+        return Ok(());
+    };
+    if !has_sitemap(&read.labels) {
+        return Ok(());
+    }
+    if is_closed(alloc, &read.site, "*")? {
+        return Ok(());
+    }
+    warn_of_each(alloc, found, robot, &read.labels)
 }

@@ -1,15 +1,18 @@
 //! Texts that several reports share: a delay, which group applies to a crawler, and that the file is
 //! rejected.
-ghost use Rattle.std.specs.Prelude.{◌≡◌, ◌++◌, ◌∷◌, [], OnOk, option_map, string_bytes};
-ghost use Rattle.printable_text.specs.Raw.{raw_line, raw_text, raw_value};
-ghost use Rattle.printable_text.specs.Text.{part_text, parts_text, value_text, written};
-ghost use Rattle.audit_core.specs.Texts.{delay_value, group_end, group_line, group_reason, group_text, group_value};
-ghost use Rattle.audit_core.specs.Texts.{may_fetch, rejected_lines, rejected_parts};
+ghost use Rattle.std.specs.Prelude.{◌≡◌, option_map};
+ghost use Rattle.printable_text.specs.Raw.{raw_line, raw_value};
+ghost use Rattle.printable_text.specs.Text.{parts_text, value_text};
+ghost use Rattle.audit_core.specs.Texts.{delay_value, group_value};
+ghost use Rattle.audit_core.specs.Texts.{may_fetch, rejected_parts};
 
 use crate::group::Group;
-use printable_text::parts::{Part, Value, push_line_of, push_parts};
+use printable_text::delay::Delay;
+use printable_text::parts::{Part, Value};
+use printable_text::report::Report;
 use robots_warnings::closed::Reach;
-use std::alloc::AllocError;
+use std::fmt;
+use std::fmt::Write;
 
 pub fn delay_value(delay: Option<u64>) -> Value<'static>
     ensures { raw_value result ≡ value_text (delay_value delay) }
@@ -29,54 +32,6 @@ pub fn group_value<'a>(agent: &'a str, group: Group) -> Value<'a>
         Group::Nobody => Value::Word("none"),
         Group::Everyone => Value::Word("everyone"),
     }
-}
-
-fn group_reason<'a>(agent: &'a str, group: Group) -> Part<'a>
-    ensures { raw_text result ≡ part_text (group_reason agent.entry.now group) }
-{
-    match group {
-        Group::Named => Part("", Value::Nothing),
-        Group::Star => Part(" (", Value::Untrusted(agent.as_bytes())),
-        Group::Nobody if agent == "*" => Part(" (no group for *", Value::Nothing),
-        Group::Nobody => Part(" (no group for ", Value::Untrusted(agent.as_bytes())),
-        Group::Everyone => Part(" (the file has no User-agent line", Value::Nothing),
-    }
-}
-
-fn group_end(agent: &str, group: Group) -> &'static str
-    ensures { result.now ≡ part_text (group_end agent.now group) }
-{
-    match group {
-        Group::Named => "",
-        Group::Star => " has no group of its own)",
-        Group::Nobody if agent == "*" => "; everything is allowed)",
-        Group::Nobody => " or *; everything is allowed)",
-        Group::Everyone => "; all rules are applied)",
-    }
-}
-
-fn group_parts<'a>(label: &'static str, agent: &'a str, group: Group) -> [Part<'a>; 3]
-    ensures { raw_line result ≡ label.now ++ group_text agent.entry.now group }
-{
-    [
-        Part(label, group_value(agent, group)),
-        group_reason(agent, group),
-        Part(group_end(agent, group), Value::Nothing),
-    ]
-}
-
-/// Appends the group that applies to a crawler, and the reason if it isn't the crawler's own.
-pub fn push_group_text(text: &mut String, agent: &str, group: Group) -> Result<(), AllocError>
-    ensures { OnOk result (string_bytes text.new ≡ string_bytes text.old ++ group_text agent.now group) }
-{
-    push_parts(text, &group_parts("", agent, group))
-}
-
-pub fn push_group(text: &mut String, agent: &str, group: Group) -> Result<(), AllocError>
-    ensures { OnOk result (string_bytes text.new ≡ string_bytes text.old
-        ++ written (group_line agent.now group ∷ [])) }
-{
-    push_line_of(text, &group_parts("group: ", agent, group))
 }
 
 /// If the file isn't rejected for the crawler, and it may fetch everything or nothing.
@@ -104,16 +59,69 @@ pub fn rejected_parts<'a>(agent: &'a str, line: usize) -> [Part<'a>; 3]
     ]
 }
 
-pub fn push_rejected(
-    text: &mut String,
-    agent: &str,
-    rejected: Option<usize>,
-) -> Result<(), AllocError>
-    ensures { OnOk result (string_bytes text.new ≡ string_bytes text.old
-        ++ written (rejected_lines agent.now rejected)) }
-{
-    match rejected {
-        Some(line) => push_line_of(text, &rejected_parts(agent, line)),
-        None => Ok(()),
+/// A delay, or `none`.
+#[derive(Clone, Copy)]
+pub struct DelayOrNone(pub Option<u64>);
+
+impl fmt::Display for DelayOrNone {
+    fn fmt<W: fmt::Write>(&self, f: &mut fmt::Formatter<W>) -> fmt::Result {
+        match self.0 {
+            Some(micros) => {
+                let delay = Delay(micros);
+                write!(f, "{delay}")
+            }
+            None => f.write_str("none"),
+        }
     }
+}
+
+/// The group that applies to a crawler, and the reason if it isn't the crawler's own.
+#[derive(Clone, Copy)]
+pub struct Applied<'a> {
+    pub agent: &'a str,
+    pub group: Group,
+}
+
+impl<'a> fmt::Display for Applied<'a> {
+    fn fmt<W: fmt::Write>(&self, f: &mut fmt::Formatter<W>) -> fmt::Result {
+        let agent = self.agent;
+        match self.group {
+            Group::Named => f.write_str(agent),
+            Group::Star => write!(f, "* ({agent} has no group of its own)"),
+            Group::Nobody if agent == "*" => {
+                f.write_str("none (no group for *; everything is allowed)")
+            }
+            Group::Nobody => write!(f, "none (no group for {agent} or *; everything is allowed)"),
+            Group::Everyone => {
+                f.write_str("everyone (the file has no User-agent line; all rules are applied)")
+            }
+        }
+    }
+}
+
+/// That the file is rejected for a crawler because of this line.
+#[derive(Clone, Copy)]
+pub struct Rejected<'a> {
+    pub agent: &'a str,
+    pub line: usize,
+}
+
+impl<'a> fmt::Display for Rejected<'a> {
+    fn fmt<W: fmt::Write>(&self, f: &mut fmt::Formatter<W>) -> fmt::Result {
+        let (agent, line) = (self.agent, self.line);
+        write!(
+            f,
+            "rejected for {agent}: line {line}: a pattern with $ longer than 4,096 bytes isn't supported; shorten it"
+        )
+    }
+}
+
+/// Writes it as a line, if the file is rejected.
+pub fn write_rejected(out: &mut Report, agent: &str, rejected: Option<usize>) -> fmt::Result {
+    let Some(line) = rejected else {
+        return Ok(());
+    };
+    let rejected = Rejected { agent, line };
+    write!(out, "{rejected}")?;
+    out.end_line()
 }

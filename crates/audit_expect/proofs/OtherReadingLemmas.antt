@@ -2,7 +2,7 @@
 use Rattle.std.specs.Prelude.{◌||◌, length, nat_le}
 use Rattle.std.proofs.Common.{◌≡◌, ◌≢◌, ◌∙◌, ℕ, zero, suc, ◌==◌, Bool, true, false, List, [], ◌∷◌, ◌++◌, Some}
 use Rattle.std.proofs.Common.{Contains, Option, None, ap, arith, if◌then◌else◌, inl, inr, map, refl, subst}
-use Rattle.std.proofs.Common.{slice_get, slice_index_or, sym}
+use Rattle.std.proofs.Common.{◌<◌, ◌≤◌, ◌-◌, drop, slice_get, slice_index_or, sym}
 use Rattle.std.specs.{Char.to_ascii_lowercase, List.All, Option.option_map_or}
 use Rattle.std.proofs.lemmas.Bool.{cases_Bool, false≢true, not-true, Decides.nat_tests}
 use Rattle.std.proofs.lemmas.Option.{option_and_then_some, same_Some}
@@ -10,7 +10,8 @@ use Rattle.std.proofs.lemmas.List.Elements.{All-map, Contains-append_left, Conta
 use Rattle.std.proofs.lemmas.List.Elements.{Contains-push_cases}
 use Rattle.texting_robots.specs.Callers.{Allow, IsBetter, IsDecidingLine, IsDecidingRule, IsOverlong, Matches}
 use Rattle.texting_robots.specs.Callers.{IsRejected, IsVerdict, LineValue, PlacedRule, Rule, placed_rules}
-use Rattle.texting_robots.specs.Callers.{robots_file, unplaced}
+use Rattle.texting_robots.specs.Callers.{Label, bodies_in, bodies_read, label_by_value, robots_file, unplaced}
+use Rattle.texting_robots.specs.declared.labels.{LabeledLine.LabeledLine}
 use Rattle.texting_robots.specs.{Statement.IsStatement, declared.parser.statement.Kind.TheVariants.Disallow}
 use Rattle.texting_robots.specs.{declared.decision.Decision.Decision, declared.parser.statement.Kind.Kind}
 use Rattle.texting_robots.specs.{Decision.IsDecisionOn, Pattern.longest_with_dollar, Internal.Line.line_of}
@@ -21,10 +22,11 @@ use Rattle.texting_robots.proofs.Shared.{rejection_is_computed, no_line_allows}
 use Rattle.robots_needless.proofs.TogetherLemmas.{in_filter, to_filter}
 use Rattle.robots_warnings.specs.Conflicts.{IsEmptyDisallow, begins_with_d, is_empty_disallow}
 use Rattle.robots_warnings.specs.FieldNames.{is_space_or_tab, without_front}
+use Rattle.robots_warnings.specs.{File.lines_of, Read.IsRead, declared.read.FileRead.FileRead}
 use Rattle.audit_expect.specs.OtherReading.{IsNormalDecision, normal_pattern, normal_rule}
 use Rattle.audit_expect.specs.OtherReading.{AreOthers, IsOtherDecision}
 use Rattle.audit_expect.specs.Internal.Expectations.{IsDecidedBy, IsPreferred, decision_with, is_empty}
-use Rattle.audit_expect.specs.Internal.Expectations.{is_marked, marks_of, others_of}
+use Rattle.audit_expect.specs.Internal.Expectations.{is_empty_label, is_marked, marks_in, marks_of, others_of}
 
 abbrev is_disallow : Option Kind → Bool
 is_disallow (Some Disallow) = true
@@ -241,3 +243,42 @@ pub normal_accepted : (rules : List PlacedRule)
 normal_accepted rules accepted =
     All-map (λ (placed : PlacedRule). ¬ IsOverlong placed.rule.0) normal_rule rules
     (λ k d below. normal_short (slice_index_or rules k d) (accepted k d below))
+
+empties : (labels : List Label) → lines_of labels ≡ map line_of (bodies_in labels)
+    → map is_empty_label labels ≡ map is_empty (bodies_in labels)
+empties [] same = refl
+empties (label ∷ labels) same =
+    let here : label.line ≡ line_of label.body = ap (λ lines. slice_index_or lines 0 label.line) same in
+    let later = empties labels (ap (drop 1) same) in
+    rw (here, later) refl
+
+pub marks_read : (read : FileRead) → IsRead read
+    → marks_in (map label_by_value read.labels.items) ≡ marks_of (bodies_read read.bytes.now)
+marks_read read is =
+    let labels = map label_by_value read.labels.items in
+    ap (λ marks. false ∷ marks) (empties labels (is.lines_are ∙ ap (map line_of) (sym is.bodies_are))
+    ∙ ap (map is_empty) is.bodies_are)
+
+mark_at : (labels : List LabeledLine) (place : ℕ) (d : LabeledLine) → place < length labels
+    → slice_index_or (map is_empty_label (map label_by_value labels)) place false
+    ≡ is_empty_label (label_by_value (slice_index_or labels place d))
+mark_at [] place d below = absurd (omega (arith, below))
+mark_at (label ∷ labels) zero d below = refl
+mark_at (label ∷ labels) (suc place) d below = mark_at labels place d (omega (arith, below))
+
+no_mark : (labels : List LabeledLine) (place : ℕ) → length labels ≤ place
+    → slice_index_or (map is_empty_label (map label_by_value labels)) place false ≡ false
+no_mark [] place past = refl
+no_mark (label ∷ labels) zero past = absurd (omega (arith, past))
+no_mark (label ∷ labels) (suc place) past = no_mark labels place (omega (arith, past))
+
+pub marked_at : (labels : List LabeledLine) (number : ℕ) (line d : LabeledLine) → number ≢ 0
+    → number - 1 < length labels → line ≡ slice_index_or labels (number - 1) d
+    → is_empty_label (label_by_value line) ≡ is_marked (marks_in (map label_by_value labels)) number
+marked_at labels zero line d some within is = absurd (some refl)
+marked_at labels (suc place) line d some within is = rw is (sym (mark_at labels place d within))
+
+pub unmarked_at : (labels : List LabeledLine) (number : ℕ) → length labels ≤ number - 1
+    → false ≡ is_marked (marks_in (map label_by_value labels)) number
+unmarked_at labels zero past = refl
+unmarked_at labels (suc place) past = sym (no_mark labels place past)

@@ -1,10 +1,11 @@
 //! What a robots.txt file says about an expectation, here and at the crawler's vendor, and whether it fails.
 ghost use Rattle.std.specs.Prelude.{◌≡◌, IfErr, IfOk, take};
-ghost use Rattle.texting_robots.specs.Callers.{IsRobotWithoutSitemaps, bodies_read, file_limit};
+ghost use Rattle.texting_robots.specs.Callers.{IsRobotWithoutSitemaps, file_limit};
 ghost use Rattle.audit_expect.specs.Expectations.{IsAtVendor, IsChecked, IsJudgmentOn, fails, fails_at};
 ghost use Rattle.audit_expect.specs.Expectations.{fails_at_vendor, fails_here, is_unexpected};
 ghost use Rattle.audit_core.specs.Internal.{IsReading};
-ghost use Rattle.audit_expect.specs.Internal.Expectations.{checked_value, marks_of};
+ghost use Rattle.robots_warnings.specs.Read.{IsRead};
+ghost use Rattle.audit_expect.specs.Internal.Expectations.{checked_value};
 
 use crate::expect::Expectation;
 use crate::normal_form::written_form;
@@ -13,9 +14,10 @@ use audit_core::asked::decision_on;
 use audit_core::audit::{Reading, read_for};
 use audit_core::fault::Fault;
 use robots_warnings::crawlers::other_group;
+use robots_warnings::read::FileRead;
 use std::alloc::Global;
+use texting_robots::Robot;
 use texting_robots::robot::Decision;
-use texting_robots::{Robot, Site};
 
 /// What a file says about a URL for a crawler.
 #[derive(Drop)]
@@ -52,14 +54,11 @@ fn decided_on(
     agent: &str,
     url: &str,
     robot: &Robot,
-    file: &[u8],
-    site: &Site,
-    marks: &[bool],
+    read: &FileRead<'_>,
 ) -> Result<Judgment, Fault>
-    requires robot { IsRobotWithoutSitemaps agent.now (take file_limit file.now) robot.now }
-    requires site { site.now ≡ take file_limit file.now }
-    requires marks { marks.now ≡ marks_of (bodies_read file.now) }
-    ensures ok { IfOk result (IsJudgmentOn file.now agent.now url.now) }
+    requires read { IsRead read.now }
+    requires robot { IsRobotWithoutSitemaps agent.now (take file_limit read.now.bytes.now) robot.now }
+    ensures ok { IfOk result (IsJudgmentOn read.now.bytes.now agent.now url.now) }
     ensures fault { IfErr result (λ fault. fault ≡ Fault.Memory) }
 {
     let form = written_form(alloc, url)?;
@@ -67,8 +66,8 @@ fn decided_on(
         return Ok(Judgment::Rewritten);
     };
     let decision = decision_on(alloc, robot, url)?;
-    let other = other_decision(alloc, agent, url, &decision, site, marks)?;
-    let normal = normal_decision(alloc, agent, &target, site, marks)?;
+    let other = other_decision(alloc, agent, url, &decision, read)?;
+    let normal = normal_decision(alloc, agent, &target, read)?;
     Ok(Judgment::Decided(decision, other, normal))
 }
 
@@ -78,19 +77,16 @@ fn judgment_on(
     agent: &str,
     url: &str,
     reading: &Reading,
-    file: &[u8],
-    site: &Site,
-    marks: &[bool],
+    read: &FileRead<'_>,
 ) -> Result<Judgment, Fault>
-    requires reading { IsReading agent.now file.now reading.now }
-    requires site { site.now ≡ take file_limit file.now }
-    requires marks { marks.now ≡ marks_of (bodies_read file.now) }
-    ensures ok { IfOk result (IsJudgmentOn file.now agent.now url.now) }
+    requires read { IsRead read.now }
+    requires reading { IsReading agent.now read.now.bytes.now reading.now }
+    ensures ok { IfOk result (IsJudgmentOn read.now.bytes.now agent.now url.now) }
     ensures fault { IfErr result (λ fault. fault ≡ Fault.Memory) }
 {
     match reading {
         Reading::Rejected(line) => Ok(Judgment::Rejected(*line)),
-        Reading::Accepted(robot) => decided_on(alloc, agent, url, robot, file, site, marks),
+        Reading::Accepted(robot) => decided_on(alloc, agent, url, robot, read),
     }
 }
 
@@ -98,23 +94,20 @@ fn at_vendor<'a>(
     alloc: Global,
     agent: &str,
     url: &str,
-    file: &[u8],
-    site: &'a Site,
-    marks: &[bool],
+    read: &'a FileRead<'_>,
 ) -> Result<AtVendor<'a>, Fault>
-    requires site { site.now ≡ take file_limit file.now }
-    requires marks { marks.now ≡ marks_of (bodies_read file.now) }
-    ensures ok { IfOk result (IsAtVendor file.now agent.now url.now) }
+    requires { IsRead read.now }
+    ensures ok { IfOk result (IsAtVendor read.now.bytes.now agent.now url.now) }
     ensures fault { IfErr result (λ fault. fault ≡ Fault.Memory) }
 {
-    let Some(group) = other_group(site, agent) else {
+    let Some(group) = other_group(&read.site, agent) else {
         return Ok(AtVendor::Same);
     };
     if group.is_empty() {
         return Ok(AtVendor::Nobody);
     }
-    let reading = read_for(alloc, group, file, site)?;
-    let judgment = judgment_on(alloc, group, url, &reading, file, site, marks)?;
+    let reading = read_for(alloc, group, read)?;
+    let judgment = judgment_on(alloc, group, url, &reading, read)?;
     Ok(AtVendor::Group(group, judgment))
 }
 
@@ -123,20 +116,17 @@ pub(crate) fn checked_on<'a>(
     alloc: Global,
     expectation: &Expectation<'a>,
     reading: &Reading,
-    file: &[u8],
-    site: &'a Site,
-    marks: &[bool],
+    read: &'a FileRead<'_>,
 ) -> Result<Checked<'a>, Fault>
-    requires reading { IsReading expectation.now.agent.now file.now reading.now }
-    requires site { site.now ≡ take file_limit file.now }
-    requires marks { marks.now ≡ marks_of (bodies_read file.now) }
+    requires read { IsRead read.now }
+    requires reading { IsReading expectation.now.agent.now read.now.bytes.now reading.now }
     ensures expectation { IfOk result (λ checked. checked.expectation ≡ expectation.now) }
-    ensures checked { IfOk result (λ checked. IsChecked file.now (checked_value checked)) }
+    ensures checked { IfOk result (λ checked. IsChecked read.now.bytes.now (checked_value checked)) }
     ensures fault { IfErr result (λ fault. fault ≡ Fault.Memory) }
 {
     let (agent, url) = (expectation.agent, expectation.url);
-    let judgment = judgment_on(alloc, agent, url, reading, file, site, marks)?;
-    let vendor = at_vendor(alloc, agent, url, file, site, marks)?;
+    let judgment = judgment_on(alloc, agent, url, reading, read)?;
+    let vendor = at_vendor(alloc, agent, url, read)?;
     Ok(Checked {
         expectation: *expectation,
         judgment,

@@ -1,11 +1,12 @@
 //! Expectations checked against a robots.txt file, and the report on those that fail.
 ghost use Rattle.std.specs.Prelude.{◌≡◌, ◌==◌, ◌++◌, ◌∷◌, [], IfErr, IfOk, Ok, OnOk, bytes_eq, false, length};
-ghost use Rattle.std.specs.Prelude.{map, string_bytes, take};
-ghost use Rattle.texting_robots.specs.Callers.{file_limit, robots_file};
+ghost use Rattle.std.specs.Prelude.{map, string_bytes};
+ghost use Rattle.texting_robots.specs.Callers.{robots_file};
 ghost use Rattle.printable_text.specs.Text.{line_text, part_text, parts_text};
 ghost use Rattle.printable_text.specs.{Lines.ended, Sanitize.sanitized, Raw.raw_line, Raw.raw_text};
 ghost use Rattle.audit_core.specs.{Asked.asked_target, Internal.IsReading};
 ghost use Rattle.audit_core.specs.Findings.{finding_value, found_value};
+ghost use Rattle.robots_warnings.specs.Read.{IsRead};
 ghost use Rattle.audit_expect.specs.declared.checks.Judgment.{TheVariants.Decided};
 ghost use Rattle.audit_expect.specs.Expect.{IsEntryFault, expectations_in as specified_in};
 ghost use Rattle.audit_expect.specs.Expectations.{IsReport, decision_parts, demand, demand_parts, failure};
@@ -19,15 +20,14 @@ ghost use Rattle.audit_core.specs.declared.fault.Entry.TheVariants as entry;
 use crate::checks::{AtVendor, Checked, Judgment, checked_on, fails, fails_here, is_unexpected};
 use crate::entries::without_entries;
 use crate::expect::{Expectation, expectations_in};
-use crate::other_reading::empty_disallows;
 use audit_core::asked::asked_target;
 use audit_core::audit::{Reading, read_for};
 use audit_core::fault::{Entry, Fault};
 use audit_core::findings::{Finding, Findings};
 use printable_text::level::Level;
 use printable_text::parts::{Part, Value, push_line_of, push_parts};
+use robots_warnings::read::FileRead;
 use std::alloc::{AllocError, Global};
-use texting_robots::Site;
 use texting_robots::robot::Decision;
 
 #[derive(Drop)]
@@ -41,18 +41,17 @@ fn reading_for<'a>(
     alloc: Global,
     before: AgentReading<'a>,
     agent: &'a str,
-    file: &[u8],
-    site: &Site,
+    read: &FileRead<'_>,
 ) -> Result<AgentReading<'a>, Fault>
-    requires before { IsReading before.agent.now file.now before.reading }
-    requires site { site.now ≡ take file_limit file.now }
-    ensures ok { IfOk result (IsReadFor agent.entry.now file.now) }
+    requires read { IsRead read.now }
+    requires before { IsReading before.agent.now read.now.bytes.now before.reading }
+    ensures ok { IfOk result (IsReadFor agent.entry.now read.now.bytes.now) }
     ensures fault { IfErr result (λ fault. fault ≡ Fault.Memory) }
 {
     if before.agent == agent {
         return Ok(before);
     }
-    let reading = read_for(alloc, agent, file, site)?;
+    let reading = read_for(alloc, agent, read)?;
     Ok(AgentReading { agent, reading })
 }
 
@@ -278,22 +277,25 @@ fn add_if_failing(alloc: Global, found: &mut Findings, checked: &Checked<'_>) ->
     Ok(found.push(failure(alloc, checked)?)?)
 }
 
-fn failures(alloc: Global, expectations: &[Expectation<'_>], file: &[u8]) -> Result<Findings, Fault>
-    ensures ok { IfOk result (λ found. AreFailuresOn file.now (map expectation_value expectations.now)
+fn failures(
+    alloc: Global,
+    expectations: &[Expectation<'_>],
+    read: &FileRead<'_>,
+) -> Result<Findings, Fault>
+    requires { IsRead read.now }
+    ensures ok { IfOk result (λ found. AreFailuresOn read.now.bytes.now (map expectation_value expectations.now)
         (map finding_value found.items)) }
     ensures fault { IfErr result (λ fault. fault ≡ Fault.Memory) }
 {
-    let site = Site::new(alloc, file)?;
-    let marks = empty_disallows(alloc, &site)?;
-    let reading = read_for(alloc, "*", file, &site)?;
+    let reading = read_for(alloc, "*", read)?;
     let mut latest = AgentReading {
         agent: "*",
         reading,
     };
     let mut found = Vec::new(alloc);
     for expectation in expectations {
-        latest = reading_for(alloc, latest, expectation.agent, file, &site)?;
-        let checked = checked_on(alloc, expectation, &latest.reading, file, &site, &marks)?;
+        latest = reading_for(alloc, latest, expectation.agent, read)?;
+        let checked = checked_on(alloc, expectation, &latest.reading, read)?;
         add_if_failing(alloc, &mut found, &checked)?;
     }
     Ok(found)
@@ -387,7 +389,8 @@ pub fn check(
     ensures fault { IfErr result (IsEntryFault name.now entry.Expectation (specified_in text.now)) }
 {
     let expectations = parsed(alloc, name, text)?;
-    let found = failures(alloc, &expectations, file)?;
+    let read = FileRead::new(alloc, "*", file)?;
+    let found = failures(alloc, &expectations, &read)?;
     let report = result_text(alloc, name, expectations.len(), &found)?;
     Ok((report, found))
 }

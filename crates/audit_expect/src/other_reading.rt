@@ -1,12 +1,14 @@
 //! Other readings: of an empty Disallow, which here is an Allow of `/`, and for RFC 9309 and Google no rule;
 //! and of characters that RFC 9309 compares in their normal forms.
-ghost use Rattle.std.specs.Prelude.{◌≡◌, ◌↔◌, All, Decides, IfErr, IfOk, IsTrue, false, option_map};
+ghost use Rattle.std.specs.Prelude.{◌≡◌, ◌↔◌, All, Decides, IfErr, IfOk, IsTrue, false, map, option_map};
 ghost use Rattle.std.specs.Option.{option_map_or};
-ghost use Rattle.texting_robots.specs.Callers.{IsBetter, IsOverlong, IsRejected, Matches, PlacedRule, file_bodies, file_lines, placed_rules};
+ghost use Rattle.texting_robots.specs.Callers.{IsBetter, IsOverlong, IsRejected, Matches, PlacedRule, bodies_read};
+ghost use Rattle.texting_robots.specs.Callers.{label_by_value, lines_read, placed_rules};
 ghost use Rattle.texting_robots.specs.Decision.{IsDecisionOn};
 ghost use Rattle.audit_core.specs.Asked.{asked_target};
+ghost use Rattle.robots_warnings.specs.Read.{IsRead};
 ghost use Rattle.audit_expect.specs.OtherReading.{IsNormalDecision, IsOtherDecision};
-ghost use Rattle.audit_expect.specs.Internal.Expectations.{IsDecidedBy, IsPreferred, decision_with, marks_of};
+ghost use Rattle.audit_expect.specs.Internal.Expectations.{IsDecidedBy, IsPreferred, decision_with, marks_in};
 ghost use Rattle.audit_expect.specs.Internal.Expectations.{is_marked, others_of};
 
 use crate::normal_form::normal_rules;
@@ -14,48 +16,34 @@ use audit_core::asked::asked_target;
 use audit_core::fault::Fault;
 use audit_core::rules::{Rule, rules_for};
 use robots_warnings::empty_disallows::is_empty_disallow;
+use robots_warnings::read::FileRead;
 use std::alloc::{AllocError, Global};
+use texting_robots::Error;
+use texting_robots::labels::LabeledLine;
 use texting_robots::minregex::MinRegex;
-use texting_robots::parser::{file_bodies, file_lines};
 use texting_robots::robot::Decision;
-use texting_robots::{Error, Site};
 
-pub(crate) fn empty_disallows(alloc: Global, site: &Site) -> Result<Vec<bool>, AllocError>
-    ensures { IfOk result (λ marks. marks.items ≡ marks_of (file_bodies site.now)) }
+/// Whether the line with this number is an empty Disallow.
+fn is_marked(labels: &[LabeledLine<'_>], number: usize) -> bool
+    ensures { result ≡ is_marked (marks_in (map label_by_value labels.now)) number }
 {
-    let mut marks = Vec::new(alloc);
-    marks.push(false)?;
-    let mut lines = file_lines(site.text());
-    for body in file_bodies(site.text()) {
-        let Some(line) = lines.next() else {
-            return Ok(marks);
-        };
-        marks.push(is_empty_disallow(line, body))?;
+    if number == 0 {
+        return false;
     }
-    Ok(marks)
-}
-
-fn is_marked(marks: &[bool], number: usize) -> bool
-    ensures { result ≡ is_marked marks.now number }
-{
-    match marks.get(number) {
-        Some(is) => *is,
+    match labels.get(number - 1) {
+        Some(labeled) => is_empty_disallow(labeled.line, labeled.body),
         None => false,
     }
 }
 
-fn other_rules(
-    alloc: Global,
-    site: &Site,
-    agent: &str,
-    marks: &[bool],
-) -> Result<Vec<Rule>, AllocError>
-    requires { marks.now ≡ marks_of (file_bodies site.now) }
-    ensures { IfOk result (λ rules. rules.items
-        ≡ others_of (file_bodies site.now) (placed_rules agent.now (file_lines site.now))) }
+fn other_rules(alloc: Global, agent: &str, read: &FileRead<'_>) -> Result<Vec<Rule>, AllocError>
+    requires { IsRead read.now }
+    ensures { IfOk result (λ rules. rules.items ≡ others_of (bodies_read read.now.bytes.now)
+        (placed_rules agent.now (lines_read read.now.bytes.now))) }
 {
-    let mut rules = rules_for(alloc, site, agent)?;
-    rules.retain(|rule| !is_marked(marks, rule.line));
+    let labels: &[LabeledLine<'_>] = &read.labels;
+    let mut rules = rules_for(alloc, &read.site, agent)?;
+    rules.retain(|rule| !is_marked(labels, rule.line));
     Ok(rules)
 }
 
@@ -138,11 +126,11 @@ fn decision_of(alloc: Global, rules: &[Rule], target: &str) -> Result<Decision, 
     Ok(decision_with(rule))
 }
 
-fn is_by_marked(decision: &Decision, marks: &[bool]) -> bool
-    ensures { result ≡ option_map_or (is_marked marks.now) decision.now.line false }
+fn is_by_marked(decision: &Decision, labels: &[LabeledLine<'_>]) -> bool
+    ensures { result ≡ option_map_or (is_marked (marks_in (map label_by_value labels.now))) decision.now.line false }
 {
     match decision.line {
-        Some(line) => is_marked(marks, line),
+        Some(line) => is_marked(labels, line),
         None => false,
     }
 }
@@ -154,21 +142,21 @@ pub(crate) fn other_decision(
     agent: &str,
     url: &str,
     decision: &Decision,
-    site: &Site,
-    marks: &[bool],
+    read: &FileRead<'_>,
 ) -> Result<Decision, Fault>
-    requires marks { marks.now ≡ marks_of (file_bodies site.now) }
-    requires accepted { ¬ IsRejected agent.now (file_lines site.now) }
-    requires decided { IsDecisionOn (placed_rules agent.now (file_lines site.now)) (asked_target url.now) decision.now }
-    ensures ok { IfOk result (IsOtherDecision (file_bodies site.now) (placed_rules agent.now (file_lines site.now))
-        (asked_target url.now)) }
+    requires read { IsRead read.now }
+    requires accepted { ¬ IsRejected agent.now (lines_read read.now.bytes.now) }
+    requires decided { IsDecisionOn (placed_rules agent.now (lines_read read.now.bytes.now)) (asked_target url.now)
+        decision.now }
+    ensures ok { IfOk result (IsOtherDecision (bodies_read read.now.bytes.now)
+        (placed_rules agent.now (lines_read read.now.bytes.now)) (asked_target url.now)) }
     ensures fault { IfErr result (λ fault. fault ≡ Fault.Memory) }
 {
-    if !is_by_marked(decision, marks) {
+    if !is_by_marked(decision, &read.labels) {
         return Ok(*decision);
     }
     let target = asked_target(alloc, url)?;
-    let rules = other_rules(alloc, site, agent, marks)?;
+    let rules = other_rules(alloc, agent, read)?;
     let other = decision_of(alloc, &rules, &target)?;
     Ok(other)
 }
@@ -178,16 +166,15 @@ pub(crate) fn normal_decision(
     alloc: Global,
     agent: &str,
     target: &str,
-    site: &Site,
-    marks: &[bool],
+    read: &FileRead<'_>,
 ) -> Result<Decision, Fault>
-    requires marks { marks.now ≡ marks_of (file_bodies site.now) }
-    requires accepted { ¬ IsRejected agent.now (file_lines site.now) }
-    ensures ok { IfOk result (IsNormalDecision (file_bodies site.now) (placed_rules agent.now (file_lines site.now))
-        target.now) }
+    requires read { IsRead read.now }
+    requires accepted { ¬ IsRejected agent.now (lines_read read.now.bytes.now) }
+    ensures ok { IfOk result (IsNormalDecision (bodies_read read.now.bytes.now)
+        (placed_rules agent.now (lines_read read.now.bytes.now)) target.now) }
     ensures fault { IfErr result (λ fault. fault ≡ Fault.Memory) }
 {
-    let rules = other_rules(alloc, site, agent, marks)?;
+    let rules = other_rules(alloc, agent, read)?;
     let rules = normal_rules(alloc, &rules)?;
     let decision = decision_of(alloc, &rules, target)?;
     Ok(decision)

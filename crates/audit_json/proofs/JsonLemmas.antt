@@ -26,12 +26,14 @@ use Rattle.audit_core.specs.declared.group.Group.TheVariants.{Everyone, Named, N
 use Rattle.audit_core.specs.Rows.{comment_of, has_value, kind_of, line_value, membership_value}
 use Rattle.audit_core.specs.Audit.{AgentValue, AuditValue, VerdictValue}
 use Rattle.audit_core.specs.Findings.{Found, found_value, warning_finding, all_found, findings, message_of}
-use Rattle.audit_core.proofs.FindingLemmas.{in_quotes, message_printable, name_printable}
+use Rattle.audit_core.proofs.FindingLemmas.{message_printable, name_printable}
+use Rattle.printable_text.proofs.{EscapeLemmas.in_quotes}
 use Rattle.rfc9309_laws.specs.declared.conformance.Conformance.{Conformance}
 use Rattle.rfc9309_laws.specs.declared.conformance.Conformance.TheVariants.{OtherFile, OtherLine, Syntax}
 use Rattle.rfc9309_laws.specs.declared.conformance.Conformance.TheVariants.{Verdicts}
 use Rattle.audit_json.specs.Json.{finding_json, findings_json, findings_text, sanitized_json, text_json}
-use Rattle.audit_json.specs.Json.{agent_json, audit_json, fault_json, group_word, number_json, verdict_json, warning_json}
+use Rattle.audit_json.specs.Json.{agent_json, audit_json, fault_json, group_word, number_json, verdict_json}
+use Rattle.audit_json.specs.Json.{warning_json}
 use Rattle.audit_json.specs.Json.{json_text, known_json, line_json, list_json, value_json, word_json}
 use Rattle.std.specs.Str.{IsUtf8, all_scalars, chars, encode_utf8_all}
 use Rattle.std.proofs.lemmas.Str.{chars-encodes, encodes-append, scalars-chars}

@@ -197,18 +197,6 @@ impl<'a> Json for Warning<'a> {
     }
 }
 
-fn agents_json(alloc: Global, agents: &[AgentAudit<'_>]) -> Result<Value, AllocError>
-    ensures { IfOk result (λ value. view value ≡ list_json agent_json agents.now) }
-{
-    list_json(alloc, agents)
-}
-
-fn warnings_json(alloc: Global, warnings: &[Warning<'_>]) -> Result<Value, AllocError>
-    ensures { IfOk result (λ value. view value ≡ list_json warning_json warnings.now) }
-{
-    list_json(alloc, warnings)
-}
-
 fn sitemaps_json(alloc: Global, labels: &[LabeledLine<'_>]) -> Result<Value, AllocError>
     ensures { IfOk result (λ value. view value
         ≡ list_json sanitized_json (sitemaps_in (lines_of (map label_by_value labels.now)))) }
@@ -257,13 +245,13 @@ fn audit_json(alloc: Global, has_rows: bool, audit: &Audit<'_>) -> Result<Value,
     let verdicts = known_json(audit.syntax.has_verdicts());
     let line = fault_json(audit.syntax);
     json!(in alloc; {
-        "agents": agents_json(alloc, &audit.agents)?,
+        "agents": list_json(alloc, &audit.agents)?,
         "has_rfc_9309_syntax": syntax,
         "has_rfc_9309_verdicts": verdicts,
         "lines": rows_json(alloc, has_rows, &audit.labels)?,
         "rfc_9309_line": line,
         "sitemaps": sitemaps_json(alloc, &audit.labels)?,
-        "warnings": warnings_json(alloc, &audit.warnings)?,
+        "warnings": list_json(alloc, &audit.warnings)?,
     })
 }
 

@@ -1,5 +1,1 @@
-pub mod BodyLemmas
 pub mod ByLineLemmas
-pub mod HtmlLemmas
-pub mod PageLemmas
-pub mod TreeLemmas

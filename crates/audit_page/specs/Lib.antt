@@ -1,4 +1,2 @@
-pub mod Html
-pub mod Internal
 pub mod Page
-pub mod Tree
+pub mod Internal

@@ -1,5 +1,4 @@
 //! The audit as an HTML page.
 #![tactic(auto)]
 
-pub mod laws;
 pub mod page;

@@ -1,17 +1,10 @@
 //! The audit as an HTML page.
-#![tactic(auto, using(crate::proofs::TreeLemmas::joined))]
-
-ghost use Rattle.std.specs.Prelude.{◌≡◌, ◌++◌, IfOk, OnOk, length, map, option_map};
-ghost use Rattle.texting_robots.specs.{Callers.label_by_value};
-ghost use Rattle.html_writer.specs.{Html.document};
-ghost use Rattle.audit_core.specs.{Request.requested_by};
-ghost use Rattle.audit_page.specs.{Page.date_entry, Page.file_entry, Page.page_content, Page.syntax_entry};
-ghost use Rattle.audit_page.specs.{Page.page, Page.page_head, Page.page_tree, Page.sentence, Page.summary, Tree.written};
+ghost use Rattle.std.specs.Prelude.{IfOk};
+ghost use Rattle.html_writer.specs.Page.{IsSomePage};
 
 mod by_line;
+mod elements;
 mod file;
-mod parts;
-mod pieces;
 mod slices;
 mod style;
 mod verdicts;
@@ -19,154 +12,137 @@ mod warnings;
 
 use audit_core::audit::Audit;
 use audit_core::request::Request;
-use audit_core::syntax::{SYNTAX_SENTENCE, VERDICTS_SENTENCE};
-use file::{push_file_table, push_sitemap_entry};
-use html_writer::write::{push_doctype, push_element, push_end, push_start};
-use parts::{Page, push, push_start_with};
-use pieces::{
-    apart_entry, cell_name, head_start, other_entry, page_end, page_heading, some_date, title,
-};
+use audit_core::syntax::{LINE_APART, OTHER_LINE, SYNTAX_SENTENCE, VERDICTS_SENTENCE};
+use audit_core::version::VERSION;
+use elements::Page;
+use file::{write_file_table, write_sitemap_entry};
+use printable_text::report::Named;
 use rfc9309_laws::conformance::Conformance;
-use std::alloc::{AllocError, Global};
-use style::VERDICTS;
-use texting_robots::labels::LabeledLine;
-use verdicts::{push_crawler_entries, push_verdict_part};
-use warnings::push_warning_entry;
+use std::alloc::Global;
+use std::fmt;
+use std::fmt::Write;
+use style::{CSS, POLICY};
+use verdicts::{write_crawler_entries, write_verdict_part};
+use warnings::write_warning_entry;
 
-#[tactic(auto, using(crate::proofs::TreeLemmas::joined), unfolding(crate::specs::Page::page_head))]
-fn push_head(page: &mut Page, agent: Option<&str>) -> Result<(), AllocError>
-    ensures { OnOk result (page.new.out.items ≡ page.old.out.items
-        ++ written (page_head (option_map (λ agent. agent.now) agent.entry))) }
-{
-    push_start(&mut page.out, "head")?;
-    push(page, &head_start())?;
-    push_start(&mut page.out, "title")?;
-    push(page, &[title(agent)])?;
-    push_end(&mut page.out, "title")?;
-    push_end(&mut page.out, "head")
+#[derive(Clone, Copy)]
+struct Title<'a>(Option<&'a str>);
+
+impl<'a> fmt::Display for Title<'a> {
+    fn fmt<W: fmt::Write>(&self, f: &mut fmt::Formatter<W>) -> fmt::Result {
+        match self.0 {
+            Some(agent) => write!(f, "robots.txt for {agent}"),
+            None => f.write_str("robots.txt for several crawlers"),
+        }
+    }
 }
 
-fn push_sentence(page: &mut Page) -> Result<(), AllocError>
-    ensures { OnOk result (page.new.out.items ≡ page.old.out.items ++ written sentence) }
-{
-    push_element(&mut page.out, "dt", b"Syntax")?;
-    push_element(&mut page.out, "dd", SYNTAX_SENTENCE.as_bytes())
+fn write_head(page: &mut Page, title: Title<'_>) -> fmt::Result {
+    page.html.open("head", &[])?;
+    page.html.void("meta", &[("charset", "utf-8")])?;
+    page.html.void(
+        "meta",
+        &[
+            ("http-equiv", "Content-Security-Policy"),
+            ("content", POLICY),
+        ],
+    )?;
+    page.html.void(
+        "meta",
+        &[
+            ("name", "viewport"),
+            ("content", "width=device-width, initial-scale=1"),
+        ],
+    )?;
+    page.html.style(CSS)?;
+    page.id.clear();
+    write!(page.id, "{title}")?;
+    page.html.title(&page.id)?;
+    page.html.close()
 }
 
-#[tactic(auto, using(crate::proofs::TreeLemmas::joined), unfolding(crate::specs::Page::syntax_entry))]
-fn push_syntax_entry(page: &mut Page, syntax: Conformance) -> Result<(), AllocError>
-    ensures { OnOk result (page.new.out.items ≡ page.old.out.items ++ written (syntax_entry syntax)) }
-{
+fn write_entry(page: &mut Page, name: &str, text: &str) -> fmt::Result {
+    page.element("dt", name)?;
+    page.element("dd", text)
+}
+
+fn write_line_at_fault(page: &mut Page, name: &str, front: &str, line: usize) -> fmt::Result {
+    page.element("dt", name)?;
+    page.html.open("dd", &[])?;
+    write!(page.html, "{front}{line}")?;
+    page.html.close()
+}
+
+fn write_syntax_entry(page: &mut Page, syntax: Conformance) -> fmt::Result {
     match syntax {
         Conformance::OtherFile => Ok(()),
-        Conformance::OtherLine(line) => push(page, &other_entry(line)),
+        Conformance::OtherLine(line) => write_line_at_fault(page, "Syntax", OTHER_LINE, line),
         Conformance::Syntax(line) => {
-            push_sentence(page)?;
-            push(page, &apart_entry(line))
+            write_entry(page, "Syntax", SYNTAX_SENTENCE)?;
+            write_line_at_fault(page, "Verdicts", LINE_APART, line)
         }
         Conformance::Verdicts => {
-            push_sentence(page)?;
-            push_element(&mut page.out, "dt", VERDICTS.as_bytes())?;
-            push_element(&mut page.out, "dd", VERDICTS_SENTENCE.as_bytes())
+            write_entry(page, "Syntax", SYNTAX_SENTENCE)?;
+            write_entry(page, "Verdicts", VERDICTS_SENTENCE)
         }
     }
 }
 
-#[tactic(auto, using(crate::proofs::TreeLemmas::joined), unfolding(crate::specs::Page::file_entry))]
-fn push_file_entry(page: &mut Page, name: &str) -> Result<(), AllocError>
-    ensures { OnOk result (page.new.out.items ≡ page.old.out.items ++ written (file_entry name.now)) }
-{
-    push_element(&mut page.out, "dt", b"File")?;
-    push_start(&mut page.out, "dd")?;
-    push(page, &cell_name(name.as_bytes()))?;
-    push_end(&mut page.out, "dd")
+fn write_file_entry(page: &mut Page, name: &str) -> fmt::Result {
+    page.element("dt", "File")?;
+    page.html.open("dd", &[])?;
+    page.code(name.as_bytes())?;
+    page.html.close()
 }
 
-fn push_date_entry(page: &mut Page, date: Option<&str>) -> Result<(), AllocError>
-    ensures { OnOk result (page.new.out.items ≡ page.old.out.items
-        ++ written (date_entry (option_map (λ date. date.now) date.entry))) }
-{
-    match date {
-        Some(date) => push(page, &some_date(date.as_bytes())),
-        None => Ok(()),
-    }
+fn write_date_entry(page: &mut Page, date: Option<&str>) -> fmt::Result {
+    let Some(date) = date else {
+        return Ok(());
+    };
+    let date = Named(date);
+    page.element("dt", "Date")?;
+    page.html.open("dd", &[])?;
+    write!(page.html, "{date}")?;
+    page.html.close()
 }
 
-fn row_count(labels: &[LabeledLine<'_>]) -> usize
-    ensures { result ≡ length (map label_by_value labels.now) }
-{
-    labels.len()
-}
-
-#[tactic(auto, using(crate::proofs::TreeLemmas::joined), unfolding(crate::specs::Page::summary))]
-fn push_summary(
+fn write_summary(
     alloc: Global,
     page: &mut Page,
     request: &Request<'_>,
     audit: &Audit<'_>,
-) -> Result<(), AllocError>
-    ensures { OnOk result (page.new.out.items ≡ page.old.out.items
-        ++ written (summary (requested_by request.now) audit.now)) }
-{
-    push_start(&mut page.out, "dl")?;
-    push_file_entry(page, request.shown_name())?;
-    push_date_entry(page, request.date)?;
-    push_crawler_entries(page, request.agent, &audit.agents)?;
-    push_sitemap_entry(alloc, page, &audit.labels)?;
-    push_syntax_entry(page, audit.syntax)?;
-    push_warning_entry(alloc, page, row_count(&audit.labels), &audit.warnings)?;
-    push_end(&mut page.out, "dl")
-}
-
-#[tactic(auto, using(crate::proofs::TreeLemmas::joined), unfolding(crate::specs::Page::page_content))]
-fn push_content(
-    alloc: Global,
-    page: &mut Page,
-    request: &Request<'_>,
-    audit: &Audit<'_>,
-) -> Result<(), AllocError>
-    ensures { OnOk result (page.new.out.items ≡ page.old.out.items
-        ++ written (page_content (requested_by request.now) audit.now)) }
-{
-    push(page, &page_heading(request.agent))?;
-    push_summary(alloc, page, request, audit)?;
-    push_verdict_part(page, request.agent, &request.urls, &audit.agents)?;
-    push_file_table(alloc, page, request.agent, audit)?;
-    push(page, &page_end())
-}
-
-#[tactic(auto, using(crate::proofs::TreeLemmas::joined), unfolding(crate::specs::Page::page_tree))]
-fn push_page(
-    alloc: Global,
-    page: &mut Page,
-    request: &Request<'_>,
-    audit: &Audit<'_>,
-) -> Result<(), AllocError>
-    ensures { OnOk result (page.new.out.items ≡ page.old.out.items
-        ++ written (page_tree (requested_by request.now) audit.now)) }
-{
-    push_start_with(page, "html", "lang", "en")?;
-    push_head(page, request.agent)?;
-    push_start(&mut page.out, "body")?;
-    push_start(&mut page.out, "main")?;
-    push_content(alloc, page, request, audit)?;
-    push_end(&mut page.out, "main")?;
-    push_end(&mut page.out, "body")?;
-    push_end(&mut page.out, "html")
+) -> fmt::Result {
+    page.html.open("dl", &[])?;
+    write_file_entry(page, request.shown_name())?;
+    write_date_entry(page, request.date)?;
+    write_crawler_entries(page, request.agent, &audit.agents)?;
+    write_sitemap_entry(alloc, page, &audit.labels)?;
+    write_syntax_entry(page, audit.syntax)?;
+    write_warning_entry(alloc, page, audit.labels.len(), &audit.warnings)?;
+    page.html.close()
 }
 
 /// The page always has the lines of the file, to which its parts link.
-#[tactic(auto, using(crate::proofs::TreeLemmas::document_is))]
 pub fn page_text(
     alloc: Global,
     request: &Request<'_>,
     audit: &Audit<'_>,
-) -> Result<Vec<u8>, AllocError>
-    ensures { IfOk result (λ text. text.items
-        ≡ document (page (requested_by request.now) audit.now)) }
+) -> Result<Vec<u8>, fmt::Error>
+    ensures { IfOk result (λ page. IsSomePage page.items) }
 {
     let mut page = Page::new(alloc);
-    push_doctype(&mut page.out)?;
-    push_page(alloc, &mut page, request, audit)?;
-    Ok(page.out)
+    let title = Title(request.agent);
+    page.html.open("html", &[("lang", "en")])?;
+    write_head(&mut page, title)?;
+    page.html.open("body", &[])?;
+    page.html.open("main", &[])?;
+    page.html.open("h1", &[])?;
+    write!(page.html, "{title}")?;
+    page.html.close()?;
+    write_summary(alloc, &mut page, request, audit)?;
+    write_verdict_part(&mut page, request.agent, &request.urls, &audit.agents)?;
+    write_file_table(alloc, &mut page, request.agent, audit)?;
+    page.html.open("footer", &[])?;
+    write!(page.html, "robots_audit {VERSION}")?;
+    page.html.finish()
 }

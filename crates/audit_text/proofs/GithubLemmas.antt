@@ -13,8 +13,8 @@ use Rattle.printable_text.proofs.SanitizeLemmas.{line_printable, sanitized_print
 use Rattle.printable_text.specs.{declared.level.Level.Level, Text.Label, Text.label}
 use Rattle.printable_text.specs.declared.level.Level.TheVariants.{Error, Note, Warning}
 use Rattle.printable_text.proofs.PartLemmas.{label_middle, label_printable}
-use Rattle.audit_core.proofs.FindingLemmas.{escaped_printable, message_printable, message_quiet, name_quiet}
-use Rattle.audit_core.proofs.FindingLemmas.{name_printable}
+use Rattle.audit_core.proofs.FindingLemmas.{message_printable, message_quiet, name_printable, name_quiet}
+use Rattle.printable_text.proofs.{EscapeLemmas.escaped_printable}
 use Rattle.audit_core.specs.Findings.{FindingValue, Found, found_value, message_of}
 use Rattle.audit_text.specs.Github.{command, command_label, escaped, escaped_byte, github_text, is_in_line}
 use Rattle.audit_text.specs.Github.{is_in_property, line_property, property_text}

@@ -1,2 +1,2 @@
 pub mod GithubLemmas
-pub mod ReportLemmas
+pub mod ListedLemmas

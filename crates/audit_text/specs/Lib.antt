@@ -1,6 +1,5 @@
 pub mod Joined
 pub mod Listed
-pub mod Report
 pub mod Explain
 pub mod Github
 pub mod Internal

@@ -1,7 +1,5 @@
 //! For `--explain`: for each name of a warning, when it is given, and what is proved about it; corrected
 //! examples.
-ghost use Rattle.std.specs.Prelude.{◌≡◌, map};
-ghost use Rattle.audit_text.specs.Explain.{all_conditions, all_corrections, all_theorems, correction_value, named_value};
 
 use robots_warnings::table::Cause;
 
@@ -223,23 +221,14 @@ static CORRECTIONS: [(Cause, &str); 71] = [
     (Cause::NotNeeded, "# robots_audit robots.txt --needless\nUser-agent: *\nDisallow: /a"),
 ];
 
-#[tactic(auto, unfolding(crate::specs::Explain::all_conditions))]
-pub(crate) fn conditions() -> &'static [Named]
-    ensures { map named_value result.now ≡ all_conditions }
-{
+pub(crate) fn conditions() -> &'static [Named] {
     &CONDITIONS
 }
 
-#[tactic(auto, unfolding(crate::specs::Explain::all_theorems))]
-pub(crate) fn theorems() -> &'static [Named]
-    ensures { map named_value result.now ≡ all_theorems }
-{
+pub(crate) fn theorems() -> &'static [Named] {
     &THEOREMS
 }
 
-#[tactic(auto, unfolding(crate::specs::Explain::all_corrections))]
-pub(crate) fn corrections() -> &'static [(Cause, &'static str)]
-    ensures { map correction_value result.now ≡ all_corrections }
-{
+pub(crate) fn corrections() -> &'static [(Cause, &'static str)] {
     &CORRECTIONS
 }

@@ -1,16 +1,14 @@
 //! Notes that are written as one: it has the lines of the others.
 ghost use Rattle.std.specs.Prelude.{◌≡◌, ◌<◌, ◌==◌, ◌||◌, ◌&&◌, ◌++◌, ◌∷◌, [], ℕ, IfOk, OnOk, filter_map, if◌then◌else◌, not};
 ghost use Rattle.std.specs.{BTreeSet.contains, Ordering.nat_cmp};
-ghost use Rattle.printable_text.specs.{Raw.raw_line, Raw.raw_text, Text.part_text, Text.parts_text};
 ghost use Rattle.robots_warnings.specs.Table.{number_of};
-ghost use Rattle.audit_text.specs.Joined.{also_end, also_front, also_more, also_part, also_parts, has_shared_end};
-ghost use Rattle.audit_text.specs.Joined.{is_joined, is_joined_as, joined, line_as, shared_lines};
+ghost use Rattle.audit_text.specs.Joined.{has_shared_end, is_joined, is_joined_as, joined, line_as, shared_lines};
 
 use printable_text::level::Level;
-use printable_text::parts::{Part, Value};
 use robots_warnings::warning::{Detail, Warning};
 use std::alloc::{AllocError, Global};
 use std::collections::BTreeSet;
+use std::fmt;
 
 type Numbers = BTreeSet<usize>;
 
@@ -121,63 +119,22 @@ pub(crate) fn shared_lines(
     Ok(lines)
 }
 
-fn also_front(at: usize, count: usize) -> &'static str
-    requires { at < count }
-    ensures { result.now ≡ (also_front at count).text }
-{
-    if at == 1 {
-        if count == 2 {
-            " (also in line "
-        } else {
-            " (also in lines "
+/// The lines of the notes that are written as one, as in ` (also in lines 3, 5 and 8)`: of the others than the
+/// first, three are named.
+#[derive(Clone, Copy)]
+pub(crate) struct AlsoIn<'a>(pub(crate) &'a [usize]);
+
+impl<'a> fmt::Display for AlsoIn<'a> {
+    fn fmt<W: fmt::Write>(&self, f: &mut fmt::Formatter<W>) -> fmt::Result {
+        match self.0 {
+            [] | [_] => Ok(()),
+            [_, one] => write!(f, " (also in line {one})"),
+            [_, one, two] => write!(f, " (also in lines {one} and {two})"),
+            [_, one, two, three] => write!(f, " (also in lines {one}, {two} and {three})"),
+            [_, one, two, three, more @ ..] => {
+                let more = more.len();
+                write!(f, " (also in lines {one}, {two}, {three} and {more} more)")
+            }
         }
-    } else if at + 1 == count {
-        " and "
-    } else {
-        ", "
     }
-}
-
-fn also_part(lines: &[usize], at: usize) -> Part<'static>
-    ensures { raw_text result ≡ part_text (also_part lines.now at) }
-{
-    match lines.get(at) {
-        Some(line) => Part(also_front(at, lines.len()), Value::Number(*line)),
-        None => Part("", Value::Nothing),
-    }
-}
-
-fn also_more(count: usize) -> Part<'static>
-    ensures { raw_text result ≡ part_text (also_more count) }
-{
-    if count > 4 {
-        Part(" and ", Value::Number(count - 4))
-    } else {
-        Part("", Value::Nothing)
-    }
-}
-
-fn also_end(count: usize) -> Part<'static>
-    ensures { raw_text result ≡ part_text (also_end count) }
-{
-    if count > 4 {
-        Part(" more)", Value::Nothing)
-    } else if count > 1 {
-        Part(")", Value::Nothing)
-    } else {
-        Part("", Value::Nothing)
-    }
-}
-
-/// Three of the other lines are named; the first of all lines is that of the note.
-pub(crate) fn also_parts(lines: &[usize]) -> [Part<'static>; 5]
-    ensures { raw_line result ≡ parts_text (also_parts lines.now) }
-{
-    [
-        also_part(lines, 1),
-        also_part(lines, 2),
-        also_part(lines, 3),
-        also_more(lines.len()),
-        also_end(lines.len()),
-    ]
 }

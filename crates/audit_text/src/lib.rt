@@ -3,7 +3,6 @@
 #![tactic(auto)]
 
 mod conditions;
-mod counts;
 mod crawlers;
 pub mod denied;
 pub mod explain;

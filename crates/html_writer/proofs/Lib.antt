@@ -1,1 +1,2 @@
 pub mod WritingLemmas
+pub mod PageLemmas

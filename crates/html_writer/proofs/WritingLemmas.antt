@@ -1,22 +1,21 @@
 -- Writing trees, and reading them back.
 use Rattle.std.specs.Prelude.{if◌then◌else◌}
-use Rattle.std.proofs.Common.{ℕ, zero, suc, ◌/◌, ◌%◌, ◌<◌, ◌==◌, false, List, [], ◌∷◌, ◌++◌, ap, arith, refl}
-use Rattle.std.proofs.Common.{decimal, flat_map, ◌≡◌, ◌∙◌, Bool, append_assoc, not, true, ◌&&◌, Some, codes}
+use Rattle.std.proofs.Common.{ℕ, ◌/◌, ◌<◌, ◌==◌, false, List, [], ◌∷◌, ◌++◌, ap, arith, refl}
+use Rattle.std.proofs.Common.{flat_map, ◌≡◌, ◌∙◌, Bool, append_assoc, not, true, ◌&&◌, Some, codes}
 use Rattle.std.proofs.Common.{inl, inr, map-id, subst, sym}
-use Rattle.std.specs.{Fmt.digit_glyph, Fmt.digits, Fmt.digits_onto, Bool.IsTrue, List.list_all}
-use Rattle.std.proofs.lemmas.Bool.{cond_both, Decides.nat_tests, and_parts, cases_Bool, eqb-true, not-true}
+use Rattle.std.specs.{Bool.IsTrue, List.list_all}
+use Rattle.std.proofs.lemmas.Bool.{Decides.nat_tests, and_parts, cases_Bool, eqb-true, not-true}
 use Rattle.std.proofs.lemmas.{Grind.flat_map-append, Slice.Eq.bytes_eq-Decides}
 use Rattle.html_writer.specs.Html.{escaped, escaped_byte, escaped_bytes, AreAttributes, Attribute, Html, text}
 use Rattle.html_writer.specs.Html.{IsContent, element, is_title, style, void, with_text, written, ◌⊕◌, IsHtml}
 use Rattle.html_writer.specs.Html.{IsText, attribute, attribute_bytes, document, has_attribute, is_among}
 use Rattle.html_writer.specs.Html.{is_character, is_css, is_letter, is_name, is_name_byte, is_ordinary}
-use Rattle.html_writer.specs.Html.{is_style, is_text, void_names}
+use Rattle.html_writer.specs.Html.{is_style, is_text, is_written_as_is, void_names}
 use Rattle.std.proofs.lemmas.List.{append-nil, Concat.flat_map_single}
 use Rattle.html_writer.specs.Reader.{Kind, Opened, Reader, Tag, after_attribute_value, any_content}
 use Rattle.html_writer.specs.Reader.{attribute_name, attribute_value, data_state, finished}
 use Rattle.html_writer.specs.Reader.{end_tag_name, has_elements, has_references, kind_in, kind_of, new_tag}
 use Rattle.html_writer.specs.Reader.{only_text, raw_text, read, read_document, reader, run, tag_name}
-use Rattle.html_writer.specs.Reader.{tag_open, to}
 use Rattle.html_writer.specs.Html as html
 
 -- ---- Escaping.
@@ -26,32 +25,21 @@ unfolding escaped_bytes
 escaped-is [] = refl
 escaped-is (byte ∷ bytes) = refl
 
+one_same : (byte : ℕ) → is_written_as_is byte ≡ true → escaped_byte byte ≡ byte ∷ []
+one_same byte is = grind (arith, nat_tests)
+
+each_same : (bytes : List ℕ) → list_all is_written_as_is bytes ≡ true → flat_map escaped_byte bytes ≡ bytes
+each_same [] are = refl
+each_same (byte ∷ bytes) are =
+    let (here, later) = and_parts (is_written_as_is byte) _ are in
+    rw (one_same byte here, each_same bytes later) refl
+
+pub escaped_same : (bytes : List ℕ) → list_all is_written_as_is bytes ≡ true → escaped bytes ≡ bytes
+escaped_same bytes are = escaped-is bytes ∙ each_same bytes are
+
 pub escaped-append : (one two : List ℕ) → escaped (one ++ two) ≡ escaped one ++ escaped two
 escaped-append one two =
     rw (escaped-is (one ++ two), escaped-is one, escaped-is two) (flat_map-append escaped_byte one two)
-
-pub decimal_written : (n : ℕ) → escaped (decimal n) ≡ decimal n
-unfolding digits
-decimal_written n = escaped-is (decimal n) ∙ onto 64 n [] refl
-  where
-    unchanged : (byte : ℕ) → 47 < byte → byte < 58 → escaped_byte byte ≡ byte ∷ []
-    unchanged byte low high = grind (arith, nat_tests)
-
-    glyph : (digit : ℕ) → digit < 10 → escaped_byte (digit_glyph false digit) ≡ digit_glyph false digit ∷ []
-    glyph digit below =
-        let low : 47 < digit_glyph false digit = grind (arith, nat_tests) in
-        let high : digit_glyph false digit < 58 = grind (arith, nat_tests) in
-        unchanged (digit_glyph false digit) low high
-
-    onto : (k n : ℕ) (tail : List ℕ) → flat_map escaped_byte tail ≡ tail
-        → flat_map escaped_byte (digits_onto k 10 false n tail) ≡ digits_onto k 10 false n tail
-    onto zero n tail is = is
-    onto (suc k) n tail is =
-        let digit = digit_glyph false (n % 10) in
-        let more : flat_map escaped_byte (digit ∷ tail) ≡ digit ∷ tail =
-        rw (glyph (n % 10) (omega arith)) (ap (λ (t : List ℕ). digit ∷ t) is) in
-        cond_both (n / 10 == 0) (digit ∷ tail) (digits_onto k 10 false (n / 10) (digit ∷ tail))
-        (λ t. flat_map escaped_byte t ≡ t) (λ _. more) (λ _. onto k (n / 10) (digit ∷ tail) more)
 
 -- ---- Trees one after the other, what is written for them, and when they can be read back.
 
@@ -124,7 +112,7 @@ module _ (P : List ℕ → Type 0) (both : (one two : List ℕ) → P one → P 
         (allowed, is, rest, plain, followed_content after two later too)
 
 module _ (P Q : List ℕ → Type 0) (weaker : (bytes : List ℕ) → P bytes → Q bytes) where
-  attributes_weaker : (before attributes : List Attribute) → AreAttributes P before attributes
+  pub attributes_weaker : (before attributes : List Attribute) → AreAttributes P before attributes
       → AreAttributes Q before attributes
   attributes_weaker before [] are = tt
   attributes_weaker before (a ∷ attributes) (named, new, is, rest) =
@@ -147,8 +135,8 @@ module _ (P Q : List ℕ → Type 0) (weaker : (bytes : List ℕ) → P bytes �
 -- ---- What is written is read back, piece by piece.
 
 -- the bytes lead from one reader to the other, whatever follows them
-record Reads (from : Reader) (bytes : List ℕ) (last : Reader) : Type 0 where
-  leads : (more : List ℕ) → run from (bytes ++ more) ≡ run last more
+pub record Reads (from : Reader) (bytes : List ℕ) (last : Reader) : Type 0 where
+  pub leads : (more : List ℕ) → run from (bytes ++ more) ≡ run last more
 
 read_on : {from mid last : Reader} {one two : List ℕ} → Reads from one mid → Reads mid two last
     → Reads from (one ++ two) last
@@ -210,7 +198,7 @@ module _ (opened : List Opened) where
   abbrev after_tag : Html → List ℕ → List Attribute → Reader
   after_tag content name attributes = reader (after_attribute_value (new_tag name attributes)) opened content
 
-  text_read : (content : Html) (bytes : List ℕ) → has_references (kind_of opened) ≡ true
+  pub text_read : (content : Html) (bytes : List ℕ) → has_references (kind_of opened) ≡ true
       → IsTrue (is_text bytes) → Reads (reading content) (escaped bytes) (reading (content ⊕ text bytes))
   text_read content bytes has are =
       rw (escaped-is bytes) (rw (followed-nil content) at
@@ -289,7 +277,7 @@ module _ (opened : List Opened) where
       completed [] goes = record { leads = λ more. rw isnt (goes.leads more) }
       completed (a ∷ attributes) goes = record { leads = λ more. goes.leads more }
 
-  start_read : (content : Html) (name : List ℕ) (attributes : List Attribute)
+  pub start_read : (content : Html) (name : List ℕ) (attributes : List Attribute)
       → has_elements (kind_of opened) ≡ true → IsTrue (is_name name) → IsTrue (is_ordinary name)
       → AreAttributes IsText [] attributes
       → Reads (reading content) (html.start_tag name attributes)
@@ -302,7 +290,7 @@ module _ (opened : List Opened) where
       record { leads = λ more. rw (ordinary, run) } in
       tag_read content name attributes 62 [] inner has named are refl end
 
-  void_read : (content : Html) (name : List ℕ) (attributes : List Attribute)
+  pub void_read : (content : Html) (name : List ℕ) (attributes : List Attribute)
       → has_elements (kind_of opened) ≡ true → IsTrue (is_name name) → IsTrue (is_among void_names name)
       → AreAttributes IsText [] attributes
       → Reads (reading content) (html.void_tag name attributes)
@@ -314,7 +302,7 @@ module _ (opened : List Opened) where
       record { leads = λ more. rw (is, run) } in
       tag_read content name attributes 47 (62 ∷ []) last has named are refl end
 
-  end_read : (before content : Html) (name : List ℕ) (attributes : List Attribute) → IsTrue (is_name name)
+  pub end_read : (before content : Html) (name : List ℕ) (attributes : List Attribute) → IsTrue (is_name name)
       → is_style name ≡ false
       → Reads (reader data_state (record { before = before; tag = new_tag name attributes } ∷ opened) content)
       (html.end_tag name) (reading (before ⊕ element [] name attributes content (text [])))
@@ -330,7 +318,7 @@ module _ (opened : List Opened) where
       (λ byte is. record { leads = λ more. rw is })
       (λ done next is. record { leads = λ more. rw (is, run) })) last
 
-  style_read : (content : Html) (css : List ℕ) → has_elements (kind_of opened) ≡ true → IsTrue (is_css css)
+  pub style_read : (content : Html) (css : List ℕ) → has_elements (kind_of opened) ≡ true → IsTrue (is_css css)
       → Reads (reading content) (html.style_bytes css) (reading (content ⊕ style [] css (text [])))
   unfolding html.style_bytes
   style_read content css has are =
@@ -345,7 +333,7 @@ module _ (opened : List Opened) where
       let both = and_parts (is_character byte) (not (byte == 60)) is in
       record { leads = λ more. rw (not-true (byte == 60) both.1, both.0, run) }) css are) last)
 
-kind_inside : (name : List ℕ) → is_style name ≡ false
+pub kind_inside : (name : List ℕ) → is_style name ≡ false
     → (has_references (kind_in name) ≡ true) × (has_elements (kind_in name) ≡ not (is_title name))
 kind_inside name isnt =
     subst (λ (kind : Kind). (has_references kind ≡ true) × (has_elements kind ≡ not (is_title name)))
@@ -357,7 +345,7 @@ kind_inside name isnt =
     either true = (refl, refl)
     either false = (refl, refl)
 
-content_read : (opened : List Opened) (content tree : Html) → has_references (kind_of opened) ≡ true
+pub content_read : (opened : List Opened) (content tree : Html) → has_references (kind_of opened) ≡ true
     → IsContent IsText (has_elements (kind_of opened)) tree
     → Reads (reader data_state opened content) (written tree) (reader data_state opened (content ⊕ tree))
 content_read opened content (text bytes) has is = text_read opened content bytes has is

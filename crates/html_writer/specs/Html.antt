@@ -51,6 +51,9 @@ escaped_byte byte =
     else if byte == 34 then codes "&quot;"
     else byte ∷ []
 
+abbrev pub is_written_as_is : ℕ → Bool
+is_written_as_is byte = not (byte == 38 || (byte == 60 || (byte == 62 || byte == 34)))
+
 -- The pieces of what is written are `unfoldable`: a proof about a function that writes a page names the
 -- pieces, and doesn't compute their bytes unless it asks for them.
 unfoldable pub escaped_bytes : List ℕ → List ℕ

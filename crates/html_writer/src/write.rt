@@ -1,7 +1,8 @@
 //! Writes HTML piece by piece, so that a page of any length needs no tree in memory.
 ghost use Rattle.std.specs.Prelude.{◌≡◌, ◌++◌, [], OnOk};
 ghost use Rattle.html_writer.specs.Html.{attribute, attribute_bytes, doctype, end_tag, escaped};
-ghost use Rattle.html_writer.specs.Html.{escaped_byte, start_tag, style_bytes, tag, tag_close};
+ghost use Rattle.std.specs.List.{list_all};
+ghost use Rattle.html_writer.specs.Html.{escaped_byte, is_written_as_is, start_tag, style_bytes, tag, tag_close};
 ghost use Rattle.html_writer.specs.Html.{tag_open, text, void_close, written};
 
 use std::alloc::AllocError;
@@ -18,10 +19,26 @@ fn push_byte(out: &mut Vec<u8>, byte: u8) -> Result<(), AllocError>
     }
 }
 
+fn is_written_as_is(byte: u8) -> bool
+    ensures { result ≡ is_written_as_is byte }
+{
+    !(byte == b'&' || byte == b'<' || byte == b'>' || byte == b'"')
+}
+
+fn are_written_as_is(text: &[u8]) -> bool
+    ensures { result ≡ list_all is_written_as_is text.now }
+{
+    text.iter().all(|byte| is_written_as_is(*byte))
+}
+
 /// The text is escaped.
+#[tactic(auto, using(crate::proofs::WritingLemmas::escaped_same))]
 pub fn push_text(out: &mut Vec<u8>, text: &[u8]) -> Result<(), AllocError>
     ensures { OnOk result (out.new.items ≡ out.old.items ++ escaped text.now) }
 {
+    if are_written_as_is(text) {
+        return out.extend_from_slice(text);
+    }
     for byte in text {
         push_byte(out, *byte)?;
     }

@@ -1,8 +1,8 @@
 -- Sanitized texts don't contain the start of a command; nor do texts one after the other, unless it is at a
 -- seam.
 use Rattle.std.specs.Prelude.{nat_eq, not, ◌&&◌, ◌||◌}
-use Rattle.std.proofs.Common.{◌≡◌, ◌≢◌, ℕ, zero, suc, ◌<◌, ◌==◌, Bool, true, false, List, [], ◌∷◌, ◌++◌, inl}
-use Rattle.std.proofs.Common.{append-nil, append_assoc, arith, decimal, flat_map, inr, refl, replicate, sym}
+use Rattle.std.proofs.Common.{◌≡◌, ℕ, ◌<◌, ◌==◌, Bool, true, false, List, [], ◌∷◌, ◌++◌, inl}
+use Rattle.std.proofs.Common.{append-nil, append_assoc, arith, decimal, flat_map, inr, refl, sym}
 use Rattle.std.specs.{Fmt.digit_glyph, List.list_all, List.starts_with, Str.chars, Str.encode_utf8_all}
 use Rattle.std.proofs.lemmas.Bool.{and_cases, and_left, and_parts, and_right, cases_Bool, false≢true, or_from}
 use Rattle.std.proofs.lemmas.Bool.{not-true, or_parts, or_right, Decides.nat_tests}
@@ -125,10 +125,6 @@ pub byte_middle : (b : ℕ) → is_calm b ≡ true → IsMiddle (b ∷ [])
 byte_middle b is =
     let parts = or_parts (nat_eq 35 b) (nat_eq 91 b) (not-true (nat_eq 35 b || nat_eq 91 b) is) in
     middle_text (b ∷ []) (rw (parts.0, parts.1) refl)
-
-pub blanks_front : (n : ℕ) → IsFront (replicate n 32)
-blanks_front zero = front_nil
-blanks_front (suc n) = front_append (32 ∷ []) (replicate n 32) (front_text (32 ∷ []) refl) (blanks_front n)
 
 digit_middle : (digit : ℕ) (text : List ℕ) → digit < 10 → IsFront text
     → IsMiddle (digit_glyph false digit ∷ text)

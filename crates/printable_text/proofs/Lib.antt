@@ -1,3 +1,5 @@
 pub mod SanitizeLemmas
+pub mod EscapeLemmas
 pub mod CommandLemmas
 pub mod PartLemmas
+pub mod ReportLemmas

@@ -1,25 +1,25 @@
 -- Lines that are made of parts, and their colors.
-use Rattle.std.specs.Prelude.{if◌then◌else◌, not, ◌&&◌, ◌||◌}
+use Rattle.std.specs.Prelude.{if◌then◌else◌, not}
 use Rattle.std.proofs.Common.{◌≡◌, ◌∙◌, ◌==◌, ◌<◌, ◌-◌, ◌*◌, ◌/◌, ◌%◌, ℕ, zero, suc, Bool, true, false, List}
 use Rattle.std.proofs.Common.{[], ◌∷◌, ◌++◌, ap, append-nil, append_assoc, arith, codes, decimal, length, map}
-use Rattle.std.proofs.Common.{inl, inr, refl, replicate, sym, ap₂, flat_map, subst}
+use Rattle.std.proofs.Common.{inl, inr, refl, sym, ap₂, flat_map, subst}
 use Rattle.std.specs.{List.AllByRecursion as Each, List.list_all, Fmt.digit_glyph}
-use Rattle.std.proofs.{lemmas.List.map-append, lemmas.List.Concat.flat_map-append}
+use Rattle.std.proofs.{lemmas.List.Concat.flat_map-append}
 use Rattle.std.proofs.lemmas.Bool.{and_parts, cases_Bool, ne_eqb, not-true, or_right, Decides.nat_tests}
 use Rattle.printable_text.specs.Sanitize.{IsPrintable, IsPrintableIn, begins_apart, ends_apart, has_command}
-use Rattle.printable_text.specs.Sanitize.{is_front, is_printable_byte, sanitized}
+use Rattle.printable_text.specs.Sanitize.{is_printable_byte, sanitized}
 use Rattle.printable_text.specs.Delay.{delay_text, fraction, million, seconds}
-use Rattle.printable_text.specs.{Text.IsPlainLine, Lines.ended, Lines.lf, declared.level.Level.Level}
-use Rattle.printable_text.specs.Text.{begins_plainly, starts, Absent, Aligned, Column, Count, Delay, Fixed}
-use Rattle.printable_text.specs.Text.{Label, LevelLine, Named, NamedLine, Nothing, Number, Only, Part, Value}
-use Rattle.printable_text.specs.Text.{PartValue, ReportLine, Untrusted, Word, is_fixed, blanks, level_text}
+use Rattle.printable_text.specs.{Text.IsPlainLine, declared.level.Level.Level}
+use Rattle.printable_text.specs.Text.{begins_plainly, starts, Absent, Count, Delay, Fixed}
+use Rattle.printable_text.specs.Text.{Label, Named, NamedLine, Nothing, Number, Only, Part, Value}
+use Rattle.printable_text.specs.Text.{PartValue, ReportLine, Untrusted, Word, is_fixed}
 use Rattle.printable_text.specs.Text.{line_text, named_text, part_text, parts_text, starts_line, value_text}
-use Rattle.printable_text.specs.Text.{written, level_word, shown_word, IsColored, IsForTerminal, IsShownAs}
+use Rattle.printable_text.specs.Text.{written, level_word, shown_word, IsColored, IsShownAs}
 use Rattle.printable_text.proofs.CommandLemmas.{IsFront, front_append, front_nil, front_text, IsMiddle, seam}
-use Rattle.printable_text.proofs.CommandLemmas.{after_front, blanks_front, byte_middle, decimal_middle}
+use Rattle.printable_text.proofs.CommandLemmas.{decimal_middle}
 use Rattle.printable_text.proofs.CommandLemmas.{middle_text, sanitized_quiet}
-use Rattle.printable_text.proofs.SanitizeLemmas.{ascii_printable, sanitized_in_printable, sanitized_printable}
-use Rattle.printable_text.proofs.SanitizeLemmas.{append_printable, blanks_printable, decimal_printable}
+use Rattle.printable_text.proofs.SanitizeLemmas.{ascii_printable, sanitized_in_printable}
+use Rattle.printable_text.proofs.SanitizeLemmas.{append_printable, decimal_printable}
 use Rattle.printable_text.proofs.SanitizeLemmas.{decimal_by, ended_printable, line_printable, nil_printable}
 use Rattle.printable_text.specs.declared.level.Level.TheVariants.{Error, Note, Warning}
 use Rattle.texting_robots.proofs.Shared.{each_append}
@@ -142,23 +142,11 @@ value_quiet (Delay micros) = (delay_front micros).quiet
 number_apart : (number : ℕ) → IsApart (decimal number)
 number_apart number = record { after = λ less quiet. ((decimal_middle number).after less quiet).quiet }
 
-blanks_apart : (n : ℕ) → IsApart (blanks n)
-blanks_apart zero = nil_apart
-blanks_apart (suc n) =
-    middle_apart (codes " ") (blanks n) (byte_middle 32 refl) (blanks_front n).quiet
-
 part_apart : (part : PartValue) → IsApart (part_text part)
 part_apart Absent = nil_apart
 part_apart (Part front value) = middle_apart front.text _ (label_middle front) (value_quiet value)
 part_apart (Only fixed) = rw (append-nil fixed.text) (fixed_apart fixed)
-part_apart (Column width front value) =
-    let space = width - length front.text in
-    middle_apart front.text _ (label_middle front)
-    (after_front (blanks space) (value_text value) (blanks_front space) (value_quiet value))
 part_apart (Count number) = number_apart number
-part_apart (Aligned width number) =
-    let space = width - length (decimal number) in
-    apart_append (blanks space) (decimal number) (blanks_apart space) (number_apart number)
 
 parts_apart : (parts : List PartValue) → IsApart (parts_text parts)
 parts_apart [] = nil_apart
@@ -170,16 +158,7 @@ part_printable Absent = nil_printable false
 part_printable (Part front value) =
     append_printable false front.text (value_text value) (label_printable front) (value_printable value)
 part_printable (Only fixed) = rw (append-nil fixed.text) (fixed_printable fixed)
-part_printable (Column width front value) =
-    let space = width - length front.text in
-    append_printable false front.text (blanks space ++ value_text value) (label_printable front)
-    (append_printable false (blanks space) (value_text value) (blanks_printable false space)
-    (value_printable value))
 part_printable (Count number) = decimal_printable false number
-part_printable (Aligned width number) =
-    let space = width - length (decimal number) in
-    append_printable false (blanks space) (decimal number) (blanks_printable false space)
-    (decimal_printable false number)
 
 pub parts_printable : (parts : List PartValue) → IsPrintableIn false (parts_text parts)
 parts_printable [] = nil_printable false
@@ -203,15 +182,10 @@ starts_append (b ∷ one) two is = elim (cases_Bool (b == 32)) [
   | inr other ↦ rw other (rw other at is)
 ]
 
-starts_blanks : (n : ℕ) (text : List ℕ) → starts text ≡ true → starts (replicate n 32 ++ text) ≡ true
-starts_blanks zero text is = is
-starts_blanks (suc n) text is = starts_blanks n text is
-
 starts_digit : (digit : ℕ) (text : List ℕ) → digit < 10 → starts (digit_glyph false digit ∷ text) ≡ true
 starts_digit digit text below =
     let visible : (digit_glyph false digit == 32) ≡ false = grind (arith, nat_tests) in
-    let plain : not (digit_glyph false digit == 58 || digit_glyph false digit == 35) ≡ true =
-    grind (arith, nat_tests) in
+    let plain : not (digit_glyph false digit == 58) ≡ true = grind (arith, nat_tests) in
     rw visible plain
 
 starts_decimal : (n : ℕ) → starts (decimal n) ≡ true
@@ -223,11 +197,7 @@ part_starts : (part : PartValue) → starts_line part ≡ true → starts (part_
 part_starts Absent is = absurd (cc)
 part_starts (Part front value) is = starts_append front.text (value_text value) is
 part_starts (Only fixed) is = starts_append fixed.text (value_text Nothing) is
-part_starts (Column width front value) is =
-    starts_append front.text (blanks (width - length front.text) ++ value_text value) is
 part_starts (Count number) is = starts_decimal number
-part_starts (Aligned width number) is =
-    starts_blanks (width - length (decimal number)) (decimal number) (starts_decimal number)
 
 pub line_plain : (line : ReportLine) → IsPlainLine (line_text line)
 line_plain line =
@@ -253,11 +223,6 @@ each_printable (line ∷ lines) =
 pub written_printable : (lines : List ReportLine) → IsPrintable (written lines)
 written_printable lines = ended_printable (map line_text lines) (each_printable lines)
 
-pub written_append : (one other : List ReportLine) → written (one ++ other) ≡ written one ++ written other
-written_append one other =
-    ap ended (map-append line_text one other)
-    ∙ flat_map-append (λ (line : List ℕ). line ++ lf ∷ []) (map line_text one) (map line_text other)
-
 pub named_printable : (line : NamedLine) → IsPrintableIn false (named_text line)
 named_printable line =
     append_printable false (sanitized line.name) (parts_text line.rest)
@@ -265,23 +230,6 @@ named_printable line =
 
 pub named_quiet : (line : NamedLine) → has_command (named_text line) ≡ false
 named_quiet line = (parts_apart line.rest).after (sanitized line.name) (sanitized_quiet false line.name)
-
-pub level_quiet : (has_colors : Bool) (line : LevelLine) → has_command (level_text has_colors line) ≡ false
-level_quiet has_colors line =
-    let word = codes ": " ++ shown_word has_colors line.level in
-    let is = middle_text word (apart has_colors line.level) in
-    let level = middle_apart word _ is (parts_quiet line.rest) in
-    (apart_append (part_text line.place) _ (part_apart line.place) level).after (sanitized line.name)
-    (sanitized_quiet false line.name)
-  where
-    apart : (has_colors : Bool) (level : Level) → let word = codes ": " ++ shown_word has_colors level in
-        (begins_apart word && is_front word) ≡ true
-    apart false Error = refl
-    apart false Warning = refl
-    apart false Note = refl
-    apart true Error = refl
-    apart true Warning = refl
-    apart true Note = refl
 
 -- ---- With colors, lines are those without colors, in which color codes are inserted.
 
@@ -293,7 +241,7 @@ colored_same text is = record {
   plain_is = sym (append-nil text);
 }
 
-colored_append : (plain text more next : List ℕ) → IsColored plain text → IsColored more next
+pub colored_append : (plain text more next : List ℕ) → IsColored plain text → IsColored more next
     → IsColored (plain ++ more) (text ++ next)
 colored_append plain text more next is too = record {
   parts = is.parts ++ too.parts;
@@ -320,56 +268,10 @@ plain_printable plain text is = subst IsPrintable (sym is.plain_is) (all_shown i
         (subst IsPrintable (sym same) (line_printable (level_word level) (level_printable level)))
         (all_shown parts later)
 
-colored_word : (level : Level) → IsColored (level_word level) (shown_word true level)
+pub colored_word : (level : Level) → IsColored (level_word level) (shown_word true level)
 colored_word level = record {
   parts = (shown_word true level, level_word level) ∷ [];
   each = (inr (level, refl, refl), tt);
   text_is = sym (append-nil (shown_word true level));
   plain_is = sym (append-nil (level_word level));
 }
-
-colored_line : (line : LevelLine) → IsColored (level_text false line) (level_text true line)
-colored_line line =
-    colored_append _ _ _ _ (colored_same (sanitized line.name) (sanitized_printable line.name))
-    (colored_append _ _ _ _
-    (colored_same (part_text line.place) (line_printable _ (part_printable line.place)))
-    (colored_append _ _ _ _
-    (colored_append _ _ _ _ (colored_same (codes ": ") (ascii_printable true (codes ": ") refl))
-    (colored_word line.level))
-    (colored_same (parts_text line.rest) (line_printable _ (parts_printable line.rest)))))
-
-line_colored : (has_colors : Bool) (line : LevelLine)
-    → IsColored (level_text false line) (level_text has_colors line)
-line_colored true line = colored_line line
-line_colored false line = colored_same (level_text false line) (plain_printable _ _ (colored_line line))
-
-pub lines_colored : (has_colors : Bool) (lines : List LevelLine) (others : List NamedLine)
-    → IsColored (ended (map (level_text false) lines ++ map named_text others))
-    (ended (map (level_text has_colors) lines ++ map named_text others))
-lines_colored has_colors [] [] = colored_same [] (nil_printable true)
-lines_colored has_colors [] (other ∷ others) =
-    colored_append _ _ _ _
-    (colored_append _ _ _ _ (colored_same (named_text other) (line_printable _ (named_printable other))) end)
-    (lines_colored has_colors [] others)
-  where
-    end : IsColored (lf ∷ []) (lf ∷ [])
-    end = colored_same (lf ∷ []) (ascii_printable true (lf ∷ []) refl)
-lines_colored has_colors (line ∷ lines) others =
-    colored_append _ _ _ _
-    (colored_append _ _ _ _ (line_colored has_colors line)
-    (colored_same (lf ∷ []) (ascii_printable true (lf ∷ []) refl)))
-    (lines_colored has_colors lines others)
-
-pub for_terminal : (has_colors : Bool) (text : List ℕ) → IsPrintable text → IsForTerminal has_colors text
-for_terminal false text is = is
-for_terminal true text is = (text, colored_same text is)
-
-pub with_colors : (has_colors : Bool) (text : List ℕ) → IsForTerminal has_colors text
-    → IsForTerminal true text
-with_colors false text is = for_terminal true text is
-with_colors true text is = is
-
-pub lines_for_terminal : (has_colors : Bool) (lines : List LevelLine) (others : List NamedLine)
-    → IsForTerminal has_colors (ended (map (level_text has_colors) lines ++ map named_text others))
-lines_for_terminal false lines others = plain_printable _ _ (lines_colored false lines others)
-lines_for_terminal true lines others = (_, lines_colored true lines others)

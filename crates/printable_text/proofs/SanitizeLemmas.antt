@@ -2,7 +2,6 @@
 use Rattle.std.proofs.Common.{◌≡◌, ℕ, ◌≤◌, List, [], ◌∷◌, ◌++◌, sym, ap, ◌∙◌, append_assoc, arith, drop, take}
 use Rattle.std.proofs.Common.{length, zero, suc, ◌<◌, ◌/◌, ◌%◌, ◌==◌, nat_lt, Bool, true, false, Option, Some}
 use Rattle.std.proofs.Common.{None, codes, decimal, flat_map, get_or, inl, inr, length-append, refl, subst}
-use Rattle.std.proofs.Common.{replicate}
 use Rattle.std.specs.{Io.StartsWith, Bool.IsTrue, Char.IsScalar, Char.encode_utf8, Str.chars, Str.IsAscii}
 use Rattle.std.specs.{Str.all_scalars, Str.encode_utf8_all, List.AllByRecursion as Each, List.list_all}
 use Rattle.std.specs.Fmt.{digit_glyph, digits, digits_onto}
@@ -20,7 +19,7 @@ use Rattle.bstr.proofs.lemmas.{EncodeLemmas.decoded-encode, SoundLemmas.SpellsCh
 use Rattle.texting_robots.specs.Escape.{escape_byte, escaped, is_escaped}
 use Rattle.printable_text.specs.Sanitize.{IsPrintable, IsPrintableIn, has_command, is_printable, safe_chunk}
 use Rattle.printable_text.specs.Sanitize.{is_printable_byte, safe_chunks, safe_in, sanitized, sanitized_in}
-use Rattle.printable_text.specs.Sanitize.{sanitized_lines, without_commands, without_hash}
+use Rattle.printable_text.specs.Sanitize.{without_commands, without_hash}
 use lib.Utf8.{scalar}
 
 pub ended-append : (lines more : List (List ℕ)) → ended (lines ++ more) ≡ ended lines ++ ended more
@@ -115,11 +114,6 @@ module _ (has_lines : Bool) where
   flat_printable f are [] = nil_printable
   flat_printable f are (x ∷ xs) = append_printable (f x) (flat_map f xs) (are x) (flat_printable f are xs)
 
-  pub blanks_printable : (n : ℕ) → IsPrintableIn has_lines (replicate n 32)
-  blanks_printable zero = nil_printable
-  blanks_printable (suc n) =
-      append_printable (32 ∷ []) (replicate n 32) (ascii_printable (32 ∷ []) refl) (blanks_printable n)
-
   glyph : (upper : Bool) (digit : ℕ) → digit < 16
       → is_printable_byte has_lines (digit_glyph upper digit) ≡ true
   glyph upper digit below = grind (arith, nat_tests)
@@ -194,7 +188,7 @@ module _ (has_lines : Bool) where
       cond_both (is_printable has_lines char) (encode_utf8 char) (escaped bytes) (IsPrintableIn has_lines)
       (char_printable char (are char refl)) (λ isnt. flat_printable escape_byte escaped_printable bytes)
 
-  safe_in_printable : (bytes : List ℕ) → IsPrintableIn has_lines (safe_in has_lines bytes)
+  pub safe_in_printable : (bytes : List ℕ) → IsPrintableIn has_lines (safe_in has_lines bytes)
   unfolding pieces_from
   safe_in_printable bytes = from (length bytes) bytes
     where
@@ -225,7 +219,7 @@ module _ (has_lines : Bool) where
             (append_printable (encode_utf8 char) rest (char_printable char is.0 plain.0) later)
       ]
 
-  without_printable : (text : List ℕ) → IsPrintableIn has_lines text
+  pub without_printable : (text : List ℕ) → IsPrintableIn has_lines text
       → IsPrintableIn has_lines (without_commands text)
   unfolding without_commands
   without_printable text is =
@@ -255,6 +249,3 @@ line_printable text is = record { utf8 = is.utf8; all = with_lines (chars text) 
 
 pub sanitized_printable : (bytes : List ℕ) → IsPrintable (sanitized bytes)
 sanitized_printable bytes = line_printable (sanitized bytes) (sanitized_in_printable false bytes)
-
-pub sanitized_lines_printable : (bytes : List ℕ) → IsPrintable (sanitized_lines bytes)
-sanitized_lines_printable = sanitized_in_printable true

@@ -86,9 +86,6 @@ sanitized_in has_lines bytes = without_commands (safe_in has_lines bytes)
 abbrev pub sanitized : List ℕ → List ℕ
 sanitized = sanitized_in false
 
-abbrev pub sanitized_lines : List ℕ → List ℕ
-sanitized_lines = sanitized_in true
-
 -- UTF-8, and only characters that are shown unchanged
 pub record IsPrintableIn (has_lines : Bool) (text : List ℕ) : Type 0 where
   pub utf8 : IsUtf8 text

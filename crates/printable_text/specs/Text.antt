@@ -1,12 +1,11 @@
 -- Lines as data, their parts, levels and colors.
-use Rattle.std.specs.Prelude.{ℕ, Bool, true, false, List, codes, ◌≡◌, ◌==◌, not, ◌||◌, IsTrue, [], ◌∷◌, ◌⊎◌}
-use Rattle.std.specs.Prelude.{if◌then◌else◌, ◌++◌, flat_map, ◌-◌, ◌&&◌, decimal, length, map, replicate}
+use Rattle.std.specs.Prelude.{ℕ, Bool, true, false, List, codes, ◌≡◌, ◌==◌, not, IsTrue, [], ◌∷◌, ◌⊎◌}
+use Rattle.std.specs.Prelude.{if◌then◌else◌, ◌++◌, flat_map, ◌&&◌, decimal, length, map}
 use Rattle.printable_text.specs.{declared.level.Level.Level, Lines.ended, Delay.delay_text}
 use Rattle.printable_text.specs.declared.level.Level.TheVariants.{Error, Note, Warning}
 use Rattle.std.specs.{Str.byte, List.AllByRecursion as Each, List.list_all}
 use Rattle.printable_text.specs.Sanitize.{IsPrintableIn, has_command, IsPrintable, begins_apart, ends_apart}
 use Rattle.printable_text.specs.Sanitize.{is_printable_byte, sanitized}
-use Rattle.std.proofs.{Common.refl}
 
 abbrev pub level_word : Level → List ℕ
 level_word Error = codes "error"
@@ -25,11 +24,11 @@ reaches Note Error = false
 -- ---- Lines that no workflow on GitHub takes for a command. A command begins with `::`, possibly after
 -- spaces at the start of a line, or with `##[` anywhere in a line.
 
--- the first byte that isn't a space is neither `:` nor `#`
+-- the first byte that isn't a space isn't `:`
 abbrev pub begins_plainly : List ℕ → Bool
 begins_plainly [] = true
 begins_plainly (b ∷ text) =
-    if b == byte " " then begins_plainly text else not (b == byte ":" || b == byte "#")
+    if b == byte " " then begins_plainly text else not (b == byte ":")
 
 -- a single line without control or bidirectional-formatting characters, which isn't a command
 pub record IsPlainLine (line : List ℕ) : Type 0 where
@@ -37,10 +36,16 @@ pub record IsPlainLine (line : List ℕ) : Type 0 where
   pub begins : IsTrue (begins_plainly line)
   pub inside : has_command line ≡ false
 
--- the text has a byte that isn't a space, and the first one is neither `:` nor `#`
+-- lines, each of which is plain
+pub record IsReport (text : List ℕ) : Type 0 where
+  pub lines : List (List ℕ)
+  pub each : Each IsPlainLine lines
+  pub text_is : text ≡ ended lines
+
+-- the text has a byte that isn't a space, and the first one isn't `:`
 abbrev pub starts : List ℕ → Bool
 starts [] = false
-starts (b ∷ text) = if b == 32 then starts text else not (b == 58 || b == 35)
+starts (b ∷ text) = if b == 32 then starts text else not (b == 58)
 
 -- bold red, yellow or cyan
 abbrev pub color_of : Level → List ℕ
@@ -71,10 +76,17 @@ pub record IsColored (plain text : List ℕ) : Type 0 where
   pub text_is : text ≡ flat_map (λ part. part.0) parts
   pub plain_is : plain ≡ flat_map (λ part. part.1) parts
 
--- printable or, if there are colors, printable parts and colored words
-abbrev pub IsForTerminal : (has_colors : Bool) → List ℕ → Type 0
-IsForTerminal false text = IsPrintable text
-IsForTerminal true text = (plain : List ℕ) × IsColored plain text
+-- `shown` shows the text up to `rest`
+pub record IsColoredTo (text rest shown : List ℕ) : Type 0 where
+  pub plain : List ℕ
+  pub colored : IsColored plain shown
+  pub printable : IsPrintable rest
+  pub text_is : text ≡ plain ++ rest
+
+-- a report or, if there are colors, one into which color codes are inserted
+abbrev pub IsShownReport : (has_colors : Bool) → List ℕ → Type 0
+IsShownReport false text = IsReport text
+IsShownReport true text = (plain : List ℕ) × IsReport plain × IsColored plain text
 
 -- ---- Lines as data, made of parts, each of which is safe by its type. So the line is printable, and has no
 -- `##[`. A `ReportLine` doesn't begin with `::` either, so no workflow on GitHub takes it for a command; a
@@ -88,14 +100,6 @@ is_fixed text = list_all (is_printable_byte false) text && (begins_apart text &&
 pub record Fixed : Type 0 where
   pub text : List ℕ
   pub safe : is_fixed text ≡ true
-
-pub level_safe : (level : Level) → is_fixed (level_word level) ≡ true
-level_safe Error = refl
-level_safe Warning = refl
-level_safe Note = refl
-
-abbrev pub fixed_level : Level → Fixed
-fixed_level level = record { text = level_word level; safe = level_safe level }
 
 -- a fixed text that doesn't end with a byte of the start of a command, so that any text can follow
 abbrev pub is_label : List ℕ → Bool
@@ -132,9 +136,6 @@ value_text (Named name) = shown_name name
 value_text (Number number) = decimal number
 value_text (Delay micros) = delay_text micros
 
-abbrev pub blanks : ℕ → List ℕ
-blanks n = replicate n (byte " ")
-
 pub data PartValue : Type 0 where
   -- nothing
   Absent : PartValue
@@ -142,20 +143,13 @@ pub data PartValue : Type 0 where
   Part : Label → Value → PartValue
   -- a fixed text that nothing follows
   Only : Fixed → PartValue
-  -- with spaces after the label up to this column
-  Column : ℕ → Label → Value → PartValue
   Count : ℕ → PartValue
-  -- right-aligned within this width
-  Aligned : ℕ → ℕ → PartValue
 
 abbrev pub part_text : PartValue → List ℕ
 part_text Absent = []
 part_text (Part front value) = front.text ++ value_text value
 part_text (Only fixed) = fixed.text ++ value_text Nothing
-part_text (Column width front value) =
-    front.text ++ (blanks (width - length front.text) ++ value_text value)
 part_text (Count number) = decimal number
-part_text (Aligned width number) = blanks (width - length (decimal number)) ++ decimal number
 
 abbrev pub only : (text : List ℕ) → is_fixed text ≡ true → PartValue
 only text is = Only (record { text = text; safe = is })
@@ -168,9 +162,7 @@ abbrev pub starts_line : PartValue → Bool
 starts_line Absent = false
 starts_line (Part front value) = starts front.text
 starts_line (Only fixed) = starts fixed.text
-starts_line (Column width front value) = starts front.text
 starts_line (Count number) = true
-starts_line (Aligned width number) = true
 
 pub record ReportLine : Type 0 where
   pub first : PartValue
@@ -193,15 +185,3 @@ pub record NamedLine : Type 0 where
 
 abbrev pub named_text : NamedLine → List ℕ
 named_text line = sanitized line.name ++ parts_text line.rest
-
--- as compilers write them: the file's name, the place, and the level, which may be in color
-pub record LevelLine : Type 0 where
-  pub name : List ℕ
-  pub place : PartValue
-  pub level : Level
-  pub rest : List PartValue
-
-abbrev pub level_text : (has_colors : Bool) → LevelLine → List ℕ
-level_text has_colors line =
-    sanitized line.name
-    ++ (part_text line.place ++ ((codes ": " ++ shown_word has_colors line.level) ++ parts_text line.rest))

@@ -4,6 +4,7 @@ ghost use Rattle.printable_text.specs.Delay.{delay_text, fraction, million, seco
 
 use crate::lines::push_number;
 use std::alloc::AllocError;
+use std::fmt;
 
 const MILLION: u64 = 1_000_000;
 
@@ -41,4 +42,27 @@ pub fn push_delay_text(text: &mut String, micros: u64) -> Result<(), AllocError>
 {
     push_seconds(text, micros)?;
     text.push_str(" s")
+}
+
+/// Microseconds, written as seconds.
+#[derive(Clone, Copy)]
+pub struct Delay(pub u64);
+
+impl fmt::Display for Delay {
+    fn fmt<W: fmt::Write>(&self, f: &mut fmt::Formatter<W>) -> fmt::Result {
+        let seconds = self.0 / MILLION;
+        write!(f, "{seconds}")?;
+        let mut rest = self.0 % MILLION;
+        if rest > 0 {
+            f.write_str(".")?;
+        }
+        for _ in 0..DIGITS {
+            if rest > 0 {
+                let digit = rest * 10 / MILLION;
+                write!(f, "{digit}")?;
+                rest = rest * 10 % MILLION;
+            }
+        }
+        f.write_str(" s")
+    }
 }

@@ -3,8 +3,10 @@
 //! it for a command.
 #![tactic(auto)]
 
+mod color;
 pub mod delay;
 pub mod level;
 pub mod lines;
 pub mod parts;
+pub mod report;
 pub mod sanitize;

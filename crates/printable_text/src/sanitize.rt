@@ -2,7 +2,7 @@
 ghost use Rattle.std.specs.Prelude.{◌≡◌, ◌++◌, OnOk, encode_utf8_all, flat_map, string_bytes};
 ghost use Rattle.std.specs.{List.list_all, Str.chars, Io.StartsWith};
 ghost use Rattle.printable_text.specs.Sanitize.{has_command, is_printable, is_printable_byte, safe_chunk};
-ghost use Rattle.printable_text.specs.Sanitize.{safe_in, sanitized, sanitized_in, sanitized_lines, turns_text};
+ghost use Rattle.printable_text.specs.Sanitize.{safe_in, sanitized, sanitized_in, turns_text};
 ghost use Rattle.printable_text.specs.Sanitize.{without_commands, without_hash};
 
 use bstr::decode_utf8;
@@ -33,7 +33,7 @@ fn is_printable_byte(byte: u8, has_lines: bool) -> bool
 }
 
 /// The loop doesn't stop at the first that isn't, since usually all are.
-fn are_printable_bytes(bytes: &[u8], has_lines: bool) -> bool
+pub(crate) fn are_printable_bytes(bytes: &[u8], has_lines: bool) -> bool
     ensures { result ≡ list_all (is_printable_byte has_lines) bytes.now }
 {
     let mut all = true;
@@ -60,7 +60,11 @@ fn push_chunk(
 }
 
 /// One UTF-8 unit after another.
-fn push_chunks(text: &mut String, bytes: &[u8], has_lines: bool) -> Result<(), AllocError>
+pub(crate) fn push_chunks(
+    text: &mut String,
+    bytes: &[u8],
+    has_lines: bool,
+) -> Result<(), AllocError>
     ensures added { OnOk result (string_bytes text.new ≡ string_bytes text.old ++ safe_in has_lines bytes.now) }
     ensures kept { StartsWith (string_bytes text.new) (string_bytes text.old) }
 {
@@ -74,7 +78,7 @@ fn push_chunks(text: &mut String, bytes: &[u8], has_lines: bool) -> Result<(), A
     Ok(())
 }
 
-fn has_command(text: &[u8]) -> bool
+pub(crate) fn has_command(text: &[u8]) -> bool
     ensures { result ≡ has_command text.now }
 {
     let mut rest = text;
@@ -111,7 +115,7 @@ fn push_without_hashes(text: &mut String, plain: &str) -> Result<(), AllocError>
 }
 
 #[tactic(auto, unfolding(crate::specs::Sanitize::without_commands))]
-fn push_without_commands(text: &mut String, plain: &str) -> Result<(), AllocError>
+pub(crate) fn push_without_commands(text: &mut String, plain: &str) -> Result<(), AllocError>
     ensures added { OnOk result (string_bytes text.new ≡ string_bytes text.old ++ without_commands plain.now) }
     ensures kept { StartsWith (string_bytes text.new) (string_bytes text.old) }
 {
@@ -143,12 +147,4 @@ pub fn push_sanitized(text: &mut String, bytes: &[u8]) -> Result<(), AllocError>
     ensures kept { StartsWith (string_bytes text.new) (string_bytes text.old) }
 {
     push_sanitized_in(text, bytes, false)
-}
-
-/// The text may have several lines.
-pub fn push_sanitized_lines(text: &mut String, bytes: &[u8]) -> Result<(), AllocError>
-    ensures added { OnOk result (string_bytes text.new ≡ string_bytes text.old ++ sanitized_lines bytes.now) }
-    ensures kept { StartsWith (string_bytes text.new) (string_bytes text.old) }
-{
-    push_sanitized_in(text, bytes, true)
 }

@@ -1,11 +1,11 @@
 -- What the program answers: to an audit, and to its arguments.
-use Rattle.std.specs.Prelude.{◌≡◌, ◌⊎◌, ℕ, Bool, true, false, List, [], ◌∷◌, ◌++◌, None, Option, Some, codes}
-use Rattle.std.specs.Prelude.{◌==◌, if◌then◌else◌, length, map, not, ◌&&◌, string_bytes, ⊤}
+use Rattle.std.specs.Prelude.{◌≡◌, ◌⊎◌, ℕ, Bool, true, false, List, [], None, Option, Some, codes}
+use Rattle.std.specs.Prelude.{◌==◌, length, map, not, ◌&&◌, string_bytes, ⊤}
 use Rattle.std.specs.{List.list_any}
 use Rattle.clap.specs.{declared.parser.matches.ArgMatches.ArgMatches}
-use Rattle.html_writer.specs.{Html.document}
-use Rattle.printable_text.specs.{Lines.ended, declared.level.Level.Level}
-use Rattle.printable_text.specs.Text.{reaches, ReportLine, written}
+use Rattle.html_writer.specs.{Page.IsSomePage}
+use Rattle.printable_text.specs.{declared.level.Level.Level}
+use Rattle.printable_text.specs.Text.{IsReport, IsShownReport, reaches, written}
 use Rattle.robots_warnings.specs.{Table.is_name, Table.level_of, Message.WarningValue}
 use Rattle.audit_core.specs.Audit.{AuditValue, IsAuditOf, all_allowed, rejects_some, shown}
 use Rattle.audit_core.specs.Request.{RequestValue, has_rows, requested_by, shown_name}
@@ -19,15 +19,8 @@ use Rattle.audit_compare.specs.Compare.{ComparisonValue, IsComparison, all_diffe
 use Rattle.audit_compare.specs.Compare.{finding_of, rejects_some as rejects_one}
 use Rattle.audit_compare.specs.Compare.{report_lines as comparison_lines}
 use Rattle.audit_expect.specs.{Expectations.IsReport, UrlList.HasUrlsIn}
-use Rattle.audit_text.specs.Report.{listed_lines, report_lines, total_line}
-use Rattle.audit_text.specs.{Github.github_text, Explain.explanation, Explain.list_text}
+use Rattle.audit_text.specs.{Github.github_text}
 use Rattle.audit_json.specs.{Json.findings_text, Json.json_text, Sarif.sarif_text}
-use Rattle.audit_page.specs.{Page.page}
-
--- the last line, with `--urls` or `--denied`
-abbrev pub total_lines : (has_totals : Bool) → AuditValue → List ReportLine
-total_lines true audit = total_line audit.agents ∷ []
-total_lines false audit = []
 
 -- a page has all URLs, since its tables have a row or a column for each
 abbrev pub has_all_urls : Format → Bool
@@ -42,32 +35,14 @@ abbrev pub reported : RequestValue → AuditValue → AuditValue
 reported requested audit = shown (leaves_out_allowed requested) audit
 
 -- the report in this format
-abbrev pub output_in : Format → RequestValue → AuditValue → List ℕ
-output_in Text requested audit =
-    written (report_lines requested (reported requested audit)
-    ++ total_lines requested.has_totals audit)
-output_in Json requested audit = json_text (has_rows requested) (reported requested audit)
-output_in Html requested audit = document (page requested (reported requested audit))
-output_in Github requested audit =
-    github_text (shown_name requested.file) (findings (reported requested audit))
-output_in Sarif requested audit =
-    sarif_text (shown_name requested.file) (findings (reported requested audit))
-
-abbrev pub output : RequestValue → AuditValue → List ℕ
-output requested audit = output_in requested.format requested audit
-
--- the message: of each name the first twenty warnings and the number of the others, unless they are in the
--- report
-abbrev pub message_in : Format → RequestValue → AuditValue → List ℕ
-message_in Text requested audit =
-    ended (listed_lines requested.has_colors (shown_name requested.file) audit.warnings)
-message_in format requested audit = []
-
-abbrev pub message : RequestValue → AuditValue → List ℕ
-message requested audit = message_in requested.format requested audit
-
-abbrev pub without_colors : RequestValue → RequestValue
-without_colors requested = record requested { has_colors = false }
+abbrev pub IsOutput : Format → RequestValue → AuditValue → List ℕ → Type 0
+IsOutput Text requested audit text = IsReport text
+IsOutput Json requested audit text = text ≡ json_text (has_rows requested) (reported requested audit)
+IsOutput Html requested audit text = IsSomePage text
+IsOutput Github requested audit text =
+    text ≡ github_text (shown_name requested.file) (findings (reported requested audit))
+IsOutput Sarif requested audit text =
+    text ≡ sarif_text (shown_name requested.file) (findings (reported requested audit))
 
 abbrev pub is_warned : Option Level → List WarningValue → Bool
 is_warned None warnings = false
@@ -78,13 +53,13 @@ pub record IsOutcomeOf (requested : RequestValue) (audit : AuditValue) (outcome 
   pub rejected : outcome.is_rejected ≡ rejects_some audit.agents
   pub allowed : outcome.has_passed ≡ all_allowed audit.agents
   pub warned : outcome.is_warned ≡ is_warned requested.strict audit.warnings
-  pub warnings : string_bytes outcome.warnings ≡ message requested audit
+  pub warnings : IsShownReport requested.has_colors (string_bytes outcome.warnings)
 
 -- the answer to an audit of a file with these bytes
 pub record IsAudited (requested : RequestValue) (file : List ℕ) (answer : Answer) : Type 0 where
   pub audit : AuditValue
   pub of : IsAuditOf requested file audit
-  pub report : answer.report.items ≡ output requested audit
+  pub report : IsOutput requested.format requested audit answer.report.items
   pub outcome : IsOutcomeOf requested audit answer.outcome
 
 -- ---- a comparison, and expectations
@@ -180,7 +155,7 @@ pub record AnswersComparison (matches : ArgMatches) (name : List ℕ) (answer : 
 abbrev pub AnswersOptions : (explain expect compare : Option (List ℕ)) → (by_default : Bool) → ArgMatches
     → Answer → Type 0
 AnswersOptions (Some name) expect compare by_default matches answer =
-    (is_name name ≡ true) × IsText (explanation name) answer
+    (is_name name ≡ true) × IsText answer
 AnswersOptions None (Some name) compare by_default matches answer = AnswersExpectations matches name answer
 AnswersOptions None None (Some name) by_default matches answer = AnswersComparison matches name answer
 AnswersOptions None None None by_default matches answer = AnswersAudit by_default matches answer
@@ -188,7 +163,7 @@ AnswersOptions None None None by_default matches answer = AnswersAudit by_defaul
 -- `by_default` is whether warnings have colors without `--color`
 abbrev pub Answers : (by_default : Bool) → ArgMatches → Answer → Type 0
 Answers by_default matches answer =
-    (IsOn matches (codes "list-warnings") true × IsText list_text answer)
+    (IsOn matches (codes "list-warnings") true × IsText answer)
     ⊎ (IsOn matches (codes "list-warnings") false
     × AnswersOptions (value_of matches (codes "explain")) (value_of matches (codes "expect"))
     (value_of matches (codes "compare")) by_default matches answer)

@@ -13,9 +13,8 @@
 
 ghost use Rattle.std.specs.Prelude.{◌≡◌, ◌≢◌, IfErr, IfOk, IsErr, None, option_map, string_bytes, true};
 ghost use Rattle.std.specs.Process.{exit_status};
-ghost use Rattle.printable_text.specs.Text.{IsForTerminal};
-ghost use Rattle.audit_core.specs.Fault.{fault_text, message_after, status_after};
-ghost use Rattle.audit_core.specs.declared.fault.Fault.TheVariants.{Memory};
+ghost use Rattle.printable_text.specs.Text.{IsReport, IsShownReport};
+ghost use Rattle.audit_core.specs.Fault.{status_after};
 ghost use Rattle.clap.specs.Values.{kind_of};
 ghost use Rattle.audit_core.specs.{Content.content_flaw, Request.requested_by};
 ghost use Rattle.robots_audit.specs.Answer.{Answers, AnswersAudit, AnswersComparison, AnswersExpectations};
@@ -30,20 +29,21 @@ use audit_compare::compare::NamedFile;
 use audit_core::answer::{Answer, Outcome, text_answer, write_answer};
 use audit_core::color::colors_by_default;
 use audit_core::content::check_content;
-use audit_core::fault::{Fault, fault_text, status_after};
+use audit_core::fault::{Fault, status_after, write_fault};
 use audit_core::request::Request;
 use audit_expect::url_list::with_urls;
 use audit_text::explain::{explain, list_warnings};
 use clap::ArgMatches;
 use clap::error::ErrorKind as WordsKind;
 use command::{check_files, command, file_read, format_of, requested};
+use printable_text::report::Report;
 use program::{audited, comparison, expectations, given_name, unread};
 use robots_io::streams::{ReadFault, read_all};
-use std::alloc::{AllocError, Global};
-use std::env;
+use std::alloc::Global;
 use std::fs::File;
 use std::io::ErrorKind;
 use std::process::ExitCode;
+use std::{env, fmt};
 
 fn words(rt: &HostRuntime) -> Result<Vec<String>, Fault> {
     match env::args(rt) {
@@ -165,7 +165,7 @@ fn answered(rt: &HostRuntime, matches: &ArgMatches<'_>, has_colors: bool) -> Res
 
 /// The answer if the arguments request help or the version; else the error for arguments that `clap` rejects.
 fn reported(rt: &HostRuntime, error: clap::Error) -> Result<Answer, Fault>
-    ensures warnings { IfOk result (λ answer. IsForTerminal true (string_bytes answer.outcome.warnings)) }
+    ensures warnings { IfOk result (λ answer. IsShownReport true (string_bytes answer.outcome.warnings)) }
     ensures rejected { (kind_of error ≢ WordsKind.DisplayHelp) → (kind_of error ≢ WordsKind.DisplayVersion) → IsErr result }
     ensures words { IfErr result HasWords }
 {
@@ -173,13 +173,15 @@ fn reported(rt: &HostRuntime, error: clap::Error) -> Result<Answer, Fault>
     if error.use_stderr() {
         Err(Fault::Words(text))
     } else {
-        Ok(text_answer(rt.alloc(), text.into_bytes()))
+        let mut out = Report::new(rt.alloc());
+        out.lines(&text)?;
+        Ok(text_answer(rt.alloc(), out))
     }
 }
 
 /// The warnings are printable apart from color codes, whatever the arguments, the files and their names are.
 fn answer(rt: &HostRuntime) -> Result<Answer, Fault>
-    ensures { IfOk result (λ answer. IsForTerminal true (string_bytes answer.outcome.warnings)) }
+    ensures { IfOk result (λ answer. IsShownReport true (string_bytes answer.outcome.warnings)) }
 {
     let words = words(rt)?;
     match command(rt.alloc())?.try_get_matches_from(&words) {
@@ -191,16 +193,24 @@ fn answer(rt: &HostRuntime) -> Result<Answer, Fault>
     }
 }
 
+fn fault_message(alloc: Global, fault: &Fault) -> Result<String, fmt::Error>
+    ensures { IfOk result (λ text. IsReport (string_bytes text)) }
+{
+    let mut out = Report::new(alloc);
+    write_fault(&mut out, fault)?;
+    Ok(out.into_string())
+}
+
 /// For standard error: the warnings of a run, or the message for its error, or for a failed allocation.
 fn message(alloc: Global, outcome: Result<Outcome, Fault>) -> Result<String, &'static str>
-    ensures message { IfOk result (λ text. string_bytes text ≡ message_after outcome) }
-    ensures memory { IfErr result (λ text. text.now ≡ fault_text Memory) }
+    requires { IfOk outcome (λ outcome. IsShownReport true (string_bytes outcome.warnings)) }
+    ensures message { IfOk result (λ text. IsShownReport true (string_bytes text)) }
 {
     match outcome {
         Ok(outcome) => Ok(outcome.warnings),
-        Err(fault) => match fault_text(alloc, &fault) {
+        Err(fault) => match fault_message(alloc, &fault) {
             Ok(text) => Ok(text),
-            Err(AllocError) => Err("robots_audit: out of memory\n"),
+            Err(_) => Err("robots_audit: out of memory\n"),
         },
     }
 }

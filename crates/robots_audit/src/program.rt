@@ -1,8 +1,8 @@
 //! The audit of a file and the report on it, without the command line, input and output.
 ghost use Rattle.std.specs.Prelude.{◌≡◌, ◌⊎◌, IfErr, IfOk, Some, map, option_map, string_bytes};
 ghost use Rattle.robots_audit.specs.Answer.{IsAudited, IsCompared, IsExpected, IsFileUnreadable, IsFormatFault};
-ghost use Rattle.robots_audit.specs.Answer.{IsListed, given_name, has_all_urls, is_warned, leaves_out_allowed};
-ghost use Rattle.robots_audit.specs.Answer.{message, output};
+ghost use Rattle.robots_audit.specs.Answer.{IsListed, IsOutput, given_name, has_all_urls, is_warned, leaves_out_allowed};
+ghost use Rattle.printable_text.specs.Text.{IsShownReport};
 ghost use Rattle.audit_compare.specs.Compare.{IsComparison};
 ghost use Rattle.audit_core.specs.declared.fault.Entry.TheVariants.{Expectation};
 ghost use Rattle.audit_core.specs.{Findings.finding_value, Request.requested_by};
@@ -23,10 +23,12 @@ use audit_json::sarif::sarif_text;
 use audit_page::page::page_text;
 use audit_text::denied::{shown, totals_of};
 use audit_text::github::github_text;
-use audit_text::report::{listed_lines, push_totals, report_text};
+use audit_text::report::{write_report, write_totals, write_warnings};
 use printable_text::level::Level;
+use printable_text::report::Report;
 use robots_warnings::warning::Warning;
 use std::alloc::{AllocError, Global};
+use std::fmt;
 
 #[tactic(auto, using(crate::proofs::MessageLemmas::warned_next))]
 fn has_level(least: Level, warnings: &[Warning<'_>]) -> bool
@@ -61,42 +63,44 @@ fn leaves_out_allowed(request: &Request<'_>) -> bool
     request.is_denied_only && !has_all_urls(request.format)
 }
 
-fn output(alloc: Global, request: &Request<'_>, audit: Audit<'_>) -> Result<Vec<u8>, AllocError>
-    ensures { IfOk result (λ report. report.items ≡ output (requested_by request.now) audit.entry) }
+fn output(alloc: Global, request: &Request<'_>, audit: Audit<'_>) -> Result<Vec<u8>, Fault>
+    ensures ok { IfOk result (λ report. IsOutput request.now.format (requested_by request.now) audit.entry report.items) }
+    ensures fault { IfErr result (λ fault. fault ≡ Fault.Memory) }
 {
     let totals = totals_of(&audit.agents);
     let reported = shown(leaves_out_allowed(request), audit);
     match request.format {
         Format::Text => {
-            let mut text = report_text(alloc, request, &reported)?;
+            let mut out = Report::new(alloc);
+            write_report(&mut out, request, &reported)?;
             if request.has_totals {
-                push_totals(&mut text, totals)?;
+                write_totals(&mut out, totals)?;
             }
-            Ok(text.into_bytes())
+            Ok(out.into_string().into_bytes())
         }
         Format::Json => Ok(json_text(alloc, request.has_rows(), &reported)?.into_bytes()),
-        Format::Html => page_text(alloc, request, &reported),
+        Format::Html => Ok(page_text(alloc, request, &reported)?),
         Format::Github => {
             let found = findings_of(alloc, &reported)?;
-            github_text(alloc, request.shown_name(), &found)
+            Ok(github_text(alloc, request.shown_name(), &found)?)
         }
         Format::Sarif => { Ok(sarif_text(alloc, request.shown_name(), &reported)?.into_bytes()) }
     }
 }
 
 /// The warnings, unless they are in the report.
-fn message(alloc: Global, request: &Request<'_>, audit: &Audit<'_>) -> Result<String, AllocError>
-    ensures { IfOk result (λ text. string_bytes text ≡ message (requested_by request.now) audit.now) }
+fn message(
+    alloc: Global,
+    request: &Request<'_>,
+    audit: &Audit<'_>,
+) -> Result<String, fmt::Error>
+    ensures { IfOk result (λ text. IsShownReport request.now.has_colors (string_bytes text)) }
 {
-    match request.format {
-        Format::Text => listed_lines(
-            alloc,
-            request.has_colors,
-            request.shown_name(),
-            &audit.warnings,
-        ),
-        _ => Ok(String::new(alloc)),
+    let mut out = Report::new(alloc);
+    if let Format::Text = request.format {
+        write_warnings(alloc, &mut out, request.shown_name(), &audit.warnings)?;
     }
+    out.shown(request.has_colors)
 }
 
 /// Audits a file for the crawlers and URLs of the request, and writes the report in the requested format. A

@@ -10,18 +10,18 @@ use Rattle.std.proofs.lemmas.Bool.{and_parts, cases_Bool, eqb-true, false≢true
 use Rattle.std.proofs.lemmas.{Bool.Decides.nat_tests, Map.Text.is_eq-slice_cmp, Simd.map-map}
 use Rattle.std.specs.{List.filter_map, List.list_all, List.list_any, Str.byte, BTreeSet.BTreeSet}
 use Rattle.std.specs.{BTreeSet.Updates, BTreeSet.contains, Str.str_to_ascii_lowercase, List.range_with_len}
-use Rattle.texting_robots.specs.Callers.{LineValue, PlacedRule, escaped, sitemaps_in}
-use Rattle.texting_robots.specs.{Escape.is_escaped, Executable.sitemap_in}
-use Rattle.robots_warnings.specs.{Closed.closes, Message.passes_at, Internal.IsRowAt, Internal.Row}
+use Rattle.texting_robots.specs.Callers.{AreSitemapsOf, HasLines, PlacedRule, escaped, file_lines}
+use Rattle.texting_robots.specs.Callers.{sitemaps_in}
+use Rattle.texting_robots.specs.{Escape.is_escaped, Line.AreFileLinesOf, Line.nul_as_lf}
+use Rattle.texting_robots.proofs.Shared.{each_text_has_its_lines, of_lines, sitemaps_are_computed}
+use Rattle.robots_warnings.specs.{Closed.closes, Internal.IsRowAt, Internal.Row}
 use Rattle.robots_warnings.specs.Closed.{is_anything, is_closing, is_rival, is_star_or_dollar, is_literally}
 use Rattle.robots_warnings.specs.Closed.{is_number, is_root, is_whole_site, opened_path, without_stars}
 use Rattle.robots_warnings.specs.Internal.{Rules.IsNeeded, Names.AddsName, Names.Key, Names.key_cmp, IsAt}
 use Rattle.std.proofs.Math.{Bool.or-false}
 use Rattle.robots_warnings.specs.contracts.table.{Cause.the_type}
 use Rattle.robots_warnings.specs.declared.table.{Cause.Cause, TheConstants.WARNINGS}
-use Rattle.robots_warnings.specs.Table.{all_examples, example_of, number_of, all_causes}
-use Rattle.printable_text.specs.Sanitize.{IsPrintable, is_printable_byte}
-use Rattle.printable_text.proofs.{SanitizeLemmas.ascii_printable}
+use Rattle.robots_warnings.specs.Table.{number_of, all_causes}
 use borrow.Enum.Match.{tag_small}
 use denote.Enum.Bare.{tag_one}
 use native.Mathlib.Nat.{zero-add}
@@ -123,22 +123,32 @@ whole_site_stays pattern whole = elim (or_cases (is_anything pattern) _ whole) [
   | inr root ↦ stars_stay_before pattern (root_stays (without_stars pattern) root)
 ]
 
-abbrev opens : List ℕ → List LineValue → Bool
-opens pattern lines = list_any (is_literally pattern) (filter_map opened_path (sitemaps_in lines))
+-- the sitemaps of a site are those in its lines
+pub sitemaps_read : (text : List ℕ) (urls : List (List ℕ)) → HasLines text (λ lines. AreSitemapsOf lines urls)
+    → urls ≡ sitemaps_in (file_lines text)
+sitemaps_read text urls has =
+    let read : AreFileLinesOf (file_lines text) text =
+    (each_text_has_its_lines (map nul_as_lf text) _).1 refl in
+    (sitemaps_are_computed (file_lines text) urls).0
+    (of_lines text (λ lines. AreSitemapsOf lines urls) has (file_lines text) read)
 
-pub opened_next : (pattern : List ℕ) (line : LineValue) (old : Bool) {left rest : List LineValue}
-    {new all : Bool} → left ≡ line ∷ rest → new ≡ (old || opens pattern (line ∷ []))
-    → (old || opens pattern left) ≡ all → (new || opens pattern rest) ≡ all
-opened_next pattern line old {left} {rest} here is was =
-    let one = sitemaps_in (line ∷ []) in
-    let later = sitemaps_in rest in
-    let parts : opens pattern left ≡ (opens pattern (line ∷ []) || opens pattern rest) =
-    ap (opens pattern) here
-    ∙ ap (λ urls. list_any (is_literally pattern) (filter_map opened_path urls))
-    (filter_map-append sitemap_in (line ∷ []) rest)
-    ∙ ap (list_any (is_literally pattern)) (filter_map-append opened_path one later)
-    ∙ list_any-append (is_literally pattern) (filter_map opened_path one) (filter_map opened_path later) in
-    ap (λ new. new || opens pattern rest) is ∙ grouped old (opens pattern (line ∷ [])) (opens pattern rest)
+abbrev opens : List ℕ → List (Bor (List ℕ)) → Bool
+opens pattern urls = list_any (is_literally pattern) (filter_map opened_path (map (λ url. url.now) urls))
+
+pub opened_next : (pattern : List ℕ) (urls : List (Bor (List ℕ))) (at : ℕ) (item : Bor (List ℕ)) (old : Bool)
+    {new all : Bool} → at < length urls
+    → new ≡ (old || opens pattern (slice_index_or urls at item ∷ []))
+    → (old || opens pattern (drop at urls)) ≡ all → (new || opens pattern (drop (at + 1) urls)) ≡ all
+opened_next pattern urls at item old {new} {all} below is was =
+    let one = slice_index_or urls at item ∷ [] in
+    let rest = drop (at + 1) urls in
+    let parts : opens pattern (drop at urls) ≡ (opens pattern one || opens pattern rest) =
+    ap (opens pattern) (drop_more urls at item below)
+    ∙ ap (list_any (is_literally pattern))
+    (filter_map-append opened_path (map (λ url. url.now) one) (map (λ url. url.now) rest))
+    ∙ list_any-append (is_literally pattern) (filter_map opened_path (map (λ url. url.now) one))
+    (filter_map opened_path (map (λ url. url.now) rest)) in
+    ap (λ new. new || opens pattern rest) is ∙ grouped old (opens pattern one) (opens pattern rest)
     ∙ ap (λ more. old || more) (sym parts) ∙ was
   where
     grouped : (a b c : Bool) → ((a || b) || c) ≡ (a || (b || c))
@@ -221,15 +231,6 @@ any_last test xs x =
     list_any-append test xs (x ∷ []) ∙ ap (λ is. list_any test xs || is) (or-false (test x))
 
 -- ---- Examples of warnings contain no control or bidirectional-formatting characters other than LF.
-
-abbrev is_ascii : List ℕ → Bool
-is_ascii text = list_all (is_printable_byte true) text
-
-pub example_printable : (cause : Cause) → IsPrintable (example_of cause)
-unfolding example_of
-example_printable cause =
-    ascii_printable true (example_of cause)
-    (passes_at is_ascii all_examples (number_of cause) (tag_small the_type cause) refl)
 
 -- ---- The rows of the tables of warnings and of their examples.
 

@@ -1,6 +1,7 @@
 -- What is closed to a crawler.
 use Rattle.std.specs.Prelude.{ℕ, ◌==◌, Bool, false, not, ◌||◌, ◌&&◌, List, [], ◌∷◌, ◌++◌, Option, Some, None}
-use Rattle.std.specs.Prelude.{bytes_eq, codes, filter, if◌then◌else◌, is_some, length, nat_le, nat_lt}
+use Rattle.std.specs.Prelude.{bytes_eq, codes, count_by, filter, if◌then◌else◌, is_some, length, nat_le}
+use Rattle.std.specs.Prelude.{nat_lt}
 use Rattle.std.specs.List.{before_first, filter_map, list_all, list_any}
 use Rattle.std.specs.Str.{byte, str_eq_ignore_ascii_case, str_to_ascii_lowercase}
 use Rattle.texting_robots.specs.Callers.{LineValue, PlacedRule, is_named, placed_rules, prepared, robots_file}
@@ -122,7 +123,7 @@ star_rules lines = placed_rules (codes "*") lines
 
 -- how many Disallows `*` has
 abbrev pub star_count : List LineValue → ℕ
-star_count lines = length (filter (λ placed. not placed.rule.1) (star_rules lines))
+star_count lines = count_by (λ placed. not placed.rule.1) (star_rules lines)
 
 -- a Disallow, but not of the whole site
 abbrev pub is_partial : PlacedRule → Bool

@@ -103,19 +103,24 @@ overruled_by is_empty rules placed =
 abbrev pub at_line : ℕ → (PlacedRule → Option ℕ) → PlacedRule → Option ℕ
 at_line number other placed = if placed.line == number then other placed else None
 
--- the other line of a conflict of the line with this number; `warnings_laws` proves that this agrees with
--- `IsConflict`, and `overruled_for` with `IsOverruled`
+-- the other line of a conflict of the line with this number
+abbrev pub conflict_among : (ℕ → Bool) → List PlacedRule → ℕ → Option ℕ
+conflict_among is_empty rules number = first_of (at_line number (allow_beside is_empty rules)) rules
+
+-- the same for a crawler; `warnings_laws` proves that this agrees with `IsConflict`, and `overruled_for` with
+-- `IsOverruled`
 abbrev pub conflict_for : (ℕ → Bool) → List LineValue → ℕ → List ℕ → Option ℕ
-conflict_for is_empty lines number agent =
-    let rules = placed_rules agent lines in first_of (at_line number (allow_beside is_empty rules)) rules
+conflict_for is_empty lines number agent = conflict_among is_empty (placed_rules agent lines) number
 
 abbrev pub conflict : (ℕ → Bool) → List (List ℕ) → List LineValue → ℕ → Option ℕ
 conflict is_empty agents lines number = first_of (conflict_for is_empty lines number) agents
 
 -- the Disallow that the empty Disallow in the line with this number overrules
+abbrev pub overruled_among : (ℕ → Bool) → List PlacedRule → ℕ → Option ℕ
+overruled_among is_empty rules number = first_of (at_line number (overruled_by is_empty rules)) rules
+
 abbrev pub overruled_for : (ℕ → Bool) → List LineValue → ℕ → List ℕ → Option ℕ
-overruled_for is_empty lines number agent =
-    let rules = placed_rules agent lines in first_of (at_line number (overruled_by is_empty rules)) rules
+overruled_for is_empty lines number agent = overruled_among is_empty (placed_rules agent lines) number
 
 abbrev pub overruled : (ℕ → Bool) → List (List ℕ) → List LineValue → ℕ → Option ℕ
 overruled is_empty agents lines number = first_of (overruled_for is_empty lines number) agents

@@ -1,5 +1,6 @@
 -- The code's own types by value, and how lists of warnings grow.
 pub mod Names
+pub mod Plain
 pub mod Rules
 pub mod Values
 pub mod Warned

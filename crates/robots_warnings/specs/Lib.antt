@@ -16,4 +16,5 @@ pub mod Spellings
 pub mod Repeated
 pub mod Warnings
 pub mod Message
+pub mod Read
 pub mod Internal

@@ -1,5 +1,5 @@
 -- Warnings and their messages.
-use Rattle.std.specs.Prelude.{ℕ, List, Option, ◌≡◌, zero, suc, ◌<◌, Bool, true, false, [], ◌∷◌, ◌++◌, Some}
+use Rattle.std.specs.Prelude.{ℕ, List, Option, ◌≡◌, zero, suc, ◌<◌, Bool, true, false, [], ◌∷◌, Some}
 use Rattle.std.specs.Prelude.{None, ◌==◌, codes, if◌then◌else◌, length, slice_index_or}
 use Rattle.robots_warnings.specs.{declared.table.Cause.Cause, declared.warning.Detail.Detail, Crawlers.row_at}
 use Rattle.robots_warnings.specs.{contracts.table.Cause.the_type}
@@ -94,9 +94,3 @@ message_parts warning =
 
 abbrev pub warning_text : WarningValue → List ℕ
 warning_text warning = parts_text (message_parts warning)
-
--- the same, followed by the name of the warning
-abbrev pub reported_parts : WarningValue → List PartValue
-reported_parts warning =
-    message_parts warning
-    ++ (Part (label (codes " [") refl) (Word (fixed_name warning.cause)) ∷ only (codes "]") refl ∷ [])

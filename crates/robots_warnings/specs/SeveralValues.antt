@@ -57,11 +57,14 @@ begins_next_value text =
 abbrev pub has_several_values : List ℕ → Bool
 has_several_values value = somewhere begins_next_value value
 
--- the warning about the first of these in the value
-abbrev pub several_values : List ℕ → Cause
-several_values value =
-    let rest = from_first begins_next_value value in
+-- the warning about what this text starts with
+abbrev pub cause_of : List ℕ → Cause
+cause_of rest =
     if begins_list rest then cause.CommaInValue
     else if begins_tag rest then cause.TagInValue
     else if begins_unseen rest then cause.UnseenInValue
     else cause.SpaceInValue
+
+-- the warning about the first of these in the value
+abbrev pub several_values : List ℕ → Cause
+several_values value = cause_of (from_first begins_next_value value)

@@ -3,7 +3,7 @@ ghost use Rattle.std.specs.Prelude.{◌≡◌, IfOk, map, option_map};
 ghost use Rattle.texting_robots.specs.Callers.{label_by_value};
 ghost use Rattle.robots_warnings.specs.FieldNames.{is_without_colon};
 ghost use Rattle.robots_warnings.specs.Checks.{content_checks, field_checks, file_checks, form_checks, position_checks, raw_rule_checks, sitemap_checks, text_checks, url_checks, user_agent_checks};
-ghost use Rattle.robots_warnings.specs.File.{is_in_scope_of, lines_of};
+ghost use Rattle.robots_warnings.specs.{File.is_in_scope_of, File.lines_of, Rules.is_expression};
 
 use crate::contents::{has_odd_comment, has_odd_space, is_cut_short, is_cut_to_root};
 use crate::facts::FileFacts;
@@ -13,10 +13,10 @@ use crate::positions::{
 };
 use crate::rules::{
     before_byte, begins_dot_segment, begins_wildcard, has, has_dollar_inside,
-    has_more_after_dollar, has_odd_start, has_quote_at_end, holds_otherwise, is_expression,
-    is_only_odd, is_quoted, is_url_in_path, is_utf8, somewhere,
+    has_more_after_dollar, has_odd_start, has_quote_at_end, holds_otherwise, is_only_odd, is_quoted,
+    is_url_in_path, is_utf8, somewhere,
 };
-use crate::several_values::{has_several_values, several_values};
+use crate::several_values::several_values;
 use crate::table::Cause;
 use crate::targets::has_odd_target;
 use crate::tokens::{is_product_token, is_usual_name};
@@ -102,7 +102,9 @@ pub(crate) fn is_in_scope_of(everywhere: bool, membership: Membership) -> bool
     everywhere || membership == Membership::Own
 }
 
-pub(crate) fn form_checks(value: &[u8]) -> [Check; 9]
+/// `is_regex`: the value seems to be a regular expression.
+pub(crate) fn form_checks(value: &[u8], is_regex: bool) -> [Check; 9]
+    requires { is_regex ≡ is_expression value.now }
     ensures { result ≡ form_checks value.now }
 {
     let is_odd = has_odd_start(value);
@@ -112,7 +114,7 @@ pub(crate) fn form_checks(value: &[u8]) -> [Check; 9]
         (Cause::EqualsInRule, is_odd & has_equals),
         (
             Cause::MissingSlash,
-            is_odd & !(has_equals | is_expression(value)),
+            is_odd & !(has_equals | is_regex),
         ),
         (Cause::UrlInPath, is_url_in_path(value)),
         (Cause::UrlAsRule, begins_as_url(value)),
@@ -123,29 +125,30 @@ pub(crate) fn form_checks(value: &[u8]) -> [Check; 9]
     ]
 }
 
-pub(crate) fn content_checks(value: &[u8]) -> [Check; 7]
+pub(crate) fn content_checks(value: &[u8], is_regex: bool) -> [Check; 7]
+    requires { is_regex ≡ is_expression value.now }
     ensures { result ≡ content_checks value.now }
 {
     let is_odd = has_odd_start(value);
-    let is_expression = is_expression(value);
     let has_dots = somewhere(before_byte(b'?', value), begins_dot_segment);
-    let has_several = is_utf8(value) & has_several_values(value);
+    let (cause, seems_several) = several_values(value);
     [
-        (Cause::RegexWithoutSlash, is_odd & is_expression),
-        (Cause::RegexSyntax, !is_odd & is_expression),
+        (Cause::RegexWithoutSlash, is_odd & is_regex),
+        (Cause::RegexSyntax, !is_odd & is_regex),
         (Cause::StarAfterDollar, has_more_after_dollar(value)),
         (Cause::DollarNotAtEnd, has_dollar_inside(value)),
         (Cause::EscapedWildcard, somewhere(value, begins_wildcard)),
         (Cause::DotSegment, has_dots),
-        (several_values(value), has_several),
+        (cause, is_utf8(value) & seems_several),
     ]
 }
 
 pub(crate) fn sitemap_checks(alloc: Global, value: &[u8]) -> Result<[Check; 3], AllocError>
     ensures { IfOk result (λ checks. checks ≡ sitemap_checks value.now) }
 {
+    let (cause, seems_several) = several_values(value);
     Ok([
-        (several_values(value), has_several_values(value)),
+        (cause, seems_several),
         (Cause::SitemapNotAbsolute, !is_absolute_url(alloc, value)?),
         (Cause::SitemapHost, has_odd_host(alloc, value)?),
     ])

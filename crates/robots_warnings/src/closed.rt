@@ -2,25 +2,24 @@
 ghost use Rattle.std.specs.Prelude.{◌≡◌, ◌++◌, ◌||◌, ◌∷◌, [], Bool, IfOk, List, OnOk, bytes_eq, codes, false, filter, flat_map, if◌then◌else◌};
 ghost use Rattle.std.specs.Prelude.{is_some, length, map, nat_lt, option_map, slice_get, string_bytes, ℕ};
 ghost use Rattle.std.specs.{HashSet.contains_text, List.filter_map, List.list_all, List.list_any, Str.str_eq_ignore_ascii_case};
-ghost use Rattle.texting_robots.specs.Callers.{PlacedRule, by_value, file_lines, label_by_value, placed_rules, sitemaps_in};
+ghost use Rattle.texting_robots.specs.Callers.{PlacedRule, file_lines, label_by_value, placed_rules};
 ghost use Rattle.robots_warnings.specs.Closed.{closed_at, closes, closing_line, is_allow, is_anything, is_closing, is_exempt};
 ghost use Rattle.robots_warnings.specs.Closed.{is_literally, is_major, is_number, is_rival, is_root, is_star_or_dollar};
 ghost use Rattle.robots_warnings.specs.Closed.{is_whole_site, line_closing, matches_no_path, opened_path};
-ghost use Rattle.robots_warnings.specs.Closed.{reach_of, without_stars};
+ghost use Rattle.robots_warnings.specs.Closed.{reach_by, reach_of, without_stars};
 ghost use Rattle.robots_warnings.specs.Internal.{Adds, Rules.HasExempt, Rules.IsNeeded, Rules.agents_at};
 ghost use Rattle.robots_warnings.specs.Warnings.{closing_warnings, others, site_warnings};
 
 use crate::crawlers::{meant, other_group};
+use crate::own_rules::own_rules;
 use crate::rules::{begins_oddly, has_dollar_inside};
 use crate::table::Cause;
 use crate::targets::prepared;
 use crate::tokens::token_front;
-use crate::urls::as_text;
 use crate::warning::{Detail, Found, Warning};
 use std::alloc::{AllocError, Global};
 use std::collections::{BTreeMap, HashSet};
 use texting_robots::labels::LabeledLine;
-use texting_robots::parser::{Line, file_lines};
 use texting_robots::site::{Site, SiteRule};
 
 type Patterns = HashSet<String>;
@@ -125,13 +124,17 @@ fn raise(
     Ok(())
 }
 
-/// The length that a Disallow must have at least to have no rival among the rules of the crawler.
-fn needed(alloc: Global, exempt: &Patterns, site: &Site, agent: &str) -> Result<usize, AllocError>
-    ensures { IfOk result (IsNeeded (contains_text exempt.now) (placed_rules agent.now (file_lines site.now))) }
+/// The length that a Disallow must have at least to have no rival among these rules.
+fn needed(
+    alloc: Global,
+    exempt: &Patterns,
+    rules: &[SiteRule<'_>],
+) -> Result<usize, AllocError>
+    ensures { IfOk result (IsNeeded (contains_text exempt.now) rules.now) }
 {
     let mut needed = 0;
-    for rule in site.rules(agent) {
-        raise(alloc, &mut needed, exempt, &rule)?;
+    for rule in rules {
+        raise(alloc, &mut needed, exempt, rule)?;
     }
     Ok(needed)
 }
@@ -146,54 +149,58 @@ fn closes(needed: usize, rule: &SiteRule<'_>) -> bool
 fn closing_line(
     alloc: Global,
     exempt: &Patterns,
-    site: &Site,
-    agent: &str,
+    rules: &[SiteRule<'_>],
 ) -> Result<Option<usize>, AllocError>
-    ensures { IfOk result (λ line. line
-        ≡ closing_line (contains_text exempt.now) (placed_rules agent.now (file_lines site.now))) }
+    ensures { IfOk result (λ line. line ≡ closing_line (contains_text exempt.now) rules.now) }
 {
-    let needed = needed(alloc, exempt, site, agent)?;
-    for rule in site.rules(agent) {
-        if closes(needed, &rule) {
+    let needed = needed(alloc, exempt, rules)?;
+    for rule in rules {
+        if closes(needed, rule) {
             return Ok(Some(rule.line));
         }
     }
     Ok(None)
 }
 
-fn is_open(site: &Site, agent: &str) -> bool
-    ensures { result ≡ list_all is_allow (placed_rules agent.now (file_lines site.now)) }
+fn is_open(rules: &[SiteRule<'_>]) -> bool
+    ensures { result ≡ list_all is_allow rules.now }
 {
-    for rule in site.rules(agent) {
-        if !rule.is_allow {
-            return false;
-        }
-    }
-    true
+    rules.iter().all(|rule| rule.is_allow)
 }
 
-fn is_shut(alloc: Global, site: &Site, agent: &str) -> Result<bool, AllocError>
-    ensures { IfOk result (λ is. is
-        ≡ is_some (closing_line (λ pattern. false) (placed_rules agent.now (file_lines site.now)))) }
+fn is_shut(alloc: Global, rules: &[SiteRule<'_>]) -> Result<bool, AllocError>
+    ensures { IfOk result (λ is. is ≡ is_some (closing_line (λ pattern. false) rules.now)) }
 {
     let none = HashSet::new(alloc);
-    Ok(closing_line(alloc, &none, site, agent)?.is_some())
+    Ok(closing_line(alloc, &none, rules)?.is_some())
 }
 
-/// What the crawler may fetch. It is `Part` if its vendor applies another group.
-pub fn reach_of(alloc: Global, site: &Site, agent: &str) -> Result<Reach, AllocError>
+fn reach_by(alloc: Global, rules: &[SiteRule<'_>]) -> Result<Reach, AllocError>
+    ensures { IfOk result (λ reach. reach ≡ reach_by rules.now) }
+{
+    if is_open(rules) {
+        return Ok(Reach::Everything);
+    }
+    if is_shut(alloc, rules)? {
+        return Ok(Reach::Nothing);
+    }
+    Ok(Reach::Part)
+}
+
+/// What the crawler, which has these rules, may fetch. It is `Part` if its vendor applies another group.
+pub fn reach_of(
+    alloc: Global,
+    site: &Site,
+    agent: &str,
+    rules: &[SiteRule<'_>],
+) -> Result<Reach, AllocError>
+    requires { rules.now ≡ placed_rules agent.now (file_lines site.now) }
     ensures { IfOk result (λ reach. reach ≡ reach_of (file_lines site.now) agent.now) }
 {
     if other_group(site, agent).is_some() {
         return Ok(Reach::Part);
     }
-    if is_open(site, agent) {
-        return Ok(Reach::Everything);
-    }
-    if is_shut(alloc, site, agent)? {
-        return Ok(Reach::Nothing);
-    }
-    Ok(Reach::Part)
+    reach_by(alloc, rules)
 }
 
 fn has_star_or_dollar(text: &[u8]) -> bool
@@ -243,27 +250,14 @@ fn add_url(alloc: Global, patterns: &mut Patterns, url: &str) -> Result<(), Allo
     Ok(())
 }
 
-fn add_line(alloc: Global, patterns: &mut Patterns, line: Line<'_>) -> Result<(), AllocError>
-    ensures { OnOk result ((pattern : List ℕ) → contains_text patterns.new pattern
-        ≡ (contains_text patterns.old pattern
-        || list_any (is_literally pattern) (filter_map opened_path (sitemaps_in (by_value line.entry ∷ []))))) }
-{
-    let Line::Sitemap(value) = line else {
-        return Ok(());
-    };
-    match as_text(value) {
-        Some(url) => add_url(alloc, patterns, url),
-        None => Ok(()),
-    }
-}
-
 fn exempt_patterns(alloc: Global, site: &Site) -> Result<Patterns, AllocError>
     ensures { IfOk result (HasExempt (file_lines site.now)) }
 {
     let mut patterns = HashSet::new(alloc);
     add_path(alloc, &mut patterns, "/robots.txt")?;
-    for line in file_lines(site.text()) {
-        add_line(alloc, &mut patterns, line)?;
+    let urls = site.sitemaps(alloc)?;
+    for url in &urls {
+        add_url(alloc, &mut patterns, url)?;
     }
     Ok(patterns)
 }
@@ -279,7 +273,8 @@ fn closing_here(
     ensures { IfOk result (λ line. line
         ≡ closing_line (is_exempt (file_lines site.now)) (placed_rules agent.now (file_lines site.now))) }
 {
-    closing_line(alloc, exempt, site, agent)
+    let rules = own_rules(alloc, site, agent)?;
+    closing_line(alloc, exempt, &rules)
 }
 
 /// None if the crawler's vendor applies another group, or a line has its name and another one is meant.

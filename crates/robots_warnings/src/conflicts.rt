@@ -3,12 +3,13 @@ ghost use Rattle.std.specs.Prelude.{◌≡◌, ◌==◌, ℕ, Bool, IfOk, List, 
 ghost use Rattle.std.specs.Prelude.{map, string_bytes};
 ghost use Rattle.std.specs.HashMap.{get_by_text};
 ghost use Rattle.std.specs.{BTreeMap.get, BTreeSet.contains, Option.option_or, Ordering.nat_cmp, Str.bytes_eq};
-ghost use Rattle.texting_robots.specs.Callers.{PlacedRule, file_lines, placed_rules};
-ghost use Rattle.robots_warnings.specs.Conflicts.{allow_beside, compared, conflict_for, first_line, is_like, line_if};
-ghost use Rattle.robots_warnings.specs.Conflicts.{overruled_for, overruling};
+ghost use Rattle.texting_robots.specs.Callers.{PlacedRule, file_lines};
+ghost use Rattle.robots_warnings.specs.Conflicts.{allow_beside, compared, conflict_among, first_line, is_like, line_if};
+ghost use Rattle.robots_warnings.specs.Conflicts.{overruled_among, overruling};
 ghost use Rattle.robots_warnings.specs.Internal.Rules.{AreOf, HasFirst};
 
 use crate::numbers::Numbers;
+use crate::own_rules::own_rules;
 use std::alloc::{AllocError, Global};
 use std::collections::{BTreeMap, HashMap};
 use texting_robots::site::{Site, SiteRule};
@@ -56,19 +57,17 @@ fn add_allow(
     add_first(lines, compared_pattern(alloc, rule)?, rule.line)
 }
 
-/// For each pattern, the line of the crawler's first Allow with it, other than empty Disallows.
+/// For each pattern, the line of the first Allow with it, other than empty Disallows.
 fn first_allows(
     alloc: Global,
-    site: &Site,
-    agent: &str,
+    rules: &[SiteRule<'_>],
     empty: &Numbers,
 ) -> Result<Lines, AllocError>
-    ensures { IfOk result (λ lines. HasFirst (contains nat_cmp empty.now) lines
-        (placed_rules agent.now (file_lines site.now))) }
+    ensures { IfOk result (λ lines. HasFirst (contains nat_cmp empty.now) lines rules.now) }
 {
     let mut lines = HashMap::new(alloc);
-    for rule in site.rules(agent) {
-        add_allow(alloc, &mut lines, &rule, empty)?;
+    for rule in rules {
+        add_allow(alloc, &mut lines, rule, empty)?;
     }
     Ok(lines)
 }
@@ -113,48 +112,46 @@ fn is_of_all(rule: &SiteRule<'_>, is_allow: bool, empty: &Numbers) -> bool
         && !empty.contains(&rule.line)
 }
 
-fn first_of_all(site: &Site, agent: &str, is_allow: bool, empty: &Numbers) -> Option<usize>
-    ensures { result ≡ first_line (is_like (contains nat_cmp empty.now) is_allow (codes "/"))
-        (placed_rules agent.now (file_lines site.now)) }
+fn first_of_all(rules: &[SiteRule<'_>], is_allow: bool, empty: &Numbers) -> Option<usize>
+    ensures { result ≡ first_line (is_like (contains nat_cmp empty.now) is_allow (codes "/")) rules.now }
 {
-    for rule in site.rules(agent) {
-        if is_of_all(&rule, is_allow, empty) {
+    for rule in rules {
+        if is_of_all(rule, is_allow, empty) {
             return Some(rule.line);
         }
     }
     None
 }
 
-fn overruling(site: &Site, agent: &str, empty: &Numbers) -> Option<usize>
-    ensures { result ≡ overruling (contains nat_cmp empty.now) (placed_rules agent.now (file_lines site.now)) }
+fn overruling(rules: &[SiteRule<'_>], empty: &Numbers) -> Option<usize>
+    ensures { result ≡ overruling (contains nat_cmp empty.now) rules.now }
 {
-    match first_of_all(site, agent, true, empty) {
+    match first_of_all(rules, true, empty) {
         Some(_) => None,
-        None => first_of_all(site, agent, false, empty),
+        None => first_of_all(rules, false, empty),
     }
 }
 
 /// Inserts the lines of Disallows that contradict an Allow, and of empty Disallows that contradict a
-/// Disallow.
+/// Disallow, of these rules of one crawler.
 fn add_others(
     alloc: Global,
     conflicts: &mut Others,
     overruled: &mut Others,
-    site: &Site,
-    agent: &str,
+    rules: &[SiteRule<'_>],
     empty: &Numbers,
 ) -> Result<(), AllocError>
     ensures conflicts { OnOk result ((number : ℕ) → get nat_cmp conflicts.new number
         ≡ option_or (get nat_cmp conflicts.old number)
-        (conflict_for (contains nat_cmp empty.now) (file_lines site.now) number agent.now)) }
+        (conflict_among (contains nat_cmp empty.now) rules.now number)) }
     ensures overruled { OnOk result ((number : ℕ) → get nat_cmp overruled.new number
         ≡ option_or (get nat_cmp overruled.old number)
-        (overruled_for (contains nat_cmp empty.now) (file_lines site.now) number agent.now)) }
+        (overruled_among (contains nat_cmp empty.now) rules.now number)) }
 {
-    let allowed = first_allows(alloc, site, agent, empty)?;
-    let other = overruling(site, agent, empty);
-    for rule in site.rules(agent) {
-        let allow = allow_beside(alloc, &allowed, &rule)?;
+    let allowed = first_allows(alloc, rules, empty)?;
+    let other = overruling(rules, empty);
+    for rule in rules {
+        let allow = allow_beside(alloc, &allowed, rule)?;
         note(conflicts, rule.line, allow)?;
         if rule.is_allow && empty.contains(&rule.line) {
             note(overruled, rule.line, other)?;
@@ -183,7 +180,8 @@ pub(crate) fn rule_lines(
     let mut conflicts = BTreeMap::new(alloc);
     let mut overruled = BTreeMap::new(alloc);
     for agent in agents {
-        add_others(alloc, &mut conflicts, &mut overruled, site, agent, empty)?;
+        let rules = own_rules(alloc, site, agent)?;
+        add_others(alloc, &mut conflicts, &mut overruled, &rules, empty)?;
     }
     Ok(RuleLines {
         conflicts,

@@ -21,7 +21,7 @@ pub fn counted<'a>(file: &'a [u8]) -> &'a [u8]
 }
 
 /// The lines of a file with their membership in the crawler's group.
-pub fn labels_for<'a>(
+pub(crate) fn labels_for<'a>(
     alloc: Global,
     agent: &str,
     file: &'a [u8],

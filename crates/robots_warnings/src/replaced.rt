@@ -1,14 +1,14 @@
 //! Groups of crawlers that have none of the Disallow rules of `*`.
-ghost use Rattle.std.specs.Prelude.{◌≡◌, ◌||◌, ◌&&◌, Bool, IfOk, List, OnOk, bytes_eq, map, ℕ};
+ghost use Rattle.std.specs.Prelude.{◌≡◌, ◌||◌, ◌&&◌, Bool, IfOk, List, OnOk, bytes_eq, count_by, map, not, ℕ};
 ghost use Rattle.std.specs.{BTreeSet.contains, HashSet.contains_text, List.list_any};
 ghost use Rattle.std.specs.{Str.str_to_ascii_lowercase};
 ghost use Rattle.texting_robots.specs.Callers.{LineValue, by_value, file_lines, label_by_value};
 ghost use Rattle.texting_robots.specs.{Group.is_group};
 ghost use Rattle.robots_warnings.specs.Closed.{denies, is_lacking, is_partial, is_replacing, lacks_all};
-ghost use Rattle.robots_warnings.specs.Closed.{replacing, star_count, star_rules};
+ghost use Rattle.robots_warnings.specs.Closed.{replacing, star_rules};
 ghost use Rattle.robots_warnings.specs.{File.lines_of, Positions.begin_with_one};
 ghost use Rattle.robots_warnings.specs.Internal.Names.{Key, key_cmp};
-ghost use Rattle.robots_warnings.specs.Internal.Rules.{HasDenied, HasThose, is_kept_in};
+ghost use Rattle.robots_warnings.specs.Internal.Rules.{HasDenied, HasThose, is_kept_in, is_other_name};
 
 use crate::closed::is_whole_site;
 use crate::names::{Names, add_name};
@@ -22,28 +22,24 @@ use texting_robots::site::{Site, SiteRule};
 
 type Patterns = HashSet<String>;
 
-pub(crate) fn star_count(alloc: Global, site: &Site) -> Result<usize, AllocError>
-    ensures { IfOk result (λ count. count ≡ star_count (file_lines site.now)) }
+/// How many Disallows there are.
+pub(crate) fn disallow_count(rules: &[SiteRule<'_>]) -> usize
+    ensures { result ≡ count_by (λ placed. not placed.rule.1) rules.now }
 {
-    let mut numbers = Vec::new(alloc);
-    for rule in site.rules("*") {
-        if !rule.is_allow {
-            numbers.push(rule.line)?;
-        }
-    }
-    Ok(numbers.len())
+    rules.iter().filter(|rule| !rule.is_allow).count()
 }
 
 #[tactic(auto, using(crate::proofs::ClosedLemmas::whole_site_escaped))]
-fn has_partial(site: &Site) -> bool
-    ensures { result ≡ list_any is_partial (star_rules (file_lines site.now)) }
+fn is_partial(rule: &SiteRule<'_>) -> bool
+    ensures { result ≡ is_partial rule.now }
 {
-    for rule in site.rules("*") {
-        if !rule.is_allow && !is_whole_site(rule.value.as_bytes()) {
-            return true;
-        }
-    }
-    false
+    !rule.is_allow && !is_whole_site(rule.value.as_bytes())
+}
+
+fn has_partial(rules: &[SiteRule<'_>]) -> bool
+    ensures { result ≡ list_any is_partial rules.now }
+{
+    rules.iter().any(is_partial)
 }
 
 fn add_denied(alloc: Global, denied: &mut Patterns, rule: &SiteRule<'_>) -> Result<(), AllocError>
@@ -57,12 +53,12 @@ fn add_denied(alloc: Global, denied: &mut Patterns, rule: &SiteRule<'_>) -> Resu
     Ok(())
 }
 
-fn denied_patterns(alloc: Global, site: &Site) -> Result<Patterns, AllocError>
-    ensures { IfOk result (λ denied. HasDenied denied (star_rules (file_lines site.now))) }
+fn denied_patterns(alloc: Global, rules: &[SiteRule<'_>]) -> Result<Patterns, AllocError>
+    ensures { IfOk result (λ denied. HasDenied denied rules.now) }
 {
     let mut denied = HashSet::new(alloc);
-    for rule in site.rules("*") {
-        add_denied(alloc, &mut denied, &rule)?;
+    for rule in rules {
+        add_denied(alloc, &mut denied, rule)?;
     }
     Ok(denied)
 }
@@ -107,10 +103,17 @@ fn add_lacking(
     Ok(())
 }
 
-fn lacking(alloc: Global, site: &Site, agents: &[&str]) -> Result<Names, AllocError>
+/// `star` are the rules of `*`.
+fn lacking(
+    alloc: Global,
+    site: &Site,
+    star: &[SiteRule<'_>],
+    agents: &[&str],
+) -> Result<Names, AllocError>
+    requires { star.now ≡ star_rules (file_lines site.now) }
     ensures { IfOk result (λ names. HasThose names (is_lacking (map (λ agent. agent.now) agents.now) (file_lines site.now))) }
 {
-    let denied = denied_patterns(alloc, site)?;
+    let denied = denied_patterns(alloc, star)?;
     let mut names = BTreeSet::new(alloc);
     for agent in agents {
         add_lacking(alloc, &mut names, site, &denied, agent)?;
@@ -177,20 +180,42 @@ fn is_replacing(
     Ok(begin_with_one(alloc, names, from_here)? && !name_star(from_here))
 }
 
+fn is_other_name(labeled: &LabeledLine<'_>) -> bool
+    ensures { result ≡ is_other_name (by_value labeled.now.line) }
+{
+    match labeled.line {
+        Line::UserAgent(value) => value != b"*".as_slice(),
+        _ => false,
+    }
+}
+
+/// Whether a user-agent line has another name than `*`.
+fn has_other_name(labels: &[LabeledLine<'_>]) -> bool
+    ensures { result ≡ list_any (λ labeled. is_other_name (by_value labeled.line)) labels.now }
+{
+    labels.iter().any(is_other_name)
+}
+
+/// `star` are the rules of `*`.
 pub(crate) fn replacing(
     alloc: Global,
     site: &Site,
+    star: &[SiteRule<'_>],
     agents: &[&str],
     labels: &[LabeledLine<'_>],
 ) -> Result<Vec<usize>, AllocError>
+    requires { star.now ≡ star_rules (file_lines site.now) }
     ensures { IfOk result (λ found. found.items
         ≡ replacing (map (λ agent. agent.now) agents.now) (file_lines site.now) (map label_by_value labels.now)) }
 {
     let mut found = Vec::new(alloc);
-    if !has_partial(site) {
+    if !has_partial(star) {
         return Ok(found);
     }
-    let names = lacking(alloc, site, agents)?;
+    if !has_other_name(labels) {
+        return Ok(found);
+    }
+    let names = lacking(alloc, site, star, agents)?;
     let mut preceding = Preceding::Other;
     let mut rest = labels;
     while let [labeled, after @ ..] = rest {

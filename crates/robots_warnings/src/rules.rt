@@ -1,7 +1,8 @@
 //! Conditions on the value of an Allow or a Disallow line.
 ghost use Rattle.std.specs.Prelude.{◌≡◌, ◌<◌, ◌≤◌, ◌==◌, ◌&&◌, ◌||◌, ℕ, Bool, List, false, length, not, true};
 ghost use Rattle.std.specs.Char.{digit_value, is_ascii_hexdigit};
-ghost use Rattle.std.specs.{Fn.FnReturnsAt, List.position_or_len, Str.is_utf8};
+ghost use Rattle.std.specs.{Fn.FnReturnsAt, List.list_all, List.position_or_len, Str.is_utf8};
+ghost use Rattle.robots_warnings.specs.Internal.Plain.{is_plain, is_plain_byte};
 ghost use Rattle.robots_warnings.specs.Rules.{after_byte, before_byte, begins_delimiter, begins_dot_segment, begins_host, begins_quote};
 ghost use Rattle.robots_warnings.specs.Rules.{begins_lone_percent, begins_odd_escape, begins_oddly, begins_sign, begins_wildcard, from_first};
 ghost use Rattle.robots_warnings.specs.Rules.{has, has_any, has_dollar_inside, has_more_after_dollar};
@@ -152,6 +153,29 @@ pub(crate) fn is_url_in_path(value: &[u8]) -> bool
 {
     match value {
         [b'/', after @ ..] => begins_as_url(after) || begins_host(after),
+        _ => false,
+    }
+}
+
+fn is_plain_byte(byte: u8) -> bool
+    ensures { result ≡ is_plain_byte byte }
+{
+    byte.is_ascii_alphanumeric() || byte == b'/' || byte == b'-' || byte == b'_'
+}
+
+fn are_plain(text: &[u8]) -> bool
+    ensures { result ≡ list_all is_plain_byte text.now }
+{
+    text.iter().all(|byte| is_plain_byte(*byte))
+}
+
+/// The value is a slash, and then only letters, digits, slashes, `-` and `_`. So none of the warnings about
+/// values of rules is about it.
+pub(crate) fn is_plain(value: &[u8]) -> bool
+    ensures { result ≡ is_plain value.now }
+{
+    match value {
+        [b'/', rest @ ..] => are_plain(rest),
         _ => false,
     }
 }

@@ -1,9 +1,9 @@
 //! Values of a rule or a sitemap that seem to be several ones.
 ghost use Rattle.std.specs.Prelude.{◌≡◌};
-ghost use Rattle.robots_warnings.specs.SeveralValues.{begins_list, begins_next_value, begins_tag};
+ghost use Rattle.robots_warnings.specs.SeveralValues.{begins_list, begins_next_value, begins_tag, cause_of};
 ghost use Rattle.robots_warnings.specs.SeveralValues.{begins_unseen, begins_wide_space, has_several_values, several_values};
 
-use crate::rules::{from_first, somewhere};
+use crate::rules::from_first;
 use crate::table::Cause;
 
 fn begins_wide_space(text: &[u8]) -> bool
@@ -57,16 +57,10 @@ fn begins_next_value(text: &[u8]) -> bool
     }
 }
 
-pub(crate) fn has_several_values(value: &[u8]) -> bool
-    ensures { result ≡ has_several_values value.now }
+/// The rest of the value seems to begin the next one.
+fn cause_of(rest: &[u8]) -> Cause
+    ensures { result ≡ cause_of rest.now }
 {
-    somewhere(value, begins_next_value)
-}
-
-pub(crate) fn several_values(value: &[u8]) -> Cause
-    ensures { result ≡ several_values value.now }
-{
-    let rest = from_first(value, begins_next_value);
     if begins_list(rest) {
         Cause::CommaInValue
     } else if begins_tag(rest) {
@@ -76,4 +70,14 @@ pub(crate) fn several_values(value: &[u8]) -> Cause
     } else {
         Cause::SpaceInValue
     }
+}
+
+/// Whether the value seems to be several ones, and the warning for it.
+#[tactic(auto, using(crate::proofs::StepLemmas::somewhere_first))]
+pub(crate) fn several_values(value: &[u8]) -> (Cause, bool)
+    ensures cause { result.0 ≡ several_values value.now }
+    ensures seems { result.1 ≡ has_several_values value.now }
+{
+    let rest = from_first(value, begins_next_value);
+    (cause_of(rest), !rest.is_empty())
 }

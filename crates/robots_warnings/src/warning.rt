@@ -2,12 +2,13 @@
 ghost use Rattle.std.specs.Prelude.{◌≡◌, ◌++◌, OnOk, option_map, string_bytes};
 ghost use Rattle.printable_text.specs.{Raw.raw_line, Raw.raw_text, Text.part_text, Text.parts_text};
 ghost use Rattle.robots_warnings.specs.Message.{about_part, detail_end, detail_part, message_parts};
-ghost use Rattle.robots_warnings.specs.Message.{reason_part, reported_parts, warning_text};
+ghost use Rattle.robots_warnings.specs.Message.{reason_part, warning_text};
 
 use crate::crawlers::row_at;
 use crate::table::Cause;
 use printable_text::parts::{Part, Value, push_parts};
 use std::alloc::AllocError;
+use std::fmt;
 use std::marker::Model;
 
 /// What a message ends with.
@@ -139,23 +140,43 @@ pub fn push_warning_text(text: &mut String, warning: &Warning<'_>) -> Result<(),
     push_parts(text, &message_parts(warning))
 }
 
-fn reported_parts<'a>(warning: &Warning<'a>) -> [Part<'a>; 6]
-    ensures { raw_line result ≡ parts_text (reported_parts warning.now) }
-{
-    [
-        about_part(warning.cause, warning.about),
-        reason_part(warning.cause, warning.about),
-        detail_part(warning.detail),
-        detail_end(warning.detail),
-        Part(" [", Value::Word(warning.cause.name())),
-        Part("]", Value::Nothing),
-    ]
+impl fmt::Display for Detail {
+    fn fmt<W: fmt::Write>(&self, f: &mut fmt::Formatter<W>) -> fmt::Result {
+        match *self {
+            Detail::Rules(count) => write!(f, " ({count} in all)"),
+            Detail::Line(line) => write!(f, " (see line {line})"),
+            Detail::Group(number) => {
+                let group = row_at(number).1;
+                write!(f, " (see the group of {group})")
+            }
+            Detail::Meant(number) => {
+                let name = row_at(number).0;
+                write!(f, " (did you mean {name}?)")
+            }
+            Detail::Others(1) => f.write_str(" (and 1 other crawler)"),
+            Detail::Others(count) => write!(f, " (and {count} other crawlers)"),
+        }
+    }
 }
 
-/// Appends the message and the name of a warning.
-pub fn push_reported(text: &mut String, warning: &Warning<'_>) -> Result<(), AllocError>
-    ensures { OnOk result (string_bytes text.new ≡ string_bytes text.old
-        ++ parts_text (reported_parts warning.now)) }
-{
-    push_parts(text, &reported_parts(warning))
+/// Its message.
+impl<'a> fmt::Display for Warning<'a> {
+    fn fmt<W: fmt::Write>(&self, f: &mut fmt::Formatter<W>) -> fmt::Result {
+        if let Some(name) = self.about {
+            let kind = match self.cause {
+                Cause::ClosesSite
+                | Cause::ClosesEverything
+                | Cause::GooglebotGroup
+                | Cause::GoogleIgnoresStar
+                | Cause::MisspelledName => "crawler",
+                _ => "URL",
+            };
+            write!(f, "{kind} '{name}': ")?;
+        }
+        f.write_str(self.cause.text())?;
+        match self.detail {
+            Some(detail) => write!(f, "{detail}"),
+            None => Ok(()),
+        }
+    }
 }

@@ -18,33 +18,25 @@ use crate::conflicts::{RuleLines, rule_lines};
 use crate::contents::{has_odd_delay, has_odd_space, split_content};
 use crate::crawlers::{crawlers, warn_of_all_names, warn_of_vendors};
 use crate::empty_disallows::empty_disallows;
-use crate::facts::{FileFacts, suppresses_line_warnings};
+use crate::facts::suppresses_line_warnings;
 use crate::field_names::{is_without_colon, meant_by};
 use crate::file::is_blank;
 use crate::names_past_limit::names_past_limit;
+use crate::own_rules::own_rules;
 use crate::positions::{Preceding, first_delay, last_group, preceding_with, sole_name};
+use crate::read::FileRead;
 use crate::repeated::repeated;
-use crate::replaced::{replacing, star_count};
+use crate::replaced::{disallow_count, replacing};
+use crate::rules::{is_expression, is_plain};
 use crate::spellings::{Spelling, unpaired};
 use crate::table::Cause;
 use crate::warning::{Detail, Found, Warning};
 use std::alloc::{AllocError, Global};
 use texting_robots::labels::LabeledLine;
 use texting_robots::parser::Line;
-use texting_robots::site::Site;
 
 /// Microseconds per day.
 const DAY: u64 = 86_400_000_000;
-
-/// A file as it was read.
-#[derive(Clone, Copy)]
-pub struct FileRead<'f, 'b> {
-    pub bytes: &'f [u8],
-    pub facts: FileFacts,
-    /// The lines within the size limit.
-    pub labels: &'f [LabeledLine<'b>],
-    pub site: &'f Site,
-}
 
 fn warn<'a>(
     found: &mut Found<'a>,
@@ -106,22 +98,27 @@ fn warn_in_general<'a>(
     found: &mut Found<'a>,
     agents: &[&'a str],
     urls: &[&'a str],
-    read: &FileRead<'_, '_>,
+    read: &FileRead<'_>,
 ) -> Result<(), AllocError>
     ensures { OnOk result (Adds found.old.items found.new.items
         (general_warnings read.now.facts (map (λ agent. agent.now) agents.now) (map (λ url. url.now) urls.now)
-        (file_lines read.now.site.now) (map label_by_value read.now.labels.now))) }
+        (file_lines read.now.site) (map label_by_value read.now.labels.items))) }
 {
     warn(found, None, None, &file_checks(read.facts))?;
-    warn_of_closed(alloc, found, agents, read.site, read.labels)?;
+    warn_of_closed(alloc, found, agents, &read.site, &read.labels)?;
     warn_of_urls(alloc, found, urls)
 }
 
+#[tactic(auto, using(crate::proofs::PlainLemmas::plain_has_none))]
 fn warn_of_rule(found: &mut Found<'_>, line: Option<usize>, value: &[u8]) -> Result<(), AllocError>
     ensures { OnOk result (Adds found.old.items found.new.items (warned line None (rule_checks value.now))) }
 {
-    warn(found, line, None, &form_checks(value))?;
-    warn(found, line, None, &content_checks(value))
+    if is_plain(value) {
+        return Ok(());
+    }
+    let is_regex = is_expression(value);
+    warn(found, line, None, &form_checks(value, is_regex))?;
+    warn(found, line, None, &content_checks(value, is_regex))
 }
 
 /// Rules are only checked if `is_in_scope` is true.
@@ -236,15 +233,15 @@ fn warn_of_lines(
     alloc: Global,
     found: &mut Found<'_>,
     everywhere: bool,
-    read: &FileRead<'_, '_>,
+    read: &FileRead<'_>,
 ) -> Result<(), AllocError>
     ensures { OnOk result (Adds found.old.items found.new.items
-        (file_lines_warnings read.now.facts everywhere (map label_by_value read.now.labels.now))) }
+        (file_lines_warnings read.now.facts everywhere (map label_by_value read.now.labels.items))) }
 {
     if suppresses_line_warnings(read.facts) {
         return Ok(());
     }
-    let mut rest = read.labels;
+    let mut rest: &[LabeledLine<'_>] = &read.labels;
     while let [labeled, after @ ..] = rest {
         let is_cut = read.facts.has_cut_line && after.is_empty();
         warn_of_line(alloc, found, is_cut, everywhere, labeled)?;
@@ -275,15 +272,15 @@ fn warn_of_positions(found: &mut Found<'_>, labels: &[LabeledLine<'_>]) -> Resul
 fn warn_past_limit(
     alloc: Global,
     found: &mut Found<'_>,
-    read: &FileRead<'_, '_>,
+    read: &FileRead<'_>,
 ) -> Result<(), AllocError>
     ensures { OnOk result (Adds found.old.items found.new.items
-        (past_limit_warnings read.now.facts read.now.bytes.now (map label_by_value read.now.labels.now))) }
+        (past_limit_warnings read.now.facts read.now.bytes.now (map label_by_value read.now.labels.items))) }
 {
     if !read.facts.is_too_large || suppresses_line_warnings(read.facts) {
         return Ok(());
     }
-    let numbers = names_past_limit(alloc, read.bytes, read.labels)?;
+    let numbers = names_past_limit(alloc, read.bytes, &read.labels)?;
     warn_at(found, Cause::GroupPastSizeLimit, None, &numbers)
 }
 
@@ -334,15 +331,15 @@ fn warn_of_crawlers(
     alloc: Global,
     found: &mut Found<'_>,
     agents: &[&str],
-    read: &FileRead<'_, '_>,
+    read: &FileRead<'_>,
 ) -> Result<(), AllocError>
     ensures { OnOk result (Adds found.old.items found.new.items
-        (crawler_warnings (is_empty_at (map label_by_value read.now.labels.now))
-        (map (λ agent. agent.now) agents.now) (file_lines read.now.site.now) (map label_by_value read.now.labels.now))) }
+        (crawler_warnings (is_empty_at (map label_by_value read.now.labels.items))
+        (map (λ agent. agent.now) agents.now) (file_lines read.now.site) (map label_by_value read.now.labels.items))) }
 {
-    let empty = empty_disallows(alloc, read.labels)?;
-    let lines = rule_lines(alloc, read.site, agents, &empty)?;
-    warn_of_numbers(found, read.labels, &lines)
+    let empty = empty_disallows(alloc, &read.labels)?;
+    let lines = rule_lines(alloc, &read.site, agents, &empty)?;
+    warn_of_numbers(found, &read.labels, &lines)
 }
 
 fn warn_of_spelling(
@@ -365,19 +362,21 @@ fn warn_of_groups<'a>(
     found: &mut Found<'a>,
     everywhere: bool,
     agents: &[&'a str],
-    read: &FileRead<'_, '_>,
+    read: &FileRead<'_>,
 ) -> Result<(), AllocError>
     ensures { OnOk result (Adds found.old.items found.new.items (group_warnings everywhere
-        (map (λ agent. agent.now) agents.now) (file_lines read.now.site.now)
-        (map label_by_value read.now.labels.now))) }
+        (map (λ agent. agent.now) agents.now) (file_lines read.now.site)
+        (map label_by_value read.now.labels.items))) }
 {
-    let (labels, site) = (read.labels, read.site);
+    let site = &read.site;
+    let labels: &[LabeledLine<'_>] = &read.labels;
     let (escape, delimiter) = (Cause::NonstandardEscape, Cause::EscapedDelimiter);
     warn_of_spelling(alloc, found, escape, Spelling::Standard, everywhere, labels)?;
     warn_of_spelling(alloc, found, delimiter, Spelling::Plain, everywhere, labels)?;
     warn_of_crawlers(alloc, found, agents, read)?;
-    let replacing = replacing(alloc, site, agents, labels)?;
-    let detail = Some(Detail::Rules(star_count(alloc, site)?));
+    let star = own_rules(alloc, site, "*")?;
+    let replacing = replacing(alloc, site, &star, agents, labels)?;
+    let detail = Some(Detail::Rules(disallow_count(&star)));
     warn_at(found, Cause::ReplacesStar, detail, &replacing)?;
     let repeated = repeated(alloc, everywhere, labels)?;
     warn_at(found, Cause::RepeatedRule, None, &repeated)?;
@@ -392,16 +391,16 @@ pub fn warnings<'a>(
     everywhere: bool,
     agents: &[&'a str],
     urls: &[&'a str],
-    read: &FileRead<'_, '_>,
+    read: &FileRead<'_>,
 ) -> Result<Vec<Warning<'a>>, AllocError>
     ensures { IfOk result (λ found. found.items
         ≡ warnings everywhere (map (λ agent. agent.now) agents.now) (map (λ url. url.now) urls.now)
-        read.now.bytes.now read.now.facts (map label_by_value read.now.labels.now) (file_lines read.now.site.now)) }
+        read.now.bytes.now read.now.facts (map label_by_value read.now.labels.items) (file_lines read.now.site)) }
 {
     let mut found = Vec::new(alloc);
     warn_in_general(alloc, &mut found, agents, urls, read)?;
     warn_of_lines(alloc, &mut found, everywhere, read)?;
-    warn_of_positions(&mut found, read.labels)?;
+    warn_of_positions(&mut found, &read.labels)?;
     warn_past_limit(alloc, &mut found, read)?;
     warn_of_groups(alloc, &mut found, everywhere, agents, read)?;
     Ok(found)

@@ -6,7 +6,7 @@ use Rattle.std.proofs.Common.{◌∙◌, suc, zero, Bool, true, false, not, List
 use Rattle.std.proofs.Common.{Option, None, Some, filter, slice_get, take, ap, ap₂, arith}
 use Rattle.std.specs.List.{enumerate_from, fold, list_any, count_by}
 use Rattle.std.proofs.lemmas.Bool.{and_parts, cases_Bool, false≢true, cases_lt, not-true, or_cases, or_right}
-use Rattle.std.proofs.lemmas.List.{get_or-map, length-map, Elements.Contains-append_cases, Sums.length-filter}
+use Rattle.std.proofs.lemmas.List.{get_or-map, length-map, Elements.Contains-append_cases}
 use Rattle.std.proofs.lemmas.List.{Sorted.sum_by-IsPermutation}
 use Rattle.texting_robots.specs.Callers.{AreLabelsOf, Label, LineValue, UserAgent, delay_for}
 use Rattle.texting_robots.specs.Callers.{group_name, AreRulesFor, HoldsRule, PlacedRule, Rule, placed_rules}
@@ -394,4 +394,4 @@ replaces_star agents name lines labels number labeled has =
 
 pub star_disallows : (lines : List LineValue) (rules : List PlacedRule) → AreRulesFor (codes "*") lines rules
     → star_count lines ≡ count_by (λ (placed : PlacedRule). not placed.rule.1) rules
-star_disallows lines rules are = search (rules, one_list, computed_are, length-filter, sum_by-IsPermutation)
+star_disallows lines rules are = search (rules, one_list, computed_are, sum_by-IsPermutation)

@@ -1,12 +1,12 @@
 -- The comparison of two files as the code does it.
-use Rattle.std.specs.Prelude.{◌≡◌, ℕ, Bool, List, [], ◌∷◌, ◌++◌, if◌then◌else◌, map, not, take}
+use Rattle.std.specs.Prelude.{◌≡◌, ℕ, Bool, List, [], ◌∷◌, ◌++◌, if◌then◌else◌, map, not}
 use Rattle.std.specs.BTreeSet.{BTreeSet, contains, contains_text}
-use Rattle.texting_robots.specs.Callers.{PlacedRule, Rule, file_limit, label_by_value, lines_read}
-use Rattle.robots_warnings.specs.{File.lines_of, Internal.Names.Key, Internal.Names.key_cmp}
+use Rattle.texting_robots.specs.Callers.{PlacedRule, Rule}
+use Rattle.robots_warnings.specs.Internal.Names.{Key, key_cmp}
 use Rattle.audit_compare.specs.declared.compare.Comparison.{TheInside.Inside as InsideComparison}
 use Rattle.audit_compare.specs.{declared.compare.Side.TheInside.Inside as InsideSide}
 use Rattle.audit_compare.specs.declared.compared.Compared.{TheInside.Inside as InsideCompared}
-use Rattle.audit_compare.specs.declared.compared.{UrlChange.TheInside.Inside as InsideChange, Version.Version}
+use Rattle.audit_compare.specs.declared.compared.{UrlChange.TheInside.Inside as InsideChange}
 use Rattle.audit_compare.specs.declared.rule_sets.{RuleSet.RuleSet}
 use Rattle.audit_core.specs.{declared.findings.Finding.Finding, Findings.finding_value}
 use Rattle.audit_compare.specs.Compare.{ComparedValue, ComparisonValue, Difference, SideValue, UrlChangeValue}
@@ -31,10 +31,6 @@ pub record AddsText (old new : BTreeSet Key) (text : List ℕ) (is_new : Bool) :
 
 abbrev pub Adds : (old new : List Finding) → List Difference → Type 0
 Adds old new differences = map finding_value new ≡ map finding_value old ++ map finding_of differences
-
-pub record IsVersion (version : Version) : Type 0 where
-  pub site : version.site ≡ take file_limit version.bytes.now
-  pub lines : lines_of (map label_by_value version.labels.items) ≡ lines_read version.bytes.now
 
 abbrev pub change_of : InsideChange → UrlChangeValue
 change_of change = record { url = change.url.now; older = change.older; newer = change.newer }

@@ -9,7 +9,7 @@ use Rattle.audit_expect.specs.{declared.expectations.AgentReading.AgentReading}
 use Rattle.audit_expect.specs.Expect.{ExpectationValue, LineOf, is_in}
 use Rattle.std.specs.{List.AllByRecursion as Each}
 use Rattle.audit_expect.specs.Expectations.{CheckedValue, IsChecked, failures}
-use Rattle.texting_robots.specs.Callers.{IsBetter, IsDecidingRule, Matches, PlacedRule}
+use Rattle.texting_robots.specs.Callers.{IsBetter, IsDecidingRule, Label, Matches, PlacedRule}
 use Rattle.texting_robots.specs.{declared.decision.Decision.Decision, Internal.Line.line_of}
 use Rattle.robots_warnings.specs.Conflicts.{is_empty_disallow, stated_rules}
 
@@ -73,6 +73,13 @@ is_empty body = is_empty_disallow (line_of body) body
 -- for each number of a line, whether it is an empty Disallow; there is no line 0
 abbrev pub marks_of : List (List ℕ) → List Bool
 marks_of bodies = false ∷ map is_empty bodies
+
+-- the same by labels
+abbrev pub is_empty_label : Label → Bool
+is_empty_label label = is_empty_disallow label.line label.body
+
+abbrev pub marks_in : List Label → List Bool
+marks_in labels = false ∷ map is_empty_label labels
 
 abbrev pub is_marked : List Bool → ℕ → Bool
 is_marked marks number = slice_index_or marks number false

@@ -125,12 +125,3 @@ tr:target { background: var(--hit) }
 pub(crate) const POLICY: &str = "default-src 'none'; \
     style-src 'sha256-Tn+YEkj+8i/Lm5ww9lcCo1YWE6yKCtgpBKwQYoT6XOs='; \
     base-uri 'none'; form-action 'none'";
-
-// A longer text that is appended alone has a name, since the prover's search is limited in depth.
-pub(crate) const REJECTED: &str = "; rejected: ";
-
-pub(crate) const CRAWLERS: &str = "Crawlers";
-
-pub(crate) const SITEMAPS: &str = "Sitemaps";
-
-pub(crate) const VERDICTS: &str = "Verdicts";

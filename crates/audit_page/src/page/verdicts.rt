@@ -1,294 +1,187 @@
 //! The verdicts of a page, and what else applies to its crawlers.
-#![tactic(auto, using(crate::proofs::TreeLemmas::joined))]
+ghost use Rattle.std.specs.Prelude.{◌≡◌, true};
+ghost use Rattle.html_writer.specs.Page.{is_tag};
 
-ghost use Rattle.std.specs.Prelude.{◌≡◌, ◌++◌, OnOk, map, option_map, true};
-ghost use Rattle.audit_page.specs.Page.{agent_columns, agent_content, agent_entries, agent_row, agent_table};
-ghost use Rattle.audit_page.specs.Page.{cell_name, crawler_entries, deciding_line, group_note, group_place};
-ghost use Rattle.audit_page.specs.Page.{rejection, url_body, url_column, url_part, url_row, url_table};
-ghost use Rattle.audit_page.specs.Page.{verdict_cell, verdict_part};
-ghost use Rattle.audit_page.specs.Tree.{all, written};
-
-use crate::page::parts::{Page, push, push_start_with};
-use crate::page::pieces::{
-    agent_caption, cell_name, delay_entry, fact_cells, fetch_cell, fetch_entry, first_columns,
-    line_link, row_name, rule_entry, scroll_start, url_column, url_head,
-};
-use crate::page::style::{CRAWLERS, REJECTED};
+use crate::page::elements::Page;
 use audit_core::audit::{AgentAudit, Verdict};
-use audit_core::texts::push_group_text;
-use html_writer::write::{push_element, push_end, push_start, push_text};
-use std::alloc::AllocError;
+use audit_core::texts::{Applied, DelayOrNone, may_fetch};
+use std::fmt;
+use std::fmt::Write;
 
-fn push_deciding_line(page: &mut Page, line: Option<usize>) -> Result<(), AllocError>
-    ensures { OnOk result (page.new.out.items ≡ page.old.out.items ++ written (deciding_line line)) }
-{
+fn write_deciding_line(page: &mut Page, line: Option<usize>) -> fmt::Result {
     match line {
-        Some(number) => push(page, &line_link(number)),
-        None => push_text(&mut page.out, b"no line"),
+        Some(number) => page.line_link(number),
+        None => page.html.write_str("no line"),
     }
 }
 
-fn push_cell_name(page: &mut Page, has_url: bool, url: &str) -> Result<(), AllocError>
-    ensures { OnOk result (page.new.out.items ≡ page.old.out.items ++ written (cell_name has_url url.now)) }
-{
-    if has_url {
-        return push(page, &cell_name(url.as_bytes()));
-    }
-    Ok(())
-}
-
-#[tactic(auto, using(crate::proofs::TreeLemmas::joined), unfolding(crate::specs::Page::verdict_cell))]
-fn push_verdict_cell(
-    page: &mut Page,
-    has_url: bool,
-    verdict: &Verdict<'_>,
-) -> Result<(), AllocError>
-    ensures { OnOk result (page.new.out.items ≡ page.old.out.items
-        ++ written (verdict_cell has_url verdict.now)) }
-{
+fn write_verdict_cell(page: &mut Page, has_url: bool, verdict: &Verdict<'_>) -> fmt::Result {
     let name = if verdict.decision.allowed {
         "allowed"
     } else {
         "denied"
     };
-    push_start_with(page, "td", "class", name)?;
-    push_cell_name(page, has_url, verdict.url)?;
-    push_text(&mut page.out, name.as_bytes())?;
-    push_text(&mut page.out, b", ")?;
-    push_deciding_line(page, verdict.decision.line)?;
-    push_end(&mut page.out, "td")
+    page.html.open("td", &[("class", name)])?;
+    if has_url {
+        page.code(verdict.url.as_bytes())?;
+    }
+    write!(page.html, "{name}, ")?;
+    write_deciding_line(page, verdict.decision.line)?;
+    page.html.close()
 }
 
-fn push_verdict_cells(page: &mut Page, verdicts: &[Verdict<'_>]) -> Result<(), AllocError>
-    ensures { OnOk result (page.new.out.items ≡ page.old.out.items
-        ++ all (verdict_cell true) verdicts.now) }
-{
+fn write_url_row(page: &mut Page, verdict: &Verdict<'_>) -> fmt::Result {
+    page.html.open("tr", &[])?;
+    page.code_heading("row", verdict.url.as_bytes())?;
+    write_verdict_cell(page, false, verdict)?;
+    page.html.close()
+}
+
+fn write_url_table(page: &mut Page, verdicts: &[Verdict<'_>]) -> fmt::Result {
+    page.element("h2", "URLs")?;
+    page.html.open("table", &[("class", "urls")])?;
+    page.element("caption", "May the crawler fetch it?")?;
+    page.html.open("thead", &[])?;
+    page.html.open("tr", &[])?;
+    page.heading("col", "URL")?;
+    page.heading("col", "Verdict")?;
+    page.html.close()?;
+    page.html.close()?;
+    page.html.open("tbody", &[])?;
     for verdict in verdicts {
-        push_verdict_cell(page, true, verdict)?;
+        write_url_row(page, verdict)?;
+    }
+    page.html.close()?;
+    page.html.close()
+}
+
+fn write_group_note(page: &mut Page, audit: &AgentAudit<'_>) -> fmt::Result {
+    let (agent, group) = (audit.agent, audit.group);
+    let applied = Applied { agent, group };
+    write!(page.html, "{applied}")?;
+    if let Some(line) = audit.group_line {
+        page.html.write_str(", ")?;
+        page.line_link(line)?;
+    }
+    if let Some(line) = audit.rejected {
+        page.html.write_str("; rejected: ")?;
+        page.line_link(line)?;
     }
     Ok(())
 }
 
-#[tactic(auto, using(crate::proofs::TreeLemmas::joined), unfolding(crate::specs::Page::url_row))]
-fn push_url_rows(page: &mut Page, verdicts: &[Verdict<'_>]) -> Result<(), AllocError>
-    ensures { OnOk result (page.new.out.items ≡ page.old.out.items ++ all url_row verdicts.now) }
-{
-    for verdict in verdicts {
-        push_start(&mut page.out, "tr")?;
-        push(page, &row_name(verdict.url.as_bytes()))?;
-        push_verdict_cell(page, false, verdict)?;
-        push_end(&mut page.out, "tr")?;
+/// What a crawler may fetch, if that is everything or nothing; else its rules decide.
+fn fetch_word(agent: &AgentAudit<'_>) -> &'static str {
+    match may_fetch(agent.rejected, agent.reach) {
+        Some(word) => word,
+        None => "see rules",
     }
-    Ok(())
 }
 
-#[tactic(auto, using(crate::proofs::TreeLemmas::joined), unfolding(crate::specs::Page::url_body))]
-fn push_url_body(page: &mut Page, verdicts: &[Verdict<'_>]) -> Result<(), AllocError>
-    ensures { OnOk result (page.new.out.items ≡ page.old.out.items
-        ++ written (url_body verdicts.now)) }
+fn write_fetch(page: &mut Page, name: &'static str, agent: &AgentAudit<'_>) -> fmt::Result
+    requires { is_tag name.now ≡ true }
 {
-    push_start(&mut page.out, "tbody")?;
-    push_url_rows(page, verdicts)?;
-    push_end(&mut page.out, "tbody")
+    let word = fetch_word(agent);
+    page.html.open(name, &[("class", word)])?;
+    page.html.write_str(word)?;
+    page.html.close()
 }
 
-#[tactic(auto, using(crate::proofs::TreeLemmas::joined), unfolding(crate::specs::Page::url_table))]
-fn push_url_table(page: &mut Page, verdicts: &[Verdict<'_>]) -> Result<(), AllocError>
-    ensures { OnOk result (page.new.out.items ≡ page.old.out.items
-        ++ written (url_table verdicts.now)) }
+fn write_fact<D: fmt::Display + Drop>(page: &mut Page, name: &'static str, fact: D) -> fmt::Result
+    requires { is_tag name.now ≡ true }
 {
-    push_element(&mut page.out, "h2", b"URLs")?;
-    push_start_with(page, "table", "class", "urls")?;
-    push(page, &url_head())?;
-    push_url_body(page, verdicts)?;
-    push_end(&mut page.out, "table")
+    page.html.open(name, &[])?;
+    write!(page.html, "{fact}")?;
+    page.html.close()
 }
 
-fn push_url_part(page: &mut Page, agent: &AgentAudit<'_>) -> Result<(), AllocError>
-    ensures { OnOk result (page.new.out.items ≡ page.old.out.items ++ written (url_part agent.now)) }
-{
-    if agent.verdicts.is_empty() {
-        return Ok(());
+fn write_agent_entry(page: &mut Page, agent: &AgentAudit<'_>) -> fmt::Result {
+    page.element("dt", "Group")?;
+    page.html.open("dd", &[])?;
+    write_group_note(page, agent)?;
+    page.html.close()?;
+    page.element("dt", "Rules")?;
+    write_fact(page, "dd", agent.rules)?;
+    page.element("dt", "Crawl delay")?;
+    write_fact(page, "dd", DelayOrNone(agent.delay))?;
+    page.element("dt", "May fetch")?;
+    write_fetch(page, "dd", agent)
+}
+
+fn write_agent_row(page: &mut Page, agent: &AgentAudit<'_>) -> fmt::Result {
+    page.html.open("tr", &[])?;
+    page.code_heading("row", agent.agent.as_bytes())?;
+    page.html.open("td", &[])?;
+    write_group_note(page, agent)?;
+    page.html.close()?;
+    write_fact(page, "td", agent.rules)?;
+    write_fact(page, "td", DelayOrNone(agent.delay))?;
+    write_fetch(page, "td", agent)?;
+    for verdict in &agent.verdicts {
+        write_verdict_cell(page, true, verdict)?;
     }
-    push_url_table(page, &agent.verdicts)
+    page.html.close()
 }
 
-fn push_url_parts(page: &mut Page, agents: &[AgentAudit<'_>]) -> Result<(), AllocError>
-    ensures { OnOk result (page.new.out.items ≡ page.old.out.items ++ all url_part agents.now) }
-{
-    for agent in agents {
-        push_url_part(page, agent)?;
-    }
-    Ok(())
-}
-
-fn push_rejection(page: &mut Page, rejected: Option<usize>) -> Result<(), AllocError>
-    ensures { OnOk result (page.new.out.items ≡ page.old.out.items ++ written (rejection rejected)) }
-{
-    let Some(line) = rejected else {
-        return Ok(());
-    };
-    push_text(&mut page.out, REJECTED.as_bytes())?;
-    push(page, &line_link(line))
-}
-
-fn push_group_place(page: &mut Page, line: Option<usize>) -> Result<(), AllocError>
-    ensures { OnOk result (page.new.out.items ≡ page.old.out.items ++ written (group_place line)) }
-{
-    let Some(line) = line else {
-        return Ok(());
-    };
-    push_text(&mut page.out, b", ")?;
-    push(page, &line_link(line))
-}
-
-#[tactic(auto, using(crate::proofs::TreeLemmas::joined), unfolding(crate::specs::Page::group_note))]
-fn push_group_note(page: &mut Page, agent: &AgentAudit<'_>) -> Result<(), AllocError>
-    ensures { OnOk result (page.new.out.items ≡ page.old.out.items ++ written (group_note agent.now)) }
-{
-    page.text.clear();
-    push_group_text(&mut page.text, agent.agent, agent.group)?;
-    push_text(&mut page.out, page.text.as_bytes())?;
-    push_group_place(page, agent.group_line)?;
-    push_rejection(page, agent.rejected)
-}
-
-#[tactic(auto, using(crate::proofs::TreeLemmas::joined), unfolding(crate::specs::Page::agent_entries))]
-fn push_agent_entry(page: &mut Page, agent: &AgentAudit<'_>) -> Result<(), AllocError>
-    ensures { OnOk result (page.new.out.items ≡ page.old.out.items ++ written (agent_entries agent.now)) }
-{
-    push_element(&mut page.out, "dt", b"Group")?;
-    push_start(&mut page.out, "dd")?;
-    push_group_note(page, agent)?;
-    push_end(&mut page.out, "dd")?;
-    push(page, &rule_entry(agent.rules))?;
-    push(page, &delay_entry(agent.delay))?;
-    push(page, &fetch_entry(agent.rejected, agent.reach))
-}
-
-fn push_agent_entries(page: &mut Page, agents: &[AgentAudit<'_>]) -> Result<(), AllocError>
-    ensures { OnOk result (page.new.out.items ≡ page.old.out.items ++ all agent_entries agents.now) }
-{
-    for agent in agents {
-        push_agent_entry(page, agent)?;
-    }
-    Ok(())
-}
-
-#[tactic(auto, using(crate::proofs::TreeLemmas::joined), unfolding(crate::specs::Page::agent_row))]
-fn push_agent_row(page: &mut Page, agent: &AgentAudit<'_>) -> Result<(), AllocError>
-    ensures { OnOk result (page.new.out.items ≡ page.old.out.items ++ written (agent_row agent.now)) }
-{
-    push_start(&mut page.out, "tr")?;
-    push(page, &row_name(agent.agent.as_bytes()))?;
-    push_start(&mut page.out, "td")?;
-    push_group_note(page, agent)?;
-    push_end(&mut page.out, "td")?;
-    push(page, &fact_cells(agent.rules, agent.delay))?;
-    push(page, &fetch_cell(agent.rejected, agent.reach))?;
-    push_verdict_cells(page, &agent.verdicts)?;
-    push_end(&mut page.out, "tr")
-}
-
-fn push_agent_rows(page: &mut Page, agents: &[AgentAudit<'_>]) -> Result<(), AllocError>
-    ensures { OnOk result (page.new.out.items ≡ page.old.out.items
-        ++ all agent_row agents.now) }
-{
-    for agent in agents {
-        push_agent_row(page, agent)?;
-    }
-    Ok(())
-}
-
-fn push_url_column(page: &mut Page, url: &str) -> Result<(), AllocError>
-    ensures { OnOk result (page.new.out.items ≡ page.old.out.items ++ written (url_column url.now)) }
-{
-    push(page, &url_column(url.as_bytes()))
-}
-
-fn push_url_columns(page: &mut Page, urls: &[&str]) -> Result<(), AllocError>
-    ensures { OnOk result (page.new.out.items ≡ page.old.out.items
-        ++ all url_column (map (λ url. url.now) urls.now)) }
-{
+fn write_agent_columns(page: &mut Page, urls: &[&str]) -> fmt::Result {
+    page.html.open("thead", &[])?;
+    page.html.open("tr", &[])?;
+    page.heading("col", "Crawler")?;
+    page.heading("col", "Group")?;
+    page.heading("col", "Rules")?;
+    page.heading("col", "Crawl delay")?;
+    page.heading("col", "May fetch")?;
     for url in urls {
-        push_url_column(page, url)?;
+        page.code_heading("col", url.as_bytes())?;
+    }
+    page.html.close()?;
+    page.html.close()
+}
+
+/// It can be scrolled, also with keys.
+fn write_agent_table(page: &mut Page, urls: &[&str], agents: &[AgentAudit<'_>]) -> fmt::Result {
+    page.html
+        .open("div", &[("class", "scroll"), ("tabindex", "0")])?;
+    page.html.open("table", &[("class", "agents")])?;
+    page.element("caption", "What each crawler may fetch")?;
+    write_agent_columns(page, urls)?;
+    page.html.open("tbody", &[])?;
+    for agent in agents {
+        write_agent_row(page, agent)?;
+    }
+    page.html.close()?;
+    page.html.close()?;
+    page.html.close()
+}
+
+pub(crate) fn write_crawler_entries(
+    page: &mut Page,
+    agent: Option<&str>,
+    agents: &[AgentAudit<'_>],
+) -> fmt::Result {
+    if agent.is_none() {
+        return Ok(());
+    }
+    for agent in agents {
+        write_agent_entry(page, agent)?;
     }
     Ok(())
 }
 
-#[tactic(auto, using(crate::proofs::TreeLemmas::joined), unfolding(crate::specs::Page::agent_columns))]
-fn push_agent_columns(page: &mut Page, urls: &[&str]) -> Result<(), AllocError>
-    ensures { OnOk result (page.new.out.items ≡ page.old.out.items
-        ++ written (agent_columns (map (λ url. url.now) urls.now))) }
-{
-    push_start(&mut page.out, "thead")?;
-    push_start(&mut page.out, "tr")?;
-    push(page, &first_columns())?;
-    push_url_columns(page, urls)?;
-    push_end(&mut page.out, "tr")?;
-    push_end(&mut page.out, "thead")
-}
-
-#[tactic(auto, using(crate::proofs::TreeLemmas::joined), unfolding(crate::specs::Page::agent_content))]
-fn push_agent_content(
-    page: &mut Page,
-    urls: &[&str],
-    agents: &[AgentAudit<'_>],
-) -> Result<(), AllocError>
-    ensures { OnOk result (page.new.out.items ≡ page.old.out.items
-        ++ written (agent_content (map (λ url. url.now) urls.now) agents.now)) }
-{
-    push(page, &agent_caption())?;
-    push_agent_columns(page, urls)?;
-    push_start(&mut page.out, "tbody")?;
-    push_agent_rows(page, agents)?;
-    push_end(&mut page.out, "tbody")
-}
-
-#[tactic(auto, using(crate::proofs::TreeLemmas::joined), unfolding(crate::specs::Page::agent_table))]
-fn push_agent_table(
-    page: &mut Page,
-    urls: &[&str],
-    agents: &[AgentAudit<'_>],
-) -> Result<(), AllocError>
-    ensures { OnOk result (page.new.out.items ≡ page.old.out.items
-        ++ written (agent_table (map (λ url. url.now) urls.now) agents.now)) }
-{
-    push(page, &scroll_start())?;
-    push_start_with(page, "table", "class", "agents")?;
-    push_agent_content(page, urls, agents)?;
-    push_end(&mut page.out, "table")?;
-    push_end(&mut page.out, "div")
-}
-
-pub(crate) fn push_crawler_entries(
-    page: &mut Page,
-    agent: Option<&str>,
-    agents: &[AgentAudit<'_>],
-) -> Result<(), AllocError>
-    ensures { OnOk result (page.new.out.items ≡ page.old.out.items
-        ++ written (crawler_entries (option_map (λ agent. agent.now) agent.entry)
-        agents.now)) }
-{
-    match agent {
-        Some(_) => push_agent_entries(page, agents),
-        None => Ok(()),
-    }
-}
-
-pub(crate) fn push_verdict_part(
+pub(crate) fn write_verdict_part(
     page: &mut Page,
     agent: Option<&str>,
     urls: &[&str],
     agents: &[AgentAudit<'_>],
-) -> Result<(), AllocError>
-    ensures { OnOk result (page.new.out.items ≡ page.old.out.items
-        ++ written (verdict_part (option_map (λ agent. agent.now) agent.entry) (map (λ url. url.now) urls.now)
-        agents.now)) }
-{
-    if agent.is_some() {
-        return push_url_parts(page, agents);
+) -> fmt::Result {
+    if agent.is_none() {
+        page.element("h2", "Crawlers")?;
+        return write_agent_table(page, urls, agents);
     }
-    push_element(&mut page.out, "h2", CRAWLERS.as_bytes())?;
-    push_agent_table(page, urls, agents)
+    for agent in agents {
+        if !agent.verdicts.is_empty() {
+            write_url_table(page, &agent.verdicts)?;
+        }
+    }
+    Ok(())
 }

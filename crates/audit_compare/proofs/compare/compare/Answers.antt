@@ -14,9 +14,9 @@ returns-clause-ok c =
       newer_is = c.side_of-2.ensures;
       all = rw (same_names _ _ c.deref.ensures.value ∙ c.in_ok-names.ensures) at c.in_ok-crawlers.ensures.ok;
       removed_are =
-          rw (c.deref-2.ensures.value, c.deref-3.ensures.value, old.parts.lines, new.parts.lines)
+          rw (c.deref-2.ensures.value, c.deref-3.ensures.value, old.read.lines_are, new.read.lines_are)
           at c.in_ok-removed.ensures;
       added_are =
-          rw (c.deref-4.ensures.value, c.deref-5.ensures.value, old.parts.lines, new.parts.lines)
+          rw (c.deref-4.ensures.value, c.deref-5.ensures.value, old.read.lines_are, new.read.lines_are)
           at c.in_ok-added.ensures;
     })

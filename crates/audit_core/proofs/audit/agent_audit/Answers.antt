@@ -1,22 +1,29 @@
-use Rattle.std.proofs.Common.{ap, length, refl, sym, ◌∙◌}
-use Rattle.texting_robots.specs.Callers.{file_lines, placed_rules}
+use Rattle.std.proofs.Common.{ap, length, map, refl, sym, ◌∙◌}
+use Rattle.texting_robots.specs.Callers.{file_lines, label_by_value, placed_rules}
 use Rattle.audit_core.specs.Audit.{group_of, naming_line}
-use Rattle.robots_warnings.specs.Closed.{reach_of}
+use Rattle.robots_warnings.specs.{Closed.reach_of, File.lines_of}
 use Rattle.audit_core.proofs.AuditLemmas.{delay_read}
 use Rattle.audit_core.proofs.audit.agent_audit.Goals as goal
 
+pub reach_of-requires : goal.reach_of-requires
+reach_of-requires c = c.deref.ensures.value ∙ c.in_ok-rules.ensures
+
 pub naming_line-requires : goal.naming_line-requires
-naming_line-requires c = c.requires.lines ∙ sym (ap file_lines c.requires.site)
+naming_line-requires c =
+    ap (λ labels. lines_of (map label_by_value labels)) c.deref-2.ensures.value ∙ c.requires.read.lines_are
+    ∙ sym (ap file_lines c.requires.read.site_is)
 
 pub returns-clause-ok : goal.returns-clause-ok
 returns-clause-ok c =
-    let agent = c.args.agent.now in record {
+    let agent = c.args.agent.now in
+    let file = c.args.read.now.bytes.now in
+    let site = c.requires.read.site_is in record {
       agent_is = refl;
-      group_is = c.group_of.ensures ∙ ap (λ text. group_of agent (file_lines text)) c.requires.site;
-      line_is = c.naming_line.ensures ∙ ap (λ text. naming_line agent (file_lines text)) c.requires.site;
-      rules_are = c.in_ok-rules.ensures
-          ∙ ap (λ text. length (placed_rules agent (file_lines text))) c.requires.site;
-      reach_is = c.in_ok-reach.ensures ∙ ap (λ text. reach_of (file_lines text) agent) c.requires.site;
-      delay_is = delay_read agent c.args.file.now _ (rw c.requires.site at c.delay.ensures);
-      ruling = c.in_ok-rejected.ensures.ok;
+      group_is = c.group_of.ensures ∙ ap (λ text. group_of agent (file_lines text)) site;
+      line_is = c.naming_line.ensures ∙ ap (λ text. naming_line agent (file_lines text)) site;
+      rules_are = c.len.ensures ∙ ap length c.in_ok-rules.ensures
+          ∙ ap (λ text. length (placed_rules agent (file_lines text))) site;
+      reach_is = c.in_ok-reach.ensures ∙ ap (λ text. reach_of (file_lines text) agent) site;
+      delay_is = delay_read agent file _ (rw site at c.delay.ensures);
+      ruling = c.in_ok-rejected.ensures.ok agent file c.requires.reading;
     }

@@ -7,7 +7,7 @@ use Rattle.audit_core.proofs.audit.agent_audits.Goals as goal
 pub loop-agent-preserved : goal.loop-agent-preserved
 loop-agent-preserved c =
     rw c.in_ok-push.ensures.items
-    (zip_next (IsAgentAudit (map (λ url. url.now) c.args.urls.now) (lines_read c.args.file.now))
+    (zip_next (IsAgentAudit (map (λ url. url.now) c.args.urls.now) (lines_read c.args.read.now.bytes.now))
     (λ agent. agent.now) c.args.agents.now c.loop-agent.agent-index _ c.loop-agent.audits.items _
     c.loop-agent-test.true c.loop-agent.invariant
-    c.in_ok-agent_audit.ensures.ok)
+    c.in_ok-audit_beside.ensures.ok)

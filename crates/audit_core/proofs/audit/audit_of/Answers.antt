@@ -1,45 +1,35 @@
-use Rattle.std.proofs.Common.{ap, map, ◌∙◌}
-use Rattle.texting_robots.specs.Callers.{label_by_value, lines_read}
-use Rattle.audit_core.specs.Request.{requested_by}
-use Rattle.audit_core.proofs.AuditLemmas.{lines_labeled, names_requested}
-use Rattle.robots_warnings.specs.File.{lines_of}
+use Rattle.std.proofs.Common.{ap, ◌∙◌}
+use Rattle.robots_warnings.specs.declared.facts.{FileFacts.FileFacts}
 use Rattle.audit_core.proofs.audit.audit_of.Goals as goal
-
-pub agent_audits-requires-clause-lines : goal.agent_audits-requires-clause-lines
-agent_audits-requires-clause-lines c =
-    ap (λ labels. lines_of (map label_by_value labels)) c.deref-5.ensures.value
-    ∙ ap lines_of c.in_ok-labels.ensures
-    ∙ lines_labeled c.labeling_agent.result.now c.args.file.now
 
 pub returns-clause-ok : goal.returns-clause-ok
 returns-clause-ok c =
-    let names = names_requested (requested_by c.args.request.now).agents c.labeling_agent.result.now
-    c.args.file.now c.in_ok-labels.labels.items c.deref-3.result.now
-    (map (λ name. name.now) c.in_ok-names.names.items) (rw c.deref-2.ensures.value at c.in_ok-names.ensures)
-    c.deref-3.ensures.value
-    c.in_ok-labels.ensures in
+    let read = c.in_ok-read.ensures.read in
+    let bytes = c.in_ok-read.ensures.bytes in
+    let labels = rw c.labeling_agent.ensures at c.in_ok-read.ensures.labels in
+    let names = rw (c.deref.ensures.value, c.deref-2.ensures.value, read.lines_are, bytes)
+    at c.in_ok-names.ensures in
     let (sitemaps, are, found) = c.in_ok-warnings.ensures.ok in
     let all = rw (
-      c.deref-7.ensures.value,
+      c.deref-5.ensures.value,
       names,
-      c.deref-8.ensures.value,
-      c.deref-9.ensures.value,
-      c.facts_of-facts.ensures,
-      c.deref.ensures.value,
-      c.in_ok-labels.ensures,
-      c.labeling_agent.ensures,
-      c.in_ok-site.ensures,
+      c.deref-6.ensures.value,
+      read.facts_are,
+      labels,
+      read.site_is,
+      bytes,
     ) at found in
     record {
       needless = c.in_ok-needless.needless.items;
-      needless_are = rw c.in_ok-site.ensures at c.in_ok-needless.ensures.found;
+      needless_are = rw (read.site_is, bytes) at c.in_ok-needless.ensures.found;
       unrequested = c.in_ok-needless.ensures.unrequested;
       too_large = λ large. c.in_ok-needless.ensures.too_large
-          (ap (λ facts. facts.is_too_large) c.facts_of-facts.ensures ∙ large);
+          (ap (λ (facts : FileFacts). facts.is_too_large) read.facts_are ∙ (rw (← bytes) at large));
       sitemaps = sitemaps;
-      sitemaps_are = rw (c.deref-8.ensures.value, c.in_ok-labels.ensures, c.labeling_agent.ensures) at are;
-      labels_are = rw c.labeling_agent.ensures at c.in_ok-labels.ensures;
-      agents_are = rw (c.deref-4.ensures.value, names, c.deref-6.ensures.value) at c.in_ok-agents.ensures.ok;
-      warnings_are = rw (c.deref-10.ensures.value, c.deref-11.ensures.value, all) at c.choose.ensures;
+      sitemaps_are = rw (bytes, labels) at are;
+      labels_are = labels;
+      agents_are = rw (c.deref-3.ensures.value, names, c.deref-4.ensures.value, bytes)
+          at c.in_ok-agents.ensures.ok;
+      warnings_are = rw (c.deref-7.ensures.value, c.deref-8.ensures.value, all) at c.choose.ensures;
       syntax_is = c.in_ok-syntax.ensures;
     }

@@ -1,29 +1,38 @@
-use Rattle.std.proofs.Common.{flat_map, map, refl, zip}
+use Rattle.std.proofs.Common.{◌≡◌, codes, false, is_some, map, rules, true}
 use Rattle.texting_robots.specs.Callers.{label_by_value, lines_read}
-use Rattle.audit_core.specs.Audit.{sitemap_warning, sitemaps_asked}
+use Rattle.robots_warnings.specs.Closed.{line_closing}
+use Rattle.audit_core.proofs.AuditLemmas.{all_asked, none_added, none_denied, without_sitemaps}
 use Rattle.audit_core.proofs.sitemaps.warn_of_sitemaps.Goals as goal
+
+pub returns-in_default-clause-ok : goal.returns-in_default-clause-ok
+returns-in_default-clause-ok c =
+    let read = c.args.read.now in
+    none_denied (lines_read read.bytes.now) (map label_by_value read.labels.items) _ c.args.found.now.items
+    (rw c.in_default.is at c.requires.star)
+
+pub returns-then-not-has_sitemap-clause-ok : goal.returns-then-not-has_sitemap-clause-ok
+returns-then-not-has_sitemap-clause-ok c =
+    let read = c.args.read.now in
+    let none = without_sitemaps (lines_read read.bytes.now) read.labels.items
+    (rw c.deref.ensures.value at (search rules)) in
+    let star = rw c.in-Accepted.is at c.requires.star in
+    all_asked read.bytes.now (map label_by_value read.labels.items) c.in-Accepted.robot.now _ _ star
+    (rw none (none_added c.in-Accepted.robot.now.rules c.args.found.now.items))
+
+pub returns-then-is_closed-clause-ok : goal.returns-then-is_closed-clause-ok
+returns-then-is_closed-clause-ok c =
+    let read = c.args.read.now in
+    let closed : is_some (line_closing (lines_read read.bytes.now) (codes "*")) ≡ true =
+    rw c.requires.read.site_is at (search rules) in
+    let star = rw c.in-Accepted.is at c.requires.star in
+    all_asked read.bytes.now (map label_by_value read.labels.items) c.in-Accepted.robot.now _ _ star
+    (rw closed (none_added c.in-Accepted.robot.now.rules c.args.found.now.items))
 
 pub returns-clause-ok : goal.returns-clause-ok
 returns-clause-ok c =
-    let asked = sitemaps_asked (lines_read c.args.file.now) (map label_by_value c.args.labels.now) in
-    let verdicts = c.in_ok-verdicts.verdicts.items in (
-      flat_map sitemap_warning (zip (map (λ sitemap. sitemap.0) asked) verdicts),
-      record {
-        overlong = c.in_ok-verdicts.field-0-0;
-        verdicts = verdicts;
-        ruling = rw (
-          c.deref.ensures.value,
-          c.in_ok-ask_about_all.ensures.urls,
-          c.new-urls.ensures.items,
-          c.requires,
-        ) at c.in_ok-verdicts.ensures.ok;
-        found_are = refl;
-      },
-      rw (
-        c.deref-2.ensures.value,
-        c.deref-3.ensures.value,
-        c.in_ok-ask_about_all.ensures.numbers,
-        c.new-numbers.ensures.items,
-        c.requires,
-      ) at c.in_ok-warn_of_verdicts.ensures,
-    )
+    let read = c.args.read.now in
+    let open : is_some (line_closing (lines_read read.bytes.now) (codes "*")) ≡ false =
+    rw c.requires.read.site_is at (search rules) in
+    let star = rw c.in-Accepted.is at c.requires.star in
+    all_asked read.bytes.now (map label_by_value read.labels.items) c.in-Accepted.robot.now _ _ star
+    (rw (open, ← c.deref-2.ensures.value) c.warn_of_each.ensures.ok)

@@ -6,33 +6,30 @@ use Rattle.audit_expect.proofs.checks.decided_on.Goals as goal
 
 pub returns-in_default-clause-ok : goal.returns-in_default-clause-ok
 returns-in_default-clause-ok c = (
-  (read_robot _ c.args.file.now _ c.requires.robot.2).accepted,
+  (read_robot _ c.args.read.now.bytes.now _ c.requires.robot.2).accepted,
   rw c.in_default.is at c.in_ok-form.ensures.ok,
 )
 
 pub other_decision-requires-clause-accepted : goal.other_decision-requires-clause-accepted
 other_decision-requires-clause-accepted c =
-    rw c.requires.site
-    (robot_found _ c.args.file.now _ _ _ c.requires.robot c.in_ok-decision.ensures.ok).0
+    (robot_found _ c.args.read.now.bytes.now _ _ _ c.requires.robot c.in_ok-decision.ensures.ok).0
 
 pub other_decision-requires-clause-decided : goal.other_decision-requires-clause-decided
 other_decision-requires-clause-decided c =
-    rw c.requires.site
-    (robot_found _ c.args.file.now _ _ _ c.requires.robot c.in_ok-decision.ensures.ok).1
+    (robot_found _ c.args.read.now.bytes.now _ _ _ c.requires.robot c.in_ok-decision.ensures.ok).1
 
 pub normal_decision-requires-clause-accepted : goal.normal_decision-requires-clause-accepted
 normal_decision-requires-clause-accepted c =
-    rw c.requires.site
-    (robot_found _ c.args.file.now _ _ _ c.requires.robot c.in_ok-decision.ensures.ok).0
+    (robot_found _ c.args.read.now.bytes.now _ _ _ c.requires.robot c.in_ok-decision.ensures.ok).0
 
 pub returns-clause-ok : goal.returns-clause-ok
 returns-clause-ok c =
-    let found = robot_found _ c.args.file.now _ _ _ c.requires.robot c.in_ok-decision.ensures.ok in
+    let found = robot_found _ c.args.read.now.bytes.now _ _ _ c.requires.robot c.in_ok-decision.ensures.ok in
     let form : string_bytes c.in-Some.target ≡ normal_target (written_target c.args.url.now) =
     (rw c.in-Some.is at c.in_ok-form.ensures.ok).0 in (
       found.0,
       found.1,
-      rw c.requires.site at c.in_ok-other.ensures.ok,
-      rw (c.requires.site, c.deref.ensures, form) at c.in_ok-normal.ensures.ok,
+      c.in_ok-other.ensures.ok,
+      rw (c.deref.ensures, form) at c.in_ok-normal.ensures.ok,
       (rw c.in-Some.is at c.in_ok-form.ensures.ok).1,
     )

@@ -9,9 +9,9 @@ loop-expectation-preserved c =
     let latest = c.in_ok-latest.ensures.ok in
     let checked = c.in_ok-checked.ensures in
     record {
-      latest = subst (λ agent. IsReading agent c.args.file.now c.in_ok-latest.latest.reading)
+      latest = subst (λ agent. IsReading agent c.args.read.now.bytes.now c.in_ok-latest.latest.reading)
           (sym latest.agent_is) latest.reading;
-      failures = failures_next c.args.file.now _ _ c.args.expectations.now
+      failures = failures_next c.args.read.now.bytes.now _ _ c.args.expectations.now
           c.loop-expectation.expectation-index _ (checked_value c.in_ok-checked.checked)
           c.loop-expectation-test.true c.loop-expectation.invariant.failures
           (ap expectation_value checked.expectation) checked.checked c.in_ok-add_if_failing.ensures.ok;

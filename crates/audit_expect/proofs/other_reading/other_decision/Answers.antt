@@ -1,30 +1,33 @@
-use Rattle.std.proofs.Common.{◌≡◌, false, rules}
+use Rattle.std.proofs.Common.{◌≡◌, false, map, rules}
 use Rattle.std.specs.Option.{option_map_or}
-use Rattle.texting_robots.specs.Callers.{file_bodies, file_lines, placed_rules}
-use Rattle.audit_expect.specs.Internal.Expectations.{is_marked}
-use Rattle.audit_expect.proofs.OtherReadingLemmas.{decided_otherwise, others_accepted, unchanged}
+use Rattle.texting_robots.specs.Callers.{bodies_read, label_by_value, lines_read, placed_rules}
+use Rattle.audit_expect.specs.Internal.Expectations.{is_marked, marks_in}
+use Rattle.audit_expect.proofs.OtherReadingLemmas.{decided_otherwise, marks_read, others_accepted, unchanged}
 use Rattle.audit_expect.proofs.other_reading.other_decision.Goals as goal
 
 pub returns-then-not-is_by_marked-clause-ok : goal.returns-then-not-is_by_marked-clause-ok
 returns-then-not-is_by_marked-clause-ok c =
-    let other : option_map_or (is_marked c.args.marks.now) c.args.decision.now.line false ≡ false =
-    search rules in
-    unchanged (file_bodies c.args.site.now) (placed_rules c.args.agent.now (file_lines c.args.site.now)) _
-    c.args.decision.now c.requires.decided (rw c.requires.marks at other)
+    let file = c.args.read.now.bytes.now in
+    let other : option_map_or (is_marked (marks_in (map label_by_value c.deref.result.now)))
+    c.args.decision.now.line false ≡ false = search rules in
+    unchanged (bodies_read file) (placed_rules c.args.agent.now (lines_read file)) _
+    c.args.decision.now c.requires.decided
+    (rw (c.deref.ensures.value, marks_read c.args.read.now c.requires.read) at other)
 
 pub decision_of-requires : goal.decision_of-requires
 decision_of-requires c =
-    rw (c.deref.ensures.value, c.in_ok-rules.ensures)
-    (others_accepted (file_bodies c.args.site.now) c.args.agent.now (file_lines c.args.site.now)
-    c.requires.accepted)
+    let file = c.args.read.now.bytes.now in
+    rw (c.deref-2.ensures.value, c.in_ok-rules.ensures)
+    (others_accepted (bodies_read file) c.args.agent.now (lines_read file) c.requires.accepted)
 
 pub returns-clause-ok : goal.returns-clause-ok
 returns-clause-ok c =
-    decided_otherwise (file_bodies c.args.site.now)
-    (placed_rules c.args.agent.now (file_lines c.args.site.now)) _ c.in_ok-other.other
+    let file = c.args.read.now.bytes.now in
+    decided_otherwise (bodies_read file)
+    (placed_rules c.args.agent.now (lines_read file)) _ c.in_ok-other.other
     (rw (
-      c.deref.ensures.value,
+      c.deref-2.ensures.value,
       c.in_ok-rules.ensures,
-      c.deref-2.ensures,
+      c.deref-3.ensures,
       c.in_ok-target.ensures.ok,
     ) at c.in_ok-other.ensures.ok)

@@ -1,6 +1,6 @@
 use Rattle.std.proofs.Common.{List, ap, ◌∙◌}
 use Rattle.audit_core.specs.{Audit.VerdictValue, Audit.with_denied, Internal.Views.agent_of}
-use Rattle.audit_text.proofs.{ReportLemmas.denied_next}
+use Rattle.audit_text.proofs.{ListedLemmas.denied_next}
 use Rattle.audit_text.proofs.denied.keep_all_denied.Goals as goal
 
 pub loop-agent-preserved : goal.loop-agent-preserved

@@ -1,6 +1,6 @@
 use Rattle.std.proofs.Common.{slice_index_or}
 use Rattle.audit_text.specs.Joined.{is_first}
-use Rattle.audit_text.proofs.ReportLemmas.{first_is, met_next, placed_next}
+use Rattle.audit_text.proofs.ListedLemmas.{first_is, met_next, placed_next}
 use Rattle.audit_text.proofs.joined.joined.Goals as goal
 
 pub loop-warning-preserved : goal.loop-warning-preserved

@@ -1,4 +1,4 @@
-use Rattle.audit_text.proofs.ReportLemmas.{lines_next}
+use Rattle.audit_text.proofs.ListedLemmas.{lines_next}
 use Rattle.audit_text.proofs.joined.shared_lines.Goals as goal
 
 pub loop-other-preserved : goal.loop-other-preserved

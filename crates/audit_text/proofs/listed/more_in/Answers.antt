@@ -1,6 +1,6 @@
 use Rattle.std.proofs.Common.{ap, ◌∙◌}
 use Rattle.robots_warnings.specs.Message.{WarningValue}
-use Rattle.audit_text.proofs.ReportLemmas.{more_next}
+use Rattle.audit_text.proofs.ListedLemmas.{more_next}
 use Rattle.audit_text.proofs.listed.more_in.Goals as goal
 
 pub loop-warning-preserved : goal.loop-warning-preserved

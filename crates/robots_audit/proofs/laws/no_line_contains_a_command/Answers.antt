@@ -1,6 +1,5 @@
 use Rattle.audit_expect.proofs.ExpectationsLemmas.{results_quiet}
-use Rattle.audit_text.proofs.ReportLemmas.{listed_quiet}
 use Rattle.robots_audit.proofs.laws.no_line_contains_a_command.Goals as goal
 
 pub returns : goal.returns
-returns c = record { expected = results_quiet; warnings = listed_quiet }
+returns c = results_quiet

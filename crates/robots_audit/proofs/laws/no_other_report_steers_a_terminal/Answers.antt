@@ -1,12 +1,9 @@
-use Rattle.std.proofs.Common.{[], filter, map}
+use Rattle.std.proofs.Common.{[], filter}
 use Rattle.printable_text.proofs.PartLemmas.{written_printable}
-use Rattle.robots_warnings.specs.Table.{all_causes}
 use Rattle.audit_core.specs.Request.{shown_name}
 use Rattle.audit_compare.specs.Compare.{all_differences, found_in, report_lines}
 use Rattle.audit_expect.specs.Expectations.{failure, fails}
 use Rattle.audit_expect.proofs.ExpectationsLemmas.{expect_printable}
-use Rattle.audit_text.specs.Explain.{list_line}
-use Rattle.audit_text.proofs.ReportLemmas.{explanation_printable}
 use Rattle.robots_audit.proofs.MessageLemmas.{listed_printable}
 use Rattle.robots_audit.proofs.laws.no_other_report_steers_a_terminal.Goals as goal
 
@@ -18,6 +15,4 @@ returns c = record {
   compared = λ requested older_name older newer_name newer answer is.
       rw is.listed.report (listed_printable found_in requested.format (shown_name requested.file) _ _
       (all_differences is.comparison) (written_printable (report_lines is.comparison)));
-  list = written_printable (map list_line all_causes);
-  explained = explanation_printable;
 }

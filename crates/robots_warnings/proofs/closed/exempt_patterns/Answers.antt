@@ -1,11 +1,14 @@
-use Rattle.robots_warnings.proofs.ClosedLemmas.{opened_next}
+use Rattle.robots_warnings.proofs.ClosedLemmas.{opened_next, sitemaps_read}
 use Rattle.robots_warnings.proofs.closed.exempt_patterns.Goals as goal
 
-pub loop-line-preserved : goal.loop-line-preserved
-loop-line-preserved c = record {
-  can_next = tt;
-  is_finite = tt;
-  all = λ pattern.
-      opened_next pattern _ _ c.in-Some.ensures.steps (c.in_ok-add_line.ensures pattern)
-      (c.loop-line.invariant.all pattern);
-}
+pub loop-url-init : goal.loop-url-init
+loop-url-init c = λ pattern. rw (
+  sitemaps_read c.args.site.now _ c.in_ok-urls.ensures,
+  c.in_ok-add_path.ensures pattern,
+  c.new-patterns.ensures.empty,
+) refl
+
+pub loop-url-preserved : goal.loop-url-preserved
+loop-url-preserved c = λ pattern.
+    opened_next pattern c.in_ok-urls.urls.items c.loop-url.url-index _ _ c.loop-url-test.true
+    (c.in_ok-add_url.ensures pattern) (c.loop-url.invariant pattern)

@@ -15,8 +15,10 @@ loop-agent-preserved c =
     record {
       conflicts = λ number.
           agents_next (conflict_for is_empty lines number) agents at _ _ below
-          (c.in_ok-add_others.ensures.conflicts number) (was.conflicts number);
+          (rw (c.deref.ensures.value, c.in_ok-rules.ensures) at (c.in_ok-add_others.ensures.conflicts number))
+          (was.conflicts number);
       overruled = λ number.
           agents_next (overruled_for is_empty lines number) agents at _ _ below
-          (c.in_ok-add_others.ensures.overruled number) (was.overruled number);
+          (rw (c.deref.ensures.value, c.in_ok-rules.ensures) at (c.in_ok-add_others.ensures.overruled number))
+          (was.overruled number);
     }

@@ -1,9 +1,15 @@
-use Rattle.std.proofs.Common.{◌<◌, ◌&&◌, arith, bytes_eq, length}
+use Rattle.std.proofs.Common.{◌<◌, ◌&&◌, arith, bytes_eq, length, rules}
 use Rattle.std.specs.Str.{str_to_ascii_lowercase}
 use Rattle.texting_robots.specs.Callers.{file_lines}
 use Rattle.robots_warnings.specs.Closed.{lacks_all}
 use Rattle.robots_warnings.proofs.ClosedLemmas.{any_next}
 use Rattle.robots_warnings.proofs.replaced.lacking.Goals as goal
+
+pub loop-agent-init : goal.loop-agent-init
+loop-agent-init c = record {
+  denied = rw c.requires at c.in_ok-denied.ensures;
+  names = record { each = λ key. search rules };
+}
 
 pub loop-agent-preserved : goal.loop-agent-preserved
 loop-agent-preserved c =

@@ -8,9 +8,9 @@ use Rattle.robots_warnings.proofs.warnings.warn_of_crawlers.Goals as goal
 
 pub returns : goal.returns
 returns c =
-    let labels = map label_by_value c.args.read.now.labels.now in
+    let labels = map label_by_value c.args.read.now.labels.items in
     let agents = map (λ agent. agent.now) c.args.agents.now in
-    let lines = file_lines c.args.read.now.site.now in
+    let lines = file_lines c.args.read.now.site in
     let is_empty = is_empty_at labels in
     let empty : contains nat_cmp c.in_ok-empty.empty ≡ is_empty = λ i n. c.in_ok-empty.ensures n i in
     let are = c.in_ok-lines.ensures in

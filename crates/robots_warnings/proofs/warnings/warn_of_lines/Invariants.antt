@@ -7,7 +7,7 @@ abbrev pub invariant-loop-rest : goal.invariant-loop-rest
 invariant-loop-rest l =
     let warnings = lines_warnings l.read.facts.has_cut_line l.everywhere in
     l.found.items ++ warnings (map label_by_value l.rest)
-    ≡ l.fn.found.items ++ warnings (map label_by_value l.read.labels.now)
+    ≡ l.fn.found.items ++ warnings (map label_by_value l.read.labels.items)
 
 abbrev pub decreases-loop-rest : goal.decreases-loop-rest
 decreases-loop-rest l = length l.rest

@@ -1,8 +1,0 @@
-use Rattle.std.proofs.Common.{◌≡◌, ◌++◌, take}
-use Rattle.audit_page.specs.{Page.warning_row, Tree.all}
-use Rattle.audit_page.proofs.page.warnings.push_warning_rows.Given as goal
-
-abbrev pub invariant-loop-warning : goal.invariant-loop-warning
-invariant-loop-warning l =
-    l.page.out.items ≡ l.fn.page.out.items
-    ++ all warning_row (take l.warning-index l.warnings)

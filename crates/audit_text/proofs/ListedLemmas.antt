@@ -1,0 +1,138 @@
+-- Which warnings and which URLs a report lists.
+use Rattle.std.proofs.Common.{◌≡◌, ◌∙◌, ℕ, Bool, List, [], ◌∷◌, ◌++◌, ap, append_assoc, map, sym, ◌+◌}
+use Rattle.std.proofs.Common.{◌-◌, ◌<◌, ◌≤◌, ap₂, arith, cond, drop, filter_map, if◌then◌else◌, length, not}
+use Rattle.std.proofs.Common.{slice_index_or, take, ◌&&◌, ◌||◌, slice_set}
+use Rattle.std.specs.List.{list_any}
+use Rattle.std.proofs.lemmas.List.{drop_more, length-take-le, map-append, take_more}
+use Rattle.std.proofs.lemmas.List.{Elements.filter_map-append, drop-set-lt, length-drop, take_more_set}
+use Rattle.printable_text.specs.{declared.level.Level.Level}
+use Rattle.robots_warnings.specs.Message.{WarningValue}
+use Rattle.audit_text.specs.{declared.listed.More.More}
+use Rattle.audit_text.specs.Joined.{is_first, is_joined, is_joined_as, line_as, placed}
+use Rattle.audit_text.specs.Listed.{count_like, count_of, is_like, more_of, most}
+use Rattle.std.proofs.lemmas.List.Sums.{count_by-le-length, sum_by_push}
+use Rattle.audit_text.specs.Internal.Listed.{AreCounts, Counts, counted}
+use Rattle.robots_warnings.specs.Table.{level_of, name_of, number_of}
+use Rattle.robots_warnings.specs.{declared.table.Cause.Cause}
+use Rattle.robots_warnings.proofs.ClosedLemmas.{any_last}
+use Rattle.audit_core.specs.Audit.{AgentValue, with_denied}
+
+-- ---- How warnings are counted, and which of them are listed.
+
+pub counted_fits : (counts : Counts) (warnings : List WarningValue) (at : ℕ) (cause : Cause)
+    → at < length warnings → at < 18446744073709551615
+    → AreCounts counts (take at warnings)
+    → counted counts (name_of cause) (level_of cause) < 18446744073709551615
+counted_fits counts warnings at cause below short are =
+    let least : at ≤ length warnings = omega (arith, below) in
+    let most = count_by-le-length
+    (λ (warning : WarningValue). is_like (name_of cause) (level_of cause) warning.cause)
+    (take at warnings) in
+    let within = rw (length-take-le at warnings least) at most in
+    let is = are (name_of cause) (level_of cause) in
+    omega (arith, short, within, is)
+
+pub counted_next : (counts new : Counts) (warnings : List WarningValue) (at : ℕ) (warning : WarningValue)
+    (cause : Cause) → at < length warnings → cause ≡ (slice_index_or warnings at warning).cause
+    → AreCounts counts (take at warnings)
+    → ((name : List ℕ) (level : Level) → counted new name level ≡ counted counts name level
+    + (if is_like name level cause then 1 else 0))
+    → AreCounts new (take (at + 1) warnings)
+counted_next counts new warnings at warning cause below same are more_at name level =
+    rw (take_more warnings at warning below)
+    (more_at name level ∙ ap (λ n. n + (if is_like name level cause then 1 else 0)) (are name level)
+    ∙ ap (λ cause. count_of name level (take at warnings) + (if is_like name level cause then 1 else 0)) same
+    ∙ sym (sum_by_push (λ (warning : WarningValue). cond (is_like name level warning.cause) 1 0)
+    (take at warnings) (slice_index_or warnings at warning)))
+
+pub placed_next : (test : List WarningValue → WarningValue → Bool) (warnings : List WarningValue) (at : ℕ)
+    (warning : WarningValue) (holds : Bool) (found new all : List WarningValue) → at < length warnings
+    → holds ≡ test (take at warnings) (slice_index_or warnings at warning)
+    → new ≡ found ++ (if holds then slice_index_or warnings at warning ∷ [] else [])
+    → found ++ placed test (take at warnings) (drop at warnings) ≡ all
+    → new ++ placed test (take (at + 1) warnings) (drop (at + 1) warnings) ≡ all
+placed_next test warnings at warning holds found new all below is added so_far =
+    let item = slice_index_or warnings at warning in
+    let later = placed test (take at warnings ++ item ∷ []) (drop (at + 1) warnings) in
+    rw (take_more warnings at warning below)
+    (ap (λ (front : List WarningValue). front ++ later) added
+    ∙ append_assoc found (if holds then item ∷ [] else []) later
+    ∙ ap (λ holds. found ++ ((if holds then item ∷ [] else []) ++ later)) is
+    ∙ rw (drop_more warnings at warning below) at so_far)
+
+pub more_next : (warnings unlisted : List WarningValue) (at : ℕ) (warning : WarningValue) (cause : Cause)
+    (found : List More) (number : ℕ) (counts : Counts) → AreCounts counts warnings
+    → at < length unlisted → cause ≡ (slice_index_or unlisted at warning).cause
+    → number ≡ counted counts (name_of cause) (level_of cause) - most
+    → found ≡ map (more_of warnings) (take at unlisted)
+    → found ++ record { cause = cause; number = number } ∷ []
+    ≡ map (more_of warnings) (take (at + 1) unlisted)
+more_next warnings unlisted at warning cause found number counts are below same is so_far =
+    rw (take_more unlisted at warning below, map-append)
+    (ap₂ (λ (front : List More) last. front ++ last ∷ []) so_far
+    (ap (λ number. record { cause = cause; number = number })
+    (is ∙ ap (λ n. n - most) (are (name_of cause) (level_of cause)))
+    ∙ ap (λ cause. record { cause = cause; number = count_like cause warnings - most }) same))
+
+pub met_next : (warnings : List WarningValue) (at : ℕ) (warning : WarningValue) (number : ℕ) (old new : Bool)
+    → at < length warnings → old ≡ list_any (is_joined_as number) (take at warnings)
+    → new ≡ (old || is_joined_as number (slice_index_or warnings at warning))
+    → new ≡ list_any (is_joined_as number) (take (at + 1) warnings)
+met_next warnings at warning number old new below is added =
+    rw (take_more warnings at warning below)
+    (added ∙ ap (λ b. b || is_joined_as number (slice_index_or warnings at warning)) is
+    ∙ sym (any_last (is_joined_as number) (take at warnings) (slice_index_or warnings at warning)))
+
+-- whether a warning is the first with its message
+pub first_is : (before : List WarningValue) (warning : WarningValue) (has holds : Bool)
+    → has ≡ list_any (is_joined_as (number_of warning.cause)) before
+    → holds ≡ not (is_joined warning && has) → holds ≡ is_first before warning
+first_is before warning has holds same is = is ∙ ap (λ has. not (is_joined warning && has)) same
+
+pub lines_next : (number : ℕ) (warnings : List WarningValue) (at : ℕ) (warning : WarningValue)
+    (found new all : List ℕ) → at < length warnings
+    → new ≡ found ++ filter_map (line_as number) (slice_index_or warnings at warning ∷ [])
+    → found ++ filter_map (line_as number) (drop at warnings) ≡ all
+    → new ++ filter_map (line_as number) (drop (at + 1) warnings) ≡ all
+lines_next number warnings at warning found new all below added so_far =
+    let here = slice_index_or warnings at warning ∷ [] in
+    let later = drop (at + 1) warnings in
+    ap (λ (front : List ℕ). front ++ filter_map (line_as number) later) added
+    ∙ append_assoc found (filter_map (line_as number) here) (filter_map (line_as number) later)
+    ∙ ap (λ (rest : List ℕ). found ++ rest) (sym (filter_map-append (line_as number) here later))
+    ∙ rw (drop_more warnings at warning below) at so_far
+
+-- ---- Which URLs a report lists, and how many are allowed and denied.
+
+same_there : (agents old : List AgentValue) (at : ℕ) (item : AgentValue) → at < length old
+    → drop at agents ≡ drop at old
+    → (at < length agents) × (slice_index_or agents at item ≡ slice_index_or old at item)
+    × (drop (at + 1) agents ≡ drop (at + 1) old)
+same_there agents old at item within same =
+    let lengths = ap length same in
+    let one = length-drop at agents in
+    let two = length-drop at old in
+    let below : at < length agents = omega (arith, within, lengths, one, two) in
+    let first = drop_more agents at item below in
+    let other = drop_more old at item within in
+    (below, cc, cc)
+
+pub denied_next : (agents old : List AgentValue) (at : ℕ) (item agent : AgentValue) → at < length old
+    → drop at agents ≡ drop at old
+    → take at agents ≡ map with_denied (take at old)
+    → agent ≡ with_denied (slice_index_or agents at item)
+    → (take (at + 1) (slice_set agents at agent)
+    ≡ map with_denied (take (at + 1) old))
+    × (drop (at + 1) (slice_set agents at agent) ≡ drop (at + 1) old)
+denied_next agents old at item agent within same done is =
+    let (below, there, later) = same_there agents old at item within same in
+    let value : agent ≡ with_denied (slice_index_or old at item) =
+    is ∙ ap with_denied there in (
+      rw (
+        take_more_set agents at agent below,
+        take_more old at item within,
+        map-append,
+      )
+          (ap₂ (λ (values : List AgentValue) last. values ++ last ∷ []) done value),
+      drop-set-lt (at + 1) agents at agent (omega arith) ∙ later,
+    )

@@ -1,0 +1,512 @@
+-- A page that is written piece by piece: each piece is read as it was written, and is printable.
+use Rattle.std.specs.Prelude.{not, ◌&&◌}
+use Rattle.std.proofs.Common.{ℕ, ◌+◌, ◌<◌, ◌++◌, Bool, true, false, List, [], ◌∷◌, ◌≡◌, arith, codes}
+use Rattle.std.proofs.Common.{flat_map}
+use Rattle.std.proofs.Common.{append-nil, append_assoc, ap, ap₂, get_or, length, map, refl, reverse, drop}
+use Rattle.std.proofs.Common.{slice_index_or, subst, sym, take, ◌∙◌}
+use Rattle.std.specs.{Bool.IsTrue, List.AllByRecursion as Each, List.list_all, List.list_any, Str.bytes_eq}
+use Rattle.std.specs.{Str.chars}
+use Rattle.std.proofs.lemmas.{Bool.and_parts, Bool.not-true, Str.encodes-chars}
+use Rattle.std.proofs.lemmas.{Grind.flat_map-append}
+use Rattle.std.proofs.lemmas.List.{map-append, reverse-append, take_more}
+use Rattle.std.proofs.lemmas.Bool.Decides.{nat_tests}
+use Rattle.std.proofs.lemmas.List.Sums.{AllPass-from_list_all, list_all-from_AllPass}
+use Rattle.printable_text.specs.Sanitize.{IsPrintable, IsPrintableIn, is_printable, is_printable_byte}
+use Rattle.printable_text.proofs.SanitizeLemmas.{append_printable, ascii_printable, chars_pass, nil_printable}
+use Rattle.printable_text.proofs.{EscapeLemmas.escaped_printable, SanitizeLemmas.line_printable}
+use Rattle.html_writer.specs.Html.{AreAttributes, Attribute, IsContent, IsText, doctype, is_css}
+use Rattle.html_writer.specs.Html.{style, style_bytes, written, attribute_bytes, end_tag}
+use Rattle.html_writer.specs.Html.{escaped, escaped_byte, attribute, has_attribute, is_character, is_letter}
+use Rattle.html_writer.specs.Html.{is_name}
+use Rattle.html_writer.specs.Html.{is_name_byte, is_ordinary, is_title, is_style, start_tag, tag_close}
+use Rattle.html_writer.specs.Html.{tag_open, text}
+use Rattle.html_writer.specs.Html.{void, void_close, void_names, void_tag, is_among}
+use Rattle.html_writer.specs.Reader.{Opened, Reader, State, finished, data_state, has_elements}
+use Rattle.html_writer.specs.Reader.{has_references}
+use Rattle.html_writer.specs.Reader.{kind_of, new_tag, reader, run}
+use Rattle.html_writer.specs.Page.{AddsAttributes, AddsTag, HasVoid, IsOpen, Opens, are_names}
+use Rattle.html_writer.specs.Page.{closed}
+use Rattle.std.specs.{Borrow.Bor}
+use Rattle.html_writer.specs.Page.{AddsStart, AddsVoid, IsSomePage, names_in, names_of, title}
+use Rattle.html_writer.specs.Page.{closed_in, followed_by, is_tag, is_void, name_in, so_far}
+use Rattle.html_writer.proofs.WritingLemmas.{Reads, attributes_weaker, content_read, style_read, end_read}
+use Rattle.html_writer.proofs.WritingLemmas.{escaped-is, kind_inside, start_read, text_read}
+use Rattle.html_writer.proofs.WritingLemmas.{void_read}
+
+-- ---- Printable pieces.
+
+is_kept : (char : ℕ) → is_printable true char ≡ true → is_character char ≡ true
+is_kept char plain = grind (arith, nat_tests)
+
+printable_text : (bytes : List ℕ) → IsPrintable bytes → IsText bytes
+printable_text bytes is =
+    let plain = AllPass-from_list_all (is_printable true) (chars bytes) is.all in
+    let are = list_all-from_AllPass is_character (chars bytes)
+    (λ k d below. is_kept (get_or (chars bytes) k d) (plain k d below)) in
+    subst IsText (encodes-chars bytes is.utf8)
+    (chars_pass is_character (λ byte high. grind (arith, nat_tests)) (chars bytes) are)
+
+letter_printable : (byte : ℕ) → is_letter byte ≡ true → is_printable_byte true byte ≡ true
+letter_printable byte is = grind (arith, nat_tests)
+
+name_byte_printable : (byte : ℕ) → is_name_byte byte ≡ true → is_printable_byte true byte ≡ true
+name_byte_printable byte is = grind (arith, nat_tests)
+
+name_bytes_printable : (bytes : List ℕ) → IsTrue (list_all is_name_byte bytes)
+    → IsTrue (list_all (is_printable_byte true) bytes)
+name_bytes_printable [] are = refl
+name_bytes_printable (byte ∷ bytes) are =
+    let both = and_parts (is_name_byte byte) (list_all is_name_byte bytes) are in
+    rw (name_byte_printable byte both.0) (name_bytes_printable bytes both.1)
+
+name_printable : (name : List ℕ) → IsTrue (is_name name) → IsPrintable name
+name_printable [] named = nil_printable true
+name_printable (byte ∷ bytes) named =
+    let both = and_parts (is_letter byte) (list_all is_name_byte bytes) named in
+    ascii_printable true (byte ∷ bytes)
+    (rw (letter_printable byte both.0) (name_bytes_printable bytes both.1))
+
+value_printable : (bytes : List ℕ) → IsPrintable bytes → IsPrintable (escaped bytes)
+value_printable bytes is =
+    rw (escaped-is bytes)
+    (escaped_printable escaped_byte refl (λ byte high. grind (arith, nat_tests)) bytes is)
+
+both_printable : {one two : List ℕ} → IsPrintable one → IsPrintable two → IsPrintable (one ++ two)
+both_printable {one} {two} is too = append_printable true one two is too
+
+style_printable : (css : List ℕ) → IsPrintable css → IsPrintable (style_bytes css)
+unfolding style_bytes
+style_printable css is =
+    both_printable (ascii_printable true (codes "<style>") refl)
+    (both_printable is (ascii_printable true (codes "</style>") refl))
+
+open_printable : (name : List ℕ) → IsPrintable name → IsPrintable (tag_open name)
+unfolding tag_open
+open_printable name is = both_printable (ascii_printable true (codes "<") refl) is
+
+end_printable : (name : List ℕ) → IsPrintable name → IsPrintable (end_tag name)
+unfolding end_tag
+end_printable name is =
+    both_printable (ascii_printable true (codes "</") refl)
+    (both_printable is (ascii_printable true (codes ">") refl))
+
+close_printable : IsPrintable tag_close
+unfolding tag_close
+close_printable = ascii_printable true (codes ">") refl
+
+void_close_printable : IsPrintable void_close
+unfolding void_close
+void_close_printable = ascii_printable true (codes "/>") refl
+
+attribute_printable : (a : Attribute) → IsPrintable a.name → IsPrintable (escaped a.value)
+    → IsPrintable (attribute_bytes a)
+unfolding attribute_bytes
+attribute_printable a name value =
+    both_printable (ascii_printable true (codes " ") refl)
+    (both_printable name
+    (both_printable (ascii_printable true (codes "=\"") refl)
+    (both_printable value (ascii_printable true (codes "\"") refl))))
+
+attributes_printable : (before attributes : List Attribute) → AreAttributes IsPrintable before attributes
+    → IsPrintable (flat_map attribute_bytes attributes)
+attributes_printable before [] are = nil_printable true
+attributes_printable before (a ∷ attributes) (named, new, is, rest) =
+    both_printable (attribute_printable a (name_printable a.name named) (value_printable a.value is))
+    (attributes_printable (before ++ a ∷ []) attributes rest)
+
+-- ---- Names of attributes.
+
+any_named : (name : List ℕ) (attributes : List Attribute)
+    → list_any (λ n. bytes_eq n name) (map (λ (a : Attribute). a.name) attributes)
+    ≡ has_attribute attributes name
+any_named name [] = refl
+any_named name (a ∷ attributes) = rw (any_named name attributes) refl
+
+named_attributes : (before attributes : List Attribute)
+    → are_names (map (λ (a : Attribute). a.name) before) (map (λ (a : Attribute). a.name) attributes) ≡ true
+    → Each (λ (a : Attribute). IsPrintable a.value) attributes → AreAttributes IsPrintable before attributes
+named_attributes before [] are values = tt
+named_attributes before (a ∷ attributes) are (value, values) =
+    let names = map (λ (a : Attribute). a.name) before in
+    let later = are_names (names ++ a.name ∷ []) (map (λ (a : Attribute). a.name) attributes) in
+    let both = and_parts (is_name a.name) (not (list_any (λ n. bytes_eq n a.name) names) && later) are in
+    let rest = and_parts (not (list_any (λ n. bytes_eq n a.name) names)) later both.1 in (
+      both.0,
+      rw (any_named a.name before) at rest.0,
+      value,
+      named_attributes (before ++ a ∷ []) attributes
+          (rw (map-append (λ (a : Attribute). a.name) before (a ∷ [])) rest.1) values,
+    )
+
+-- ---- Reading goes on where it was.
+
+run_append : (one two : List ℕ) (from : Reader) → run from (one ++ two) ≡ run (run from one) two
+run_append [] two from = refl
+run_append (byte ∷ one) two from = run_append one two _
+
+piece_read : (old new piece : List ℕ) (last : Reader) → (so_far old).state ≡ data_state
+    → Reads (reader data_state (so_far old).opened (so_far old).content) piece last → new ≡ old ++ piece
+    → so_far new ≡ last
+piece_read old new piece last state reads added =
+    ap so_far added ∙ run_append old piece (reader data_state [] (text []))
+    ∙ ap (λ s. run (reader s (so_far old).opened (so_far old).content) piece) state
+    ∙ ap (run (reader data_state (so_far old).opened (so_far old).content)) (sym (append-nil piece))
+    ∙ reads.leads []
+
+kind_plain : (opened : List Opened) → IsTrue (list_all is_tag (map name_in opened))
+    → (has_references (kind_of opened) ≡ true) × (has_elements (kind_of opened) ≡ true)
+kind_plain [] are = (refl, refl)
+kind_plain (o ∷ opened) are =
+    let tag = (and_parts (is_tag o.tag.name) (list_all is_tag (map name_in opened)) are).0 in
+    let named = and_parts (is_name o.tag.name) (is_ordinary o.tag.name && not (is_title o.tag.name)) tag in
+    let plain = and_parts (is_ordinary o.tag.name) (not (is_title o.tag.name)) named.1 in
+    let styled = not-true (is_style o.tag.name) (and_parts (not (is_style o.tag.name)) _ plain.0).0 in
+    let kind = kind_inside o.tag.name styled in
+    (kind.0, kind.1 ∙ plain.1)
+
+nil_open : IsOpen [] []
+nil_open = record { printable = nil_printable true; state = refl; names_are = refl; are_tags = refl }
+
+pub nothing_open : (opened : List (Bor (List ℕ))) (bytes : List ℕ) → opened ≡ [] → bytes ≡ []
+    → IsOpen (names_of opened) bytes
+nothing_open opened bytes none empty =
+    subst (IsOpen (names_of opened)) (sym empty)
+    (subst (λ (o : List (Bor (List ℕ))). IsOpen (names_of o) []) (sym none) nil_open)
+
+module _ (names : List (List ℕ)) (old new : List ℕ) (is : IsOpen names old) where
+  has : has_references (kind_of (so_far old).opened) ≡ true
+  has = (kind_plain (so_far old).opened is.are_tags).0
+
+  may : has_elements (kind_of (so_far old).opened) ≡ true
+  may = (kind_plain (so_far old).opened is.are_tags).1
+
+  -- the elements that are open stay so
+  kept_open : (last : Reader) → so_far new ≡ last → last.state ≡ data_state
+      → last.opened ≡ (so_far old).opened → IsPrintable new → IsOpen names new
+  kept_open last same state opened printable =
+      let both : (so_far new).opened ≡ (so_far old).opened = ap (λ (r : Reader). r.opened) same ∙ opened in
+      record {
+        printable = printable;
+        state = ap (λ (r : Reader). r.state) same ∙ state;
+        names_are = is.names_are ∙ ap (λ (o : List Opened). map name_in o) (sym both);
+        are_tags =
+            subst (λ (o : List Opened). IsTrue (list_all is_tag (map name_in o))) (sym both) is.are_tags;
+      }
+
+  pub text_is : (line : List ℕ) → IsPrintableIn false line → new ≡ old ++ escaped line
+      → so_far new ≡ followed_by (text line) (so_far old)
+  text_is line plain added =
+      piece_read old new (escaped line) (followed_by (text line) (so_far old)) is.state
+      (text_read (so_far old).opened (so_far old).content line has
+      (printable_text line (line_printable line plain))) added
+
+  pub text_open : (line : List ℕ) → IsPrintableIn false line → new ≡ old ++ escaped line → IsOpen names new
+  text_open line plain added =
+      let same = text_is line plain added in
+      record {
+        printable = subst IsPrintable (sym added)
+            (both_printable is.printable (value_printable line (line_printable line plain)));
+        state = ap (λ (r : Reader). r.state) same;
+        names_are = is.names_are ∙ ap (λ (r : Reader). map name_in r.opened) (sym same);
+        are_tags =
+            subst (λ (r : Reader). IsTrue (list_all is_tag (map name_in r.opened))) (sym same) is.are_tags;
+      }
+
+  pub title_is : (line : List ℕ) → IsPrintableIn false line → new ≡ old ++ written (title line)
+      → so_far new ≡ followed_by (title line) (so_far old)
+  title_is line plain added =
+      piece_read old new (written (title line)) (followed_by (title line) (so_far old)) is.state
+      (content_read (so_far old).opened (so_far old).content (title line) has
+      (subst (λ (elements : Bool). IsContent IsText elements (title line)) (sym may)
+      (refl, refl, refl, refl, tt, printable_text line (line_printable line plain), refl))) added
+
+  pub title_open : (line : List ℕ) → IsPrintableIn false line → new ≡ old ++ written (title line)
+      → IsOpen names new
+  title_open line plain added =
+      kept_open (followed_by (title line) (so_far old)) (title_is line plain added) refl refl
+      (subst IsPrintable (sym added) (both_printable is.printable
+      (both_printable (both_printable (open_printable (codes "title") (name_printable (codes "title") refl))
+      close_printable) (both_printable (value_printable line (line_printable line plain))
+      (both_printable (end_printable (codes "title") (name_printable (codes "title") refl))
+      (nil_printable true))))))
+
+  pub style_is : (css : List ℕ) → is_css css ≡ true → new ≡ old ++ style_bytes css
+      → so_far new ≡ followed_by (style [] css (text [])) (so_far old)
+  style_is css are added =
+      piece_read old new (style_bytes css) (followed_by (style [] css (text [])) (so_far old)) is.state
+      (style_read (so_far old).opened (so_far old).content css may are) added
+
+  pub style_open : (css : List ℕ) → is_css css ≡ true → list_all (is_printable_byte true) css ≡ true
+      → new ≡ old ++ style_bytes css → IsOpen names new
+  style_open css are plain added =
+      kept_open (followed_by (style [] css (text [])) (so_far old)) (style_is css are added) refl refl
+      (subst IsPrintable (sym added)
+      (both_printable is.printable (style_printable css (ascii_printable true css plain))))
+
+  module _ (name : List ℕ) (labels : List (List ℕ)) (mid : List ℕ) (labeled : are_names [] labels ≡ true)
+      (adds : AddsTag name labels old mid) where
+    abbrev attributes : List Attribute
+    attributes = adds.attributes
+
+    printable_attributes : AreAttributes IsPrintable [] attributes
+    printable_attributes =
+        named_attributes [] attributes
+        (subst (λ (l : List (List ℕ)). are_names [] l ≡ true) (sym adds.named.names_are) labeled)
+        adds.named.printable
+
+    text_attributes : AreAttributes IsText [] attributes
+    text_attributes = attributes_weaker IsPrintable IsText printable_text [] attributes printable_attributes
+
+    whole : (end : List ℕ) → new ≡ mid ++ end
+        → new ≡ old ++ (tag_open name ++ (flat_map attribute_bytes attributes ++ end))
+    whole end added =
+        added ∙ ap (λ (t : List ℕ). t ++ end) adds.added
+        ∙ append_assoc old (tag_open name ++ flat_map attribute_bytes attributes) end
+        ∙ ap (λ (t : List ℕ). old ++ t)
+        (append_assoc (tag_open name) (flat_map attribute_bytes attributes) end)
+
+    tag_printable : IsTrue (is_name name) → (end : List ℕ) → IsPrintable end → new ≡ mid ++ end
+        → IsPrintable new
+    tag_printable named end ends added =
+        subst IsPrintable (sym (whole end added))
+        (both_printable is.printable
+        (both_printable (open_printable name (name_printable name named))
+        (both_printable (attributes_printable [] attributes printable_attributes) ends)))
+
+    abbrev opened_now : Reader
+    opened_now =
+        reader data_state
+        (record { before = (so_far old).content; tag = new_tag name attributes } ∷ (so_far old).opened)
+        (text [])
+
+    start_same : is_tag name ≡ true → new ≡ mid ++ tag_close → so_far new ≡ opened_now
+    start_same tag added =
+        let named = and_parts (is_name name) (is_ordinary name && not (is_title name)) tag in
+        let plain = and_parts (is_ordinary name) (not (is_title name)) named.1 in
+        piece_read old new (start_tag name attributes) opened_now is.state
+        (start_read (so_far old).opened (so_far old).content name attributes may named.0 plain.0
+        text_attributes)
+        (whole tag_close added)
+
+    start_is : is_tag name ≡ true → new ≡ mid ++ tag_close → Opens name labels (so_far old) (so_far new)
+    start_is tag added = record { attributes = attributes; named = adds.named; new_is = start_same tag added }
+
+    start_open : is_tag name ≡ true → new ≡ mid ++ tag_close → IsOpen (names ++ name ∷ []) new
+    start_open tag added =
+        let same = start_same tag added in
+        let named = and_parts (is_name name) (is_ordinary name && not (is_title name)) tag in
+        record {
+          printable = tag_printable named.0 tag_close close_printable added;
+          state = ap (λ (r : Reader). r.state) same;
+          names_are =
+              reverse-append names (name ∷ []) ∙ ap (λ (l : List (List ℕ)). name ∷ l) is.names_are
+              ∙ ap (λ (r : Reader). map name_in r.opened) (sym same);
+          are_tags =
+              subst (λ (r : Reader). IsTrue (list_all is_tag (map name_in r.opened))) (sym same)
+              (rw tag is.are_tags);
+        }
+
+    void_same : is_void name ≡ true → new ≡ mid ++ void_close
+        → so_far new ≡ followed_by (void [] name attributes (text [])) (so_far old)
+    void_same is_one added =
+        let both = and_parts (is_name name) (is_among void_names name) is_one in
+        piece_read old new (void_tag name attributes)
+        (followed_by (void [] name attributes (text [])) (so_far old))
+        is.state
+        (void_read (so_far old).opened (so_far old).content name attributes may both.0 both.1 text_attributes)
+        (whole void_close added)
+
+    void_is : is_void name ≡ true → new ≡ mid ++ void_close → HasVoid name labels (so_far old) (so_far new)
+    void_is is_one added =
+        record { attributes = attributes; named = adds.named; new_is = void_same is_one added }
+
+    void_open : is_void name ≡ true → new ≡ mid ++ void_close → IsOpen names new
+    void_open is_one added =
+        let same = void_same is_one added in
+        let both = and_parts (is_name name) (is_among void_names name) is_one in
+        record {
+          printable = tag_printable both.0 void_close void_close_printable added;
+          state = ap (λ (r : Reader). r.state) same;
+          names_are = is.names_are ∙ ap (λ (r : Reader). map name_in r.opened) (sym same);
+          are_tags =
+              subst (λ (r : Reader). IsTrue (list_all is_tag (map name_in r.opened))) (sym same) is.are_tags;
+        }
+
+-- ---- The innermost element ends.
+
+same_head : (one two : List ℕ) (rest more : List (List ℕ)) → one ∷ rest ≡ two ∷ more → one ≡ two
+same_head one two rest more is = ap (λ (l : List (List ℕ)). slice_index_or l 0 []) is
+
+same_tail : (one two : List ℕ) (rest more : List (List ℕ)) → one ∷ rest ≡ two ∷ more → rest ≡ more
+same_tail one two rest more is = ap (λ (l : List (List ℕ)). drop 1 l) is
+
+module _ (names : List (List ℕ)) (name : List ℕ) (old new : List ℕ) (is : IsOpen (names ++ name ∷ []) old)
+    (added : new ≡ old ++ end_tag name) where
+  last_is : name ∷ reverse names ≡ map name_in (so_far old).opened
+  last_is = sym (reverse-append names (name ∷ [])) ∙ is.names_are
+
+  ends : (opened : List Opened) → (so_far old).opened ≡ opened
+      → name ∷ reverse names ≡ map name_in opened → IsTrue (list_all is_tag (map name_in opened))
+      → (so_far new ≡ closed (so_far old)) × IsOpen names new
+  ends [] same last are = absurd (cc)
+  ends (o ∷ outer) same last are =
+      let head = same_head name o.tag.name (reverse names) (map name_in outer) last in
+      let both = and_parts (is_tag o.tag.name) (list_all is_tag (map name_in outer)) are in
+      let named =
+      and_parts (is_name o.tag.name) (is_ordinary o.tag.name && not (is_title o.tag.name)) both.0 in
+      let plain = and_parts (is_ordinary o.tag.name) (not (is_title o.tag.name)) named.1 in
+      let styled = not-true (is_style o.tag.name) (and_parts (not (is_style o.tag.name)) _ plain.0).0 in
+      let now = closed_in (o ∷ outer) (so_far old).content in
+      let reads = end_read outer o.before (so_far old).content o.tag.name o.tag.attributes named.0 styled in
+      let result : so_far new ≡ now =
+      piece_read old new (end_tag o.tag.name) now is.state
+      (subst (λ (l : List Opened). Reads (reader data_state l (so_far old).content) (end_tag o.tag.name) now)
+      (sym same) reads)
+      (added ∙ ap (λ (n : List ℕ). old ++ end_tag n) head) in (
+        result ∙ ap (λ (l : List Opened). closed_in l (so_far old).content) (sym same),
+        record {
+          printable = subst IsPrintable (sym (added ∙ ap (λ (n : List ℕ). old ++ end_tag n) head))
+              (both_printable is.printable (end_printable o.tag.name (name_printable o.tag.name named.0)));
+          state = ap (λ (r : Reader). r.state) result;
+          names_are = same_tail name o.tag.name (reverse names) (map name_in outer) last
+              ∙ ap (λ (r : Reader). map name_in r.opened) (sym result);
+          are_tags =
+              subst (λ (r : Reader). IsTrue (list_all is_tag (map name_in r.opened))) (sym result) both.1;
+        },
+      )
+
+  end_is : so_far new ≡ closed (so_far old)
+  end_is = (ends (so_far old).opened refl last_is is.are_tags).0
+
+  end_open : IsOpen names new
+  end_open = (ends (so_far old).opened refl last_is is.are_tags).1
+
+-- ---- The same, as the functions that write a page need it.
+
+pub element_begun : (names labels : List (List ℕ)) (name old new : List ℕ) → IsOpen names old
+    → is_tag name ≡ true → are_names [] labels ≡ true → AddsStart name labels old new
+    → Opens name labels (so_far old) (so_far new)
+element_begun names labels name old new is tag labeled adds =
+    start_is names old new is name labels adds.mid labeled adds.tag tag adds.added
+
+pub begun_open : (before after : List (Bor (List ℕ))) (name : Bor (List ℕ)) (labels : List (List ℕ))
+    (old new : List ℕ) → IsOpen (names_of before) old → is_tag name.now ≡ true
+    → are_names [] labels ≡ true → AddsStart name.now labels old new → after ≡ before ++ name ∷ []
+    → IsOpen (names_of after) new
+begun_open before after name labels old new is tag labeled adds pushed =
+    subst (λ (names : List (List ℕ)). IsOpen names new)
+    (sym (ap names_of pushed ∙ map-append (λ (n : Bor (List ℕ)). n.now) before (name ∷ [])))
+    (start_open (names_of before) old new is name.now labels adds.mid labeled adds.tag tag adds.added)
+
+pub void_added : (names labels : List (List ℕ)) (name old new : List ℕ) → IsOpen names old
+    → is_void name ≡ true → are_names [] labels ≡ true → AddsVoid name labels old new
+    → HasVoid name labels (so_far old) (so_far new)
+void_added names labels name old new is one labeled adds =
+    void_is names old new is name labels adds.mid labeled adds.tag one adds.added
+
+pub voided_open : (names labels : List (List ℕ)) (name old new : List ℕ) → IsOpen names old
+    → is_void name ≡ true → are_names [] labels ≡ true → AddsVoid name labels old new → IsOpen names new
+voided_open names labels name old new is one labeled adds =
+    void_open names old new is name labels adds.mid labeled adds.tag one adds.added
+
+popped : (before after : List (Bor (List ℕ))) (name : Bor (List ℕ)) (old : List ℕ)
+    → IsOpen (names_of before) old → before ≡ after ++ name ∷ []
+    → IsOpen (names_of after ++ name.now ∷ []) old
+popped before after name old is pops =
+    subst (λ (names : List (List ℕ)). IsOpen names old)
+    (ap names_of pops ∙ map-append (λ (n : Bor (List ℕ)). n.now) after (name ∷ [])) is
+
+pub element_ended : (before after : List (Bor (List ℕ))) (name : Bor (List ℕ)) (old new : List ℕ)
+    → IsOpen (names_of before) old → before ≡ after ++ name ∷ [] → new ≡ old ++ end_tag name.now
+    → so_far new ≡ closed (so_far old)
+element_ended before after name old new is pops added =
+    end_is (names_of after) name.now old new (popped before after name old is pops) added
+
+pub ended_open : (before after : List (Bor (List ℕ))) (name : Bor (List ℕ)) (old new : List ℕ)
+    → IsOpen (names_of before) old → before ≡ after ++ name ∷ [] → new ≡ old ++ end_tag name.now
+    → IsOpen (names_of after) new
+ended_open before after name old new is pops added =
+    end_open (names_of after) name.now old new (popped before after name old is pops) added
+
+-- if no element is open, nothing changes
+pub none_ended : (before : List (Bor (List ℕ))) (old : List ℕ) → IsOpen (names_of before) old → before ≡ []
+    → so_far old ≡ closed (so_far old)
+none_ended before old is none =
+    by (so_far old).opened refl
+    (sym (ap (λ (b : List (Bor (List ℕ))). reverse (names_of b)) none) ∙ is.names_are)
+  where
+    by : (opened : List Opened) → (so_far old).opened ≡ opened → [] ≡ map name_in opened
+        → so_far old ≡ closed (so_far old)
+    by [] same names =
+        ap₂ (λ (state : State) (opened : List Opened). reader state opened (so_far old).content) is.state same
+        ∙ sym (ap (λ (opened : List Opened). closed_in opened (so_far old).content) same)
+    by (o ∷ opened) same names = absurd (cc)
+
+pub adds_none : (old : List ℕ) → AddsAttributes [] old old
+adds_none old = record {
+  attributes = [];
+  named = record { names_are = refl; printable = tt };
+  added = sym (append-nil old);
+}
+
+adds_more : (names : List (List ℕ)) (name value old mid new : List ℕ) → AddsAttributes names old mid
+    → IsPrintableIn false value → new ≡ mid ++ attribute_bytes (attribute name value)
+    → AddsAttributes (names ++ name ∷ []) old new
+adds_more names name value old mid new adds plain added = record {
+  attributes = adds.attributes ++ attribute name value ∷ [];
+  named = record {
+    names_are = map-append (λ (a : Attribute). a.name) adds.attributes (attribute name value ∷ [])
+        ∙ ap (λ (l : List (List ℕ)). l ++ name ∷ []) adds.named.names_are;
+    printable =
+        each_last adds.attributes (attribute name value) adds.named.printable (line_printable value plain);
+  };
+  added =
+      added ∙ ap (λ (t : List ℕ). t ++ attribute_bytes (attribute name value)) adds.added
+      ∙ append_assoc old (flat_map attribute_bytes adds.attributes) (attribute_bytes (attribute name value))
+      ∙ ap (λ (t : List ℕ). old ++ t) (sym (flat_map-append attribute_bytes adds.attributes
+      (attribute name value ∷ [])
+      ∙ ap (λ (t : List ℕ). flat_map attribute_bytes adds.attributes ++ t)
+      (append-nil (attribute_bytes (attribute name value)))));
+}
+  where
+    each_last : (attributes : List Attribute) (a : Attribute)
+        → Each (λ (a : Attribute). IsPrintable a.value) attributes → IsPrintable a.value
+        → Each (λ (a : Attribute). IsPrintable a.value) (attributes ++ a ∷ [])
+    each_last [] a are is = (is, tt)
+    each_last (b ∷ attributes) a are is = (are.0, each_last attributes a are.1 is)
+
+pub adds_next : (items : List (Bor (List ℕ) × Bor (List ℕ))) (at : ℕ) (item : Bor (List ℕ) × Bor (List ℕ))
+    (name value old mid new : List ℕ) → at < length items → name ≡ (slice_index_or items at item).0.now
+    → AddsAttributes (names_in (take at items)) old mid → IsPrintableIn false value
+    → new ≡ mid ++ attribute_bytes (attribute name value)
+    → AddsAttributes (names_in (take (at + 1) items)) old new
+adds_next items at item name value old mid new below name_is adds plain added =
+    let first = slice_index_or items at item in
+    rw (
+      take_more items at item below,
+      map-append (λ (a : Bor (List ℕ) × Bor (List ℕ)). a.0.now) (take at items)
+          (first ∷ []),
+    )
+    (subst (λ (n : List ℕ). AddsAttributes (names_in (take at items) ++ n ∷ []) old new) name_is
+    (adds_more (names_in (take at items)) name value old mid new adds plain added))
+
+-- ---- The whole page.
+
+none_opened : (opened : List Opened) → [] ≡ map name_in opened → opened ≡ []
+none_opened [] is = refl
+none_opened (o ∷ opened) is = absurd (cc)
+
+pub page_finished : (before : List (Bor (List ℕ))) (bytes front page : List ℕ)
+    → IsOpen (names_of before) bytes → before ≡ [] → front ≡ doctype → page ≡ front ++ bytes → IsSomePage page
+unfolding doctype
+page_finished before bytes front page is none first added =
+    let opened = none_opened (so_far bytes).opened
+    (sym (ap (λ (b : List (Bor (List ℕ))). reverse (names_of b)) none) ∙ is.names_are) in
+    subst IsSomePage (sym (added ∙ ap (λ (t : List ℕ). t ++ bytes) first)) (
+      (so_far bytes).content,
+      record {
+        printable = both_printable (ascii_printable true doctype refl) is.printable;
+        read = ap₂ (λ (state : State) (opened : List Opened). finished state opened (so_far bytes).content)
+            is.state opened;
+      },
+    )
