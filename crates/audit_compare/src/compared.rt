@@ -147,12 +147,7 @@ pub(crate) fn compared_for<'a>(
     let older_audit = audit_for(alloc, agent, older, urls)?;
     let newer_audit = audit_for(alloc, agent, newer, urls)?;
     let rules = rule_changes(alloc, agent, &older.site, &newer.site)?;
-    let changes = url_changes(
-        alloc,
-        &rules,
-        &older_audit.verdicts,
-        &newer_audit.verdicts,
-    )?;
+    let changes = url_changes(alloc, &rules, &older_audit.verdicts, &newer_audit.verdicts)?;
     Ok(Compared {
         agent,
         older: older_audit,

@@ -103,7 +103,7 @@ pub without_sitemaps : (lines : List LineValue) (labels : List LabeledLine)
     → sitemaps_asked lines (map label_by_value labels) ≡ []
 without_sitemaps lines labels none = elim (cases_Bool (is_some (line_closing lines (codes "*")))) [
   | inl closed ↦ rw closed refl
-  | inr open ↦ rw open (none_asked labels none)
+  | inr not_closed ↦ rw not_closed (none_asked labels none)
 ]
 
 pub none_added : (rules : List PlacedRule) (found : List WarningValue) → AddsSitemaps rules [] found found
@@ -218,7 +218,7 @@ all_asked file labels robot old new of is =
       is.added,
     )
 
-zip_nil : (numbers : List ℕ) → zip numbers ([] : List VerdictValue) ≡ []
+zip_nil : (numbers : List ℕ) → zip {ℕ} {VerdictValue} numbers [] ≡ []
 zip_nil [] = refl
 zip_nil (number ∷ numbers) = refl
 

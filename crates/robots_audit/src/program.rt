@@ -89,11 +89,7 @@ fn output(alloc: Global, request: &Request<'_>, audit: Audit<'_>) -> Result<Vec<
 }
 
 /// The warnings, unless they are in the report.
-fn message(
-    alloc: Global,
-    request: &Request<'_>,
-    audit: &Audit<'_>,
-) -> Result<String, fmt::Error>
+fn message(alloc: Global, request: &Request<'_>, audit: &Audit<'_>) -> Result<String, fmt::Error>
     ensures { IfOk result (λ text. IsShownReport request.now.has_colors (string_bytes text)) }
 {
     let mut out = Report::new(alloc);

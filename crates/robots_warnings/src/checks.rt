@@ -13,8 +13,8 @@ use crate::positions::{
 };
 use crate::rules::{
     before_byte, begins_dot_segment, begins_wildcard, has, has_dollar_inside,
-    has_more_after_dollar, has_odd_start, has_quote_at_end, holds_otherwise, is_only_odd, is_quoted,
-    is_url_in_path, is_utf8, somewhere,
+    has_more_after_dollar, has_odd_start, has_quote_at_end, holds_otherwise, is_only_odd,
+    is_quoted, is_url_in_path, is_utf8, somewhere,
 };
 use crate::several_values::several_values;
 use crate::table::Cause;
@@ -112,10 +112,7 @@ pub(crate) fn form_checks(value: &[u8], is_regex: bool) -> [Check; 9]
     [
         (Cause::RuleNotUtf8, !is_utf8(value)),
         (Cause::EqualsInRule, is_odd & has_equals),
-        (
-            Cause::MissingSlash,
-            is_odd & !(has_equals | is_regex),
-        ),
+        (Cause::MissingSlash, is_odd & !(has_equals | is_regex)),
         (Cause::UrlInPath, is_url_in_path(value)),
         (Cause::UrlAsRule, begins_as_url(value)),
         (Cause::OddCharacter, is_only_odd(value)),

@@ -125,11 +125,7 @@ fn raise(
 }
 
 /// The length that a Disallow must have at least to have no rival among these rules.
-fn needed(
-    alloc: Global,
-    exempt: &Patterns,
-    rules: &[SiteRule<'_>],
-) -> Result<usize, AllocError>
+fn needed(alloc: Global, exempt: &Patterns, rules: &[SiteRule<'_>]) -> Result<usize, AllocError>
     ensures { IfOk result (IsNeeded (contains_text exempt.now) rules.now) }
 {
     let mut needed = 0;

@@ -58,11 +58,7 @@ fn add_allow(
 }
 
 /// For each pattern, the line of the first Allow with it, other than empty Disallows.
-fn first_allows(
-    alloc: Global,
-    rules: &[SiteRule<'_>],
-    empty: &Numbers,
-) -> Result<Lines, AllocError>
+fn first_allows(alloc: Global, rules: &[SiteRule<'_>], empty: &Numbers) -> Result<Lines, AllocError>
     ensures { IfOk result (λ lines. HasFirst (contains nat_cmp empty.now) lines rules.now) }
 {
     let mut lines = HashMap::new(alloc);

@@ -31,8 +31,8 @@ returns-then-is_closed-clause-ok c =
 pub returns-clause-ok : goal.returns-clause-ok
 returns-clause-ok c =
     let read = c.args.read.now in
-    let open : is_some (line_closing (lines_read read.bytes.now) (codes "*")) ≡ false =
+    let not_closed : is_some (line_closing (lines_read read.bytes.now) (codes "*")) ≡ false =
     rw c.requires.read.site_is at (search rules) in
     let star = rw c.in-Accepted.is at c.requires.star in
     all_asked read.bytes.now (map label_by_value read.labels.items) c.in-Accepted.robot.now _ _ star
-    (rw (open, ← c.deref-2.ensures.value) c.warn_of_each.ensures.ok)
+    (rw (not_closed, ← c.deref-2.ensures.value) c.warn_of_each.ensures.ok)
