@@ -18,7 +18,7 @@ use Rattle.robots_warnings.specs.Rules.{begins_lone_percent, begins_quote, begin
 use Rattle.robots_warnings.specs.Rules.{has_any, has_odd_character, holds_otherwise, is_expression, somewhere}
 use Rattle.robots_warnings.specs.Urls.{begins_in_any_case}
 use Rattle.robots_warnings.specs.SeveralValues.{begins_next_value}
-use Rattle.robots_warnings.specs.{Checks.Check, Checks.rule_checks, Checks.warned}
+use Rattle.robots_warnings.specs.{Checks.rule_checks, Warnings.warned}
 use Rattle.robots_warnings.proofs.StepLemmas.{somewhere_first}
 
 abbrev are_plain : List ℕ → Bool

@@ -1,3 +1,4 @@
+use Rattle.std.proofs.{Common.refl}
 use Rattle.robots_warnings.proofs.ClosedLemmas.{opened_next, sitemaps_read}
 use Rattle.robots_warnings.proofs.closed.exempt_patterns.Goals as goal
 
