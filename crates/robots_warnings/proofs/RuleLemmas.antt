@@ -9,7 +9,6 @@ use Rattle.std.proofs.lemmas.{Slice.Eq.bytes_eq-Decides}
 use Rattle.std.specs.{HashMap.Updates, HashMap.get_by_text, HashMap.hash_map_len, List.list_any, Str.byte}
 use Rattle.std.specs.{Global.Global, Map.lookup, Option.option_or, String.string_eq, HashSet.contains_text}
 use Rattle.texting_robots.specs.Callers.{escaped, PlacedRule, by_value, label_by_value, LineValue, UserAgent}
-use Rattle.texting_robots.specs.Callers.{Allow, CrawlDelay, Disallow, Raw, Sitemap}
 use Rattle.texting_robots.specs.{Escape.is_escaped, declared.labels.LabeledLine.LabeledLine}
 use Rattle.texting_robots.specs.Group.{is_agent, is_group}
 use Rattle.texting_robots.proofs.Shared.{option_or_none}
@@ -22,7 +21,7 @@ use Rattle.robots_warnings.specs.{File.lines_of, Positions.preceding_with}
 use Rattle.robots_warnings.specs.Closed.{denies, is_first_name, is_partial, is_replacing, replacing}
 use Rattle.robots_warnings.specs.Closed.{replacing_from, star_rules}
 use Rattle.robots_warnings.specs.declared.positions.Preceding.{Preceding}
-use Rattle.robots_warnings.specs.declared.positions.Preceding.TheVariants.{Agent, Delay, Other}
+use Rattle.robots_warnings.specs.declared.positions.Preceding.TheVariants.{Agent, Other}
 use Rattle.std.specs.HashSet as set
 
 or_assoc : {X : Type 0} (a b c : Option X) → option_or (option_or a b) c ≡ option_or a (option_or b c)
@@ -143,24 +142,14 @@ groups_among (labeled ∷ labels) = rw (groups_among labels) refl
 not_first : (preceding : Preceding) (line : LineValue) → is_agent line ≡ false
     → is_first_name preceding line ≡ false
 not_first Agent line isnt = refl
-not_first Delay line isnt = isnt
-not_first Other line isnt = isnt
+not_first preceding line isnt = isnt
 
 not_replacing : (agents : List (List ℕ)) (lines : List LineValue) (preceding : Preceding) (line : LineValue)
     (later : List LineValue) → is_other_name line ≡ false
     → is_replacing agents lines preceding line (line ∷ later) ≡ false
 not_replacing agents lines preceding (UserAgent value) later isnt =
     let star : bytes_eq value (codes "*") ≡ true = not-false _ isnt in rw star (simp and-false refl)
-not_replacing agents lines preceding (Allow value) later isnt =
-    rw (not_first preceding (Allow value) refl) refl
-not_replacing agents lines preceding (Disallow value) later isnt =
-    rw (not_first preceding (Disallow value) refl) refl
-not_replacing agents lines preceding (CrawlDelay delay) later isnt =
-    rw (not_first preceding (CrawlDelay delay) refl) refl
-not_replacing agents lines preceding (Sitemap value) later isnt =
-    rw (not_first preceding (Sitemap value) refl) refl
-not_replacing agents lines preceding (Raw body) later isnt =
-    rw (not_first preceding (Raw body) refl) refl
+not_replacing agents lines preceding line later isnt = rw (not_first preceding line refl) refl
 
 none_replacing : (agents : List (List ℕ)) (lines : List LineValue) (preceding : Preceding)
     (labels : List LabeledLine) → list_any (λ labeled. is_other_name (by_value labeled.line)) labels ≡ false
