@@ -394,4 +394,4 @@ replaces_star agents name lines labels number labeled has =
 
 pub star_disallows : (lines : List LineValue) (rules : List PlacedRule) → AreRulesFor (codes "*") lines rules
     → star_count lines ≡ count_by (λ (placed : PlacedRule). not placed.rule.1) rules
-star_disallows lines rules are = search (rules, one_list, computed_are, sum_by-IsPermutation)
+star_disallows lines rules are = search (one_list, computed_are, sum_by-IsPermutation)
