@@ -18,7 +18,7 @@ ghost use Rattle.audit_core.specs.Fault.{status_after};
 ghost use Rattle.clap.specs.Values.{kind_of};
 ghost use Rattle.audit_core.specs.{Content.content_flaw, Request.requested_by};
 ghost use Rattle.robots_audit.specs.Answer.{Answers, AnswersAudit, AnswersComparison, AnswersExpectations};
-ghost use Rattle.robots_audit.specs.Answer.{HasUrls, HasWords};
+ghost use Rattle.robots_audit.specs.Answer.{HasUrls, HasWords, IsSafeAnswer};
 
 mod command;
 mod laws;
@@ -164,8 +164,9 @@ fn answered(rt: &HostRuntime, matches: &ArgMatches<'_>, has_colors: bool) -> Res
 }
 
 /// The answer if the arguments request help or the version; else the error for arguments that `clap` rejects.
+#[tactic(auto, using(crate::proofs::MessageLemmas::text_safe))]
 fn reported(rt: &HostRuntime, error: clap::Error) -> Result<Answer, Fault>
-    ensures warnings { IfOk result (λ answer. IsShownReport true (string_bytes answer.outcome.warnings)) }
+    ensures safe { IfOk result IsSafeAnswer }
     ensures rejected { (kind_of error ≢ WordsKind.DisplayHelp) → (kind_of error ≢ WordsKind.DisplayVersion) → IsErr result }
     ensures words { IfErr result HasWords }
 {
@@ -179,9 +180,10 @@ fn reported(rt: &HostRuntime, error: clap::Error) -> Result<Answer, Fault>
     }
 }
 
-/// The warnings are printable apart from color codes, whatever the arguments, the files and their names are.
+/// The report is safe, and the warnings are printable apart from color codes, whatever the arguments, the files
+/// and their names are.
 fn answer(rt: &HostRuntime) -> Result<Answer, Fault>
-    ensures { IfOk result (λ answer. IsShownReport true (string_bytes answer.outcome.warnings)) }
+    ensures { IfOk result IsSafeAnswer }
 {
     let words = words(rt)?;
     match command(rt.alloc())?.try_get_matches_from(&words) {
