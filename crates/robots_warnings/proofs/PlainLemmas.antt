@@ -1,11 +1,10 @@
 -- A plain value, as `/a/b-2`, has none of the warnings about values of rules.
 use Rattle.std.specs.Prelude.{nat_eq, not}
-use Rattle.std.proofs.Common.{◌≡◌, ◌∙◌, ◌+◌, ◌<◌, ◌==◌, ◌||◌, ℕ, zero, suc, Bool, true, false, List, [], ◌∷◌}
-use Rattle.std.proofs.Common.{Option, None, ap, arith, bytes_eq, codes, drop, inl, inr, length, refl}
-use Rattle.std.proofs.Common.{slice_index, subst, sym, take}
-use Rattle.std.specs.{Char.to_ascii_lowercase, List.AllByRecursion as Each, List.ends_with, List.list_all}
-use Rattle.std.specs.{List.list_any, List.position_or_len, List.starts_with, Str.byte, Str.is_utf8}
-use Rattle.std.specs.{Str.str_to_ascii_lowercase}
+use Rattle.std.proofs.Common.{◌≡◌, ◌∙◌, ◌<◌, ◌==◌, ℕ, zero, suc, Bool, true, false, List, [], ◌∷◌, Option}
+use Rattle.std.proofs.Common.{None, ap, arith, bytes_eq, codes, drop, inl, inr, length, refl, slice_index}
+use Rattle.std.proofs.Common.{subst, sym, take}
+use Rattle.std.specs.{Char.to_ascii_lowercase, List.ends_with, List.list_all, List.list_any}
+use Rattle.std.specs.{List.position_or_len, Str.byte, Str.str_to_ascii_lowercase}
 use Rattle.std.proofs.Math.{Bool.and-false}
 use Rattle.std.proofs.lemmas.Bool.{and_parts, cases_Bool, eqb-true, false≢true, ne_eqb}
 use Rattle.std.proofs.lemmas.{Bool.Decides.nat_tests, Slice.Eq.bytes_eq-Decides}
@@ -15,9 +14,7 @@ use Rattle.std.proofs.lemmas.Str.{IsUtf8-from_ascii, is_utf8-from_IsUtf8}
 use Rattle.robots_warnings.specs.{Internal.Plain.is_plain, Internal.Plain.is_plain_byte}
 use Rattle.robots_warnings.specs.Rules.{after_byte, before_byte, begins_dot_segment, begins_host, from_first}
 use Rattle.robots_warnings.specs.Rules.{begins_lone_percent, begins_quote, begins_sign, begins_wildcard, has}
-use Rattle.robots_warnings.specs.Rules.{has_any, has_odd_character, holds_otherwise, is_expression, somewhere}
-use Rattle.robots_warnings.specs.Urls.{begins_in_any_case}
-use Rattle.robots_warnings.specs.SeveralValues.{begins_next_value}
+use Rattle.robots_warnings.specs.{Rules.somewhere, Urls.begins_in_any_case, SeveralValues.begins_next_value}
 use Rattle.robots_warnings.specs.{Checks.rule_checks, Warnings.warned}
 use Rattle.robots_warnings.proofs.StepLemmas.{somewhere_first}
 
@@ -63,15 +60,13 @@ in_any_case front text other plain =
 
 -- ---- Bytes that aren't plain don't occur.
 
-isnt : (b c : ℕ) → is_plain_byte b ≡ true → is_plain_byte c ≡ false → (b == c) ≡ false
-isnt b c plain other = ne_eqb b c (λ same. false≢true (sym other ∙ ap is_plain_byte (sym same) ∙ plain))
-
 at_end : (c : ℕ) (text : List ℕ) → is_plain_byte c ≡ false → are_plain text ≡ true
     → position_or_len (λ b. b == c) text ≡ length text
 at_end c [] other plain = refl
 at_end c (b ∷ text) other plain =
     let (here, later) = and_parts (is_plain_byte b) _ plain in
-    rw (isnt b c here other) (omega (arith, at_end c text other later))
+    let not_here = ne_eqb b c (λ same. false≢true (sym other ∙ ap is_plain_byte (sym same) ∙ here)) in
+    rw not_here (omega (arith, at_end c text other later))
 
 none_after : (c : ℕ) (text : List ℕ) → is_plain_byte c ≡ false → are_plain text ≡ true
     → after_byte c text ≡ []
@@ -93,79 +88,34 @@ ascii [] plain i = omega arith
 ascii (b ∷ text) plain zero = grind (arith, nat_tests)
 ascii (b ∷ text) plain (suc i) = ascii text (and_parts (is_plain_byte b) _ plain).1 i
 
--- ---- Tests that no plain text passes
+-- ---- Tests that nothing in a plain text passes
 
 abbrev Fails : (List ℕ → Bool) → Type 0
-Fails test = (text : List ℕ) → are_plain text ≡ true → test text ≡ false
+Fails test = (b : ℕ) (text : List ℕ) → are_plain (b ∷ text) ≡ true → test (b ∷ text) ≡ false
 
 nothing_from : (test : List ℕ → Bool) → Fails test → (text : List ℕ) → are_plain text ≡ true
     → from_first test text ≡ []
 nothing_from test fails [] plain = refl
 nothing_from test fails (b ∷ text) plain =
-    rw (fails (b ∷ text) plain) (nothing_from test fails text (and_parts (is_plain_byte b) _ plain).1)
+    rw (fails b text plain) (nothing_from test fails text (and_parts (is_plain_byte b) _ plain).1)
 
-nowhere : (test : List ℕ → Bool) → Fails test → Fails (somewhere test)
+nowhere : (test : List ℕ → Bool) → Fails test → (text : List ℕ) → are_plain text ≡ true
+    → somewhere test text ≡ false
 nowhere test fails text plain = somewhere_first test text ∙ rw (nothing_from test fails text plain) refl
 
-percent : Fails begins_lone_percent
-percent [] plain = refl
-percent (b ∷ text) plain = grind (arith, nat_tests)
-
-wildcard : Fails begins_wildcard
-wildcard [] plain = refl
-wildcard (b ∷ text) plain = grind (arith, nat_tests)
-
-quote : Fails begins_quote
-quote [] plain = refl
-quote (b ∷ text) plain = grind (arith, nat_tests)
-
 segment : Fails begins_dot_segment
-segment [] plain = refl
-segment (b ∷ []) plain = grind (arith, nat_tests)
-segment (b ∷ (c ∷ text)) plain = grind (arith, nat_tests)
+segment b [] plain = grind (arith, nat_tests)
+segment b (c ∷ text) plain = grind (arith, nat_tests)
 
 sign : Fails begins_sign
-sign [] plain = refl
-sign (b ∷ []) plain = grind (arith, nat_tests)
-sign (b ∷ (c ∷ text)) plain = grind (arith, nat_tests)
+sign b [] plain = grind (arith, nat_tests)
+sign b (c ∷ text) plain = grind (arith, nat_tests)
 
-next_value : Fails begins_next_value
-next_value [] plain = refl
-next_value (b ∷ text) plain = grind (arith, nat_tests)
-
-host : Fails begins_host
+host : (text : List ℕ) → are_plain text ≡ true → begins_host text ≡ false
 host text plain =
     let name = drop 1 text in
     let part = (parts (position_or_len (λ b. b == byte "/") name) name (parts 1 text plain).1).0 in
     rw (never (λ b. b == byte ".") (λ b is. grind (arith, nat_tests)) _ part) (simp and-false)
-
-odd : Fails has_odd_character
-odd text plain = rw (
-  never (λ b. has b (codes "|\"<>`\u{7f}")) (λ b is. grind (arith, nat_tests)) text plain,
-  nowhere begins_lone_percent percent text plain,
-  none_after (byte "?") text refl plain,
-  none_after (byte "*") text refl plain,
-) refl
-
-otherwise : Fails holds_otherwise
-otherwise text plain = rw (
-  all_before (byte "?") text refl plain,
-  never (λ b. has b (codes "\t\\^{}")) (λ b is. grind (arith, nat_tests)) text plain,
-  none_after (byte "?") text refl plain,
-) refl
-
-expression : (text : List ℕ) → are_plain text ≡ true → is_expression (byte "/" ∷ text) ≡ false
-expression text plain =
-    let value = byte "/" ∷ text in
-    rw (
-      none_after (byte "(") value refl plain,
-      nowhere begins_sign sign value plain,
-      ends (codes ".+") value refl plain,
-      ends (codes "]+") value refl plain,
-      ends (codes ")+") value refl plain,
-    ) refl
-
--- ---- All warnings
 
 none_warned : (line : Option ℕ) (text : List ℕ) → are_plain text ≡ true
     → warned line None (rule_checks (byte "/" ∷ text)) ≡ []
@@ -176,15 +126,22 @@ none_warned line text plain =
       in_any_case (codes "http://") text refl plain,
       in_any_case (codes "https://") text refl plain,
       host text plain,
-      odd value plain,
-      otherwise value plain,
-      nothing_from begins_quote quote value plain,
-      expression text plain,
-      none_after (byte "$") value refl plain,
-      nowhere begins_wildcard wildcard value plain,
+      never (λ b. has b (codes "|\"<>`\u{7f}")) (λ b is. grind (arith, nat_tests)) value plain,
       all_before (byte "?") value refl plain,
+      never (λ b. has b (codes "\t\\^{}")) (λ b is. grind (arith, nat_tests)) value plain,
+      none_after (byte "?") value refl plain,
+      none_after (byte "*") value refl plain,
+      none_after (byte "(") value refl plain,
+      none_after (byte "$") value refl plain,
+      nothing_from begins_quote (λ b text is. grind (arith, nat_tests)) value plain,
+      nowhere begins_lone_percent (λ b text is. grind (arith, nat_tests)) value plain,
+      nowhere begins_wildcard (λ b text is. grind (arith, nat_tests)) value plain,
+      nowhere begins_next_value (λ b text is. grind (arith, nat_tests)) value plain,
       nowhere begins_dot_segment segment value plain,
-      nowhere begins_next_value next_value value plain,
+      nowhere begins_sign sign value plain,
+      ends (codes ".+") value refl plain,
+      ends (codes "]+") value refl plain,
+      ends (codes ")+") value refl plain,
       and-false,
     ) refl
 
