@@ -16,7 +16,6 @@ use Rattle.html_writer.specs.Reader.{Kind, Opened, Reader, Tag, after_attribute_
 use Rattle.html_writer.specs.Reader.{attribute_name, attribute_value, data_state}
 use Rattle.html_writer.specs.Reader.{end_tag_name, has_elements, has_references, kind_in, kind_of, new_tag}
 use Rattle.html_writer.specs.Reader.{only_text, raw_text, reader, run, tag_name}
-use Rattle.html_writer.specs.Html as html
 
 -- ---- Escaping.
 
