@@ -9,7 +9,8 @@ use Rattle.std.proofs.lemmas.{List.Concat.flat_map-append, List.Folds.list_all-a
 use Rattle.std.proofs.lemmas.Str.{chars-encodes, encodes-append, scalars-chars}
 use Rattle.serde_json.specs.{Data.Data, View.items_of, Written.has_float, Written.compact_text}
 use Rattle.serde_json.specs.Data.{array}
-use Rattle.texting_robots.specs.Callers.{Allow, CrawlDelay, Disallow, Label, LineValue, Raw, Sitemap, UserAgent}
+use Rattle.texting_robots.specs.Callers.{Allow, CrawlDelay, Disallow, Label, LineValue, Raw, Sitemap}
+use Rattle.texting_robots.specs.Callers.{UserAgent}
 use Rattle.printable_text.specs.Sanitize.{IsPrintable}
 use Rattle.printable_text.specs.{Lines.lf}
 use Rattle.printable_text.proofs.SanitizeLemmas.{append_printable, ascii_printable, sanitized_printable}

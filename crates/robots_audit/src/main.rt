@@ -180,8 +180,8 @@ fn reported(rt: &HostRuntime, error: clap::Error) -> Result<Answer, Fault>
     }
 }
 
-/// The report is safe, and the warnings are printable apart from color codes, whatever the arguments, the files
-/// and their names are.
+/// The report is safe, and the warnings are printable apart from color codes, whatever the arguments, the
+/// files and their names are.
 fn answer(rt: &HostRuntime) -> Result<Answer, Fault>
     ensures { IfOk result IsSafeAnswer }
 {
