@@ -9,7 +9,8 @@ use Rattle.std.proofs.lemmas.{List.Concat.flat_map-append, List.Folds.list_all-a
 use Rattle.std.proofs.lemmas.Str.{chars-encodes, encodes-append, scalars-chars}
 use Rattle.serde_json.specs.Data.{Data, Members, array, object}
 use Rattle.serde_json.specs.{View.items_of, Written.compact_text, Written.has_float, Written.members_text}
-use Rattle.texting_robots.specs.Callers.{Allow, CrawlDelay, Disallow, Label, LineValue, Raw, Sitemap, UserAgent}
+use Rattle.texting_robots.specs.Callers.{Allow, CrawlDelay, Disallow, Label, LineValue, Raw, Sitemap}
+use Rattle.texting_robots.specs.Callers.{UserAgent}
 use Rattle.printable_text.specs.{Sanitize.sanitized, Text.IsReport}
 use Rattle.printable_text.proofs.{ReportLemmas.brace_plain}
 use Rattle.audit_core.specs.Audit.{AgentValue, AuditValue, VerdictValue}
@@ -20,8 +21,8 @@ use Rattle.rfc9309_laws.specs.declared.conformance.Conformance.TheVariants.{Othe
 use Rattle.rfc9309_laws.specs.declared.conformance.Conformance.TheVariants.{Verdicts}
 use Rattle.robots_warnings.specs.Table.{all_causes, level_of, name_of}
 use Rattle.audit_json.specs.Json.{agent_json, audit_json, fault_json, finding_json, findings_json}
-use Rattle.audit_json.specs.Json.{findings_text, json_line, known_json, line_json, list_json, number_json, rows_json, sanitized_json}
-use Rattle.audit_json.specs.Json.{text_json, value_json, verdict_json, word_json}
+use Rattle.audit_json.specs.Json.{findings_text, json_line, known_json, line_json, list_json, number_json}
+use Rattle.audit_json.specs.Json.{rows_json, sanitized_json, text_json, value_json, verdict_json, word_json}
 use Rattle.audit_json.specs.Sarif.{all_rules, has_level_for, is_brace, literal_char, literal_text, log_json}
 use Rattle.audit_json.specs.Sarif.{result_json, rule_json, rules_named, shown, shown_after, takes_backslash}
 use lib.Utf8.{scalar}
