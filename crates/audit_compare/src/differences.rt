@@ -4,8 +4,8 @@ ghost use Rattle.std.specs.List.{list_all};
 ghost use Rattle.audit_core.specs.Findings.{Adds};
 ghost use Rattle.audit_compare.specs.Compare.{accepted_changes, change_name, crawler_changes, delay_changes};
 ghost use Rattle.audit_compare.specs.Compare.{group_changes, has_same_rules, is_rejected, is_same_group};
-ghost use Rattle.audit_compare.specs.Compare.{is_unchanged, rejection, rejection_name, rule_change, rule_name};
-ghost use Rattle.audit_compare.specs.Compare.{section_changes, url_change};
+ghost use Rattle.audit_compare.specs.Compare.{is_unchanged, rejection, rejection_name, rule_change};
+ghost use Rattle.audit_compare.specs.Compare.{rule_name, section_changes, url_change};
 
 use crate::compared::{Compared, UrlChange};
 use audit_core::findings::{Findings, add};
@@ -114,7 +114,14 @@ fn add_rule(
         "crawler {agent}: {sign} {kind}: {pattern} (line {number})"
     )?;
     let line = if is_added { Some(number) } else { None };
-    add(alloc, found, Level::Note, line, rule_name(is_added), &message)
+    add(
+        alloc,
+        found,
+        Level::Note,
+        line,
+        rule_name(is_added),
+        &message,
+    )
 }
 
 fn add_rules(
@@ -156,12 +163,7 @@ impl fmt::Display for Decided {
     }
 }
 
-fn add_url(
-    alloc: Global,
-    found: &mut Findings,
-    agent: &str,
-    change: &UrlChange<'_>,
-) -> fmt::Result
+fn add_url(alloc: Global, found: &mut Findings, agent: &str, change: &UrlChange<'_>) -> fmt::Result
     ensures { OnOk result (Adds found.old.items found.new.items (url_change change.now ∷ [])) }
 {
     let (older, newer, url) = (change.older, change.newer, change.url);
@@ -230,7 +232,10 @@ fn add_same_rules(alloc: Global, found: &mut Findings, compared: &Compared<'_>) 
         return Ok(());
     }
     let (mut message, agent) = (Line::new(alloc), compared.agent);
-    write!(message, "crawler {agent}: same rules, so no URL's verdict differs")?;
+    write!(
+        message,
+        "crawler {agent}: same rules, so no URL's verdict differs"
+    )?;
     add(alloc, found, Level::Note, None, "same-rules", &message)
 }
 
@@ -257,7 +262,14 @@ fn add_rejection(
     let version = if is_new { "new" } else { "old" };
     write!(message, "the {version} file is {reason}")?;
     let line = if is_new { rejected } else { None };
-    add(alloc, found, Level::Error, line, rejection_name(is_new), &message)
+    add(
+        alloc,
+        found,
+        Level::Error,
+        line,
+        rejection_name(is_new),
+        &message,
+    )
 }
 
 /// Adds what a section says of a crawler.

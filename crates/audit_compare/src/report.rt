@@ -40,18 +40,20 @@ fn sitemap_name(is_added: bool) -> &'static str
     }
 }
 
-fn add_sitemap(
-    alloc: Global,
-    found: &mut Findings,
-    is_added: bool,
-    sitemap: &[u8],
-) -> fmt::Result
+fn add_sitemap(alloc: Global, found: &mut Findings, is_added: bool, sitemap: &[u8]) -> fmt::Result
     ensures { OnOk result (Adds found.old.items found.new.items (sitemap_change is_added sitemap.now ∷ [])) }
 {
     let (mut message, sitemap) = (Line::new(alloc), Untrusted(sitemap));
     let what = if is_added { "added" } else { "removed" };
     write!(message, "sitemap {what}: {sitemap}")?;
-    add(alloc, found, Level::Note, None, sitemap_name(is_added), &message)
+    add(
+        alloc,
+        found,
+        Level::Note,
+        None,
+        sitemap_name(is_added),
+        &message,
+    )
 }
 
 fn add_sitemaps(
@@ -120,7 +122,11 @@ fn all_differences(alloc: Global, comparison: &Comparison<'_>) -> Result<Finding
 fn write_sides(out: &mut Report, older: &Side<'_>, newer: &Side<'_>) -> fmt::Result {
     let mut front = "old: ";
     for side in [older, newer] {
-        let end = if side.has_no_directive { " (empty)" } else { "" };
+        let end = if side.has_no_directive {
+            " (empty)"
+        } else {
+            ""
+        };
         let name = side.name;
         write!(out, "{front}{name}{end}")?;
         front = ", new: ";

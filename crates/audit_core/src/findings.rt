@@ -69,7 +69,14 @@ fn add_denial(
     }
     let (mut message, url) = (Line::new(alloc), verdict.url);
     write!(message, "{agent} may not fetch {url}")?;
-    add(alloc, found, Level::Error, verdict.decision.line, "denied", &message)
+    add(
+        alloc,
+        found,
+        Level::Error,
+        verdict.decision.line,
+        "denied",
+        &message,
+    )
 }
 
 fn add_denials(

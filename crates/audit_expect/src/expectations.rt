@@ -119,7 +119,8 @@ fn message_of(alloc: Global, checked: &Checked<'_>) -> Result<Line, Fault>
 }
 
 fn add_if_failing(alloc: Global, found: &mut Findings, checked: &Checked<'_>) -> Result<(), Fault>
-    ensures ok { OnOk result (Adds found.old.items found.new.items (failures (checked_value checked.now ∷ []))) }
+    ensures ok { OnOk result (Adds found.old.items found.new.items
+        (failures (checked_value checked.now ∷ []))) }
     ensures fault { IfErr result (λ fault. fault ≡ Fault.Memory) }
 {
     if !fails(checked) {

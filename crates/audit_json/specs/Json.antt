@@ -3,8 +3,8 @@ use Rattle.std.specs.Prelude.{◌≡◌, ℕ, Bool, true, List, [], ◌∷◌, �
 use Rattle.std.specs.Prelude.{if◌then◌else◌, ◌==◌, length, map, string_bytes}
 use Rattle.serde_json.specs.{Data.Data, View.items_of, Written.compact_text}
 use Rattle.serde_json.specs.Data.{array, boolean, member, no_members, null, number, object, string, unsigned}
-use Rattle.texting_robots.specs.Callers.{Allow, CrawlDelay, Disallow, LineValue, Label, Raw, Sitemap, UserAgent}
-use Rattle.texting_robots.specs.Callers.{sitemaps_in}
+use Rattle.texting_robots.specs.Callers.{Allow, CrawlDelay, Disallow, LineValue, Label, Raw, Sitemap}
+use Rattle.texting_robots.specs.Callers.{UserAgent, sitemaps_in}
 use Rattle.printable_text.specs.{Lines.lf, Text.level_word, Sanitize.sanitized}
 use Rattle.audit_core.specs.{declared.group.Group.Group, Audit.AgentValue, Audit.AuditValue, Texts.may_fetch}
 use Rattle.audit_core.specs.{Audit.VerdictValue, declared.findings.Finding.Finding}

@@ -3,8 +3,9 @@ ghost use Rattle.std.specs.Prelude.{◌≡◌, false, IfOk, map, option_map, str
 ghost use Rattle.serde_json.specs.{View.view, Written.has_float};
 ghost use Rattle.texting_robots.specs.Callers.{by_value, label_by_value, sitemaps_in};
 ghost use Rattle.audit_json.specs.Json.{IsJson, agent_json, audit_json, fault_json, findings_json};
-ghost use Rattle.audit_json.specs.Json.{findings_text, group_word, json_line, known_json, line_json, list_json};
-ghost use Rattle.audit_json.specs.Json.{number_json, rows_json, sanitized_json, text_json, value_json, word_json};
+ghost use Rattle.audit_json.specs.Json.{findings_text, group_word, json_line, known_json, line_json};
+ghost use Rattle.audit_json.specs.Json.{list_json, number_json, rows_json, sanitized_json, text_json};
+ghost use Rattle.audit_json.specs.Json.{value_json, word_json};
 ghost use Rattle.robots_warnings.specs.File.{lines_of};
 
 use audit_core::audit::{AgentAudit, Audit, Verdict};

@@ -37,9 +37,10 @@ line_property (Some line) = codes ",line=" ++ property_text (decimal line)
 -- `file` is the sanitized name of the file
 abbrev pub command_of : List ℕ → Finding → List ℕ
 command_of file finding =
+    let message = escaped false (string_bytes finding.message) in
     command_label finding.level
     ++ (property_text file ++ (line_property finding.line
-    ++ (codes ",title=" ++ (property_text finding.name.now ++ (codes "::" ++ escaped false (string_bytes finding.message))))))
+    ++ (codes ",title=" ++ (property_text finding.name.now ++ (codes "::" ++ message)))))
 
 -- the same, sanitized as a whole, so that it is one line, and no other command begins within it
 abbrev pub command : List ℕ → Finding → List ℕ

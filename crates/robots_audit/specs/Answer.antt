@@ -11,7 +11,8 @@ use Rattle.audit_core.specs.Audit.{AuditValue, IsAuditOf, all_allowed, rejects_s
 use Rattle.audit_core.specs.Request.{RequestValue, has_rows, requested_by, shown_name}
 use Rattle.audit_core.specs.{Answer.IsText, declared.answer.Outcome.Outcome, declared.request.Request.Request}
 use Rattle.audit_core.specs.{declared.answer.Answer.Answer, declared.request.Format.Format}
-use Rattle.audit_core.specs.{Content.content_flaw, declared.fault.Fault.Fault, declared.findings.Finding.Finding}
+use Rattle.audit_core.specs.{Content.content_flaw, declared.fault.Fault.Fault}
+use Rattle.audit_core.specs.{declared.findings.Finding.Finding}
 use Rattle.audit_core.specs.Findings.{Found, findings, found_of}
 use Rattle.audit_core.specs.declared.fault.Fault.TheVariants.{File, Format as OfAudits, Memory, Words}
 use Rattle.audit_core.specs.declared.request.Format.TheVariants.{Github, Html, Json, Sarif, Text}

@@ -5,4 +5,5 @@ use Rattle.audit_compare.proofs.report.add_crawlers.Given as goal
 
 abbrev pub invariant-loop-compared : goal.invariant-loop-compared
 invariant-loop-compared l =
-    Adds l.fn.found.items l.found.items (flat_map (crawler_changes l.sections) (take l.compared-index l.crawlers))
+    Adds l.fn.found.items l.found.items
+    (flat_map (crawler_changes l.sections) (take l.compared-index l.crawlers))

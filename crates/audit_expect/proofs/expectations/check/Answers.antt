@@ -9,6 +9,7 @@ returns-clause-ok c =
     record {
       expectations = _;
       all = is.ok;
-      some = ap (λ n. n == 0) (length-map c.in_ok-expectations.expectations.items expectation_value) ∙ is.some;
+      some =
+          ap (λ n. n == 0) (length-map c.in_ok-expectations.expectations.items expectation_value) ∙ is.some;
       failures = rw (c.deref.ensures.value, c.in_ok-read.ensures.bytes) at c.in_ok-found.ensures.ok;
     }
