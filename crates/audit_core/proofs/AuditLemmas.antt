@@ -13,7 +13,7 @@ use Rattle.texting_robots.specs.Callers.{label_by_value, sitemaps_in, IsDelayFor
 use Rattle.texting_robots.specs.Callers.{AnswerAlike, IsRobotWithoutSitemaps, PlacedRule, RobotValue}
 use Rattle.texting_robots.specs.Callers.{file_limit}
 use Rattle.texting_robots.specs.Callers.{UserAgent, by_value, HasLines, LineValue, delay_for, lines_read}
-use Rattle.texting_robots.specs.Callers.{Allow, CrawlDelay, Disallow, IsFirstOverlong, Label, Raw, Sitemap}
+use Rattle.texting_robots.specs.Callers.{IsFirstOverlong, Label, Sitemap}
 use Rattle.texting_robots.specs.{Agents.is_among, Executable.sitemap_in, Line.is_sitemap}
 use Rattle.texting_robots.specs.declared.labels.{LabeledLine.LabeledLine}
 use Rattle.robots_warnings.specs.Internal.Names.{AddsName, Key}
@@ -85,12 +85,8 @@ sitemaps_next labels at labeled below =
     ∙ filter_map-append sitemap_in here later
 
 none_at : (number : ℕ) (line : LineValue) → is_sitemap line ≡ false → sitemap_at number line ≡ []
-none_at number (UserAgent name) isnt = refl
-none_at number (Allow value) isnt = refl
-none_at number (Disallow value) isnt = refl
-none_at number (CrawlDelay delay) isnt = refl
 none_at number (Sitemap url) isnt = absurd (false≢true (sym isnt))
-none_at number (Raw body) isnt = refl
+none_at number line isnt = refl
 
 none_asked : (labels : List LabeledLine)
     → list_any (λ labeled. is_sitemap (by_value labeled.line)) labels ≡ false

@@ -7,13 +7,12 @@ use Rattle.std.specs.Str.{IsUtf8, all_scalars, chars, encode_utf8_all}
 use Rattle.std.proofs.lemmas.Bool.{and_parts, cases_Bool, Decides.nat_tests}
 use Rattle.std.proofs.lemmas.{List.Concat.flat_map-append, List.Folds.list_all-append, Simd.map-map}
 use Rattle.std.proofs.lemmas.Str.{chars-encodes, encodes-append, scalars-chars}
-use Rattle.serde_json.specs.{Data.Data, View.items_of, Written.has_float, Written.compact_text}
-use Rattle.serde_json.specs.Data.{array}
+use Rattle.serde_json.specs.Data.{Data, Members, array, object}
+use Rattle.serde_json.specs.{View.items_of, Written.compact_text, Written.has_float, Written.members_text}
 use Rattle.texting_robots.specs.Callers.{Allow, CrawlDelay, Disallow, Label, LineValue, Raw, Sitemap}
 use Rattle.texting_robots.specs.Callers.{UserAgent}
-use Rattle.printable_text.specs.Sanitize.{IsPrintable}
-use Rattle.printable_text.specs.{Lines.lf}
-use Rattle.printable_text.proofs.SanitizeLemmas.{append_printable, ascii_printable, sanitized_printable}
+use Rattle.printable_text.specs.{Sanitize.sanitized, Text.IsReport}
+use Rattle.printable_text.proofs.{ReportLemmas.brace_plain}
 use Rattle.audit_core.specs.Audit.{AgentValue, AuditValue, VerdictValue}
 use Rattle.audit_core.specs.{Rows.comment_of, Texts.may_fetch, declared.findings.Finding.Finding}
 use Rattle.rfc9309_laws.specs.{Conformance.has_syntax, Conformance.has_verdicts}
@@ -21,9 +20,9 @@ use Rattle.rfc9309_laws.specs.declared.conformance.Conformance.{Conformance}
 use Rattle.rfc9309_laws.specs.declared.conformance.Conformance.TheVariants.{OtherFile, OtherLine, Syntax}
 use Rattle.rfc9309_laws.specs.declared.conformance.Conformance.TheVariants.{Verdicts}
 use Rattle.robots_warnings.specs.Table.{all_causes, level_of, name_of}
-use Rattle.audit_json.specs.Json.{agent_json, audit_json, fault_json, finding_json, findings_json, json_line}
-use Rattle.audit_json.specs.Json.{known_json, line_json, list_json, number_json, rows_json, sanitized_json}
-use Rattle.audit_json.specs.Json.{text_json, value_json, verdict_json, word_json}
+use Rattle.audit_json.specs.Json.{agent_json, audit_json, fault_json, finding_json, findings_json}
+use Rattle.audit_json.specs.Json.{findings_text, json_line, known_json, line_json, list_json, number_json}
+use Rattle.audit_json.specs.Json.{rows_json, sanitized_json, text_json, value_json, verdict_json, word_json}
 use Rattle.audit_json.specs.Sarif.{all_rules, has_level_for, is_brace, literal_char, literal_text, log_json}
 use Rattle.audit_json.specs.Sarif.{result_json, rule_json, rules_named, shown, shown_after, takes_backslash}
 use lib.Utf8.{scalar}
@@ -32,10 +31,23 @@ pub listed : {X Y : Type 0} (json : Y → Data) (value : X → Y) (xs : List X)
     → list_json (λ x. json (value x)) xs ≡ list_json json (map value xs)
 listed json value xs = ap (λ (values : List Data). array (items_of values)) (sym (map-map json value xs))
 
-pub json_printable : (value : Data) → IsPrintable (json_line value)
-json_printable value =
-    append_printable true _ (lf ∷ []) (sanitized_printable (compact_text value))
-    (ascii_printable true (lf ∷ []) refl)
+-- a JSON object is a report of one line
+json_report : (members : Members) → IsReport (json_line (object members))
+json_report members = record {
+  lines = sanitized (compact_text (object members)) ∷ [];
+  each = (brace_plain (members_text false members), tt);
+  text_is = sym (append-nil (json_line (object members)));
+}
+
+pub audit_report : (has_rows : Bool) (audit : AuditValue) (found : List Finding)
+    → IsReport (json_line (audit_json has_rows audit found))
+audit_report has_rows audit found = json_report _
+
+pub findings_report : (file old : List ℕ) (found : List Finding) → IsReport (findings_text file old found)
+findings_report file old found = json_report _
+
+pub log_report : (uri : List ℕ) (found : List Finding) → IsReport (json_line (log_json uri found))
+log_report uri found = json_report _
 
 -- ---- No number is a floating-point number.
 

@@ -9,12 +9,11 @@ use Rattle.std.proofs.lemmas.{Slice.Eq.bytes_eq-Decides}
 use Rattle.std.specs.{HashMap.Updates, HashMap.get_by_text, HashMap.hash_map_len, List.list_any, Str.byte}
 use Rattle.std.specs.{Global.Global, Map.lookup, Option.option_or, String.string_eq, HashSet.contains_text}
 use Rattle.texting_robots.specs.Callers.{escaped, PlacedRule, by_value, label_by_value, LineValue, UserAgent}
-use Rattle.texting_robots.specs.Callers.{Allow, CrawlDelay, Disallow, Raw, Sitemap}
 use Rattle.texting_robots.specs.{Escape.is_escaped, declared.labels.LabeledLine.LabeledLine}
 use Rattle.texting_robots.specs.Group.{is_agent, is_group}
 use Rattle.texting_robots.proofs.Shared.{option_or_none}
 use Rattle.robots_warnings.proofs.ClosedLemmas.{differs, either}
-use Rattle.robots_warnings.specs.Conflicts.{allow_beside, compared, first_of}
+use Rattle.robots_warnings.specs.Conflicts.{allow_beside, at_line, compared, first_of}
 use Rattle.std.proofs.Math.Bool.{and-false, or-false, or-true}
 use Rattle.std.proofs.lemmas.Map.Text.{hash_map_updates_text, hash_set_updates_text}
 use Rattle.robots_warnings.specs.Internal.Rules.{HasFirst, Lines, Patterns, is_other_name}
@@ -22,7 +21,7 @@ use Rattle.robots_warnings.specs.{File.lines_of, Positions.preceding_with}
 use Rattle.robots_warnings.specs.Closed.{denies, is_first_name, is_partial, is_replacing, replacing}
 use Rattle.robots_warnings.specs.Closed.{replacing_from, star_rules}
 use Rattle.robots_warnings.specs.declared.positions.Preceding.{Preceding}
-use Rattle.robots_warnings.specs.declared.positions.Preceding.TheVariants.{Agent, Delay, Other}
+use Rattle.robots_warnings.specs.declared.positions.Preceding.TheVariants.{Agent, Other}
 use Rattle.std.specs.HashSet as set
 
 or_assoc : {X : Type 0} (a b c : Option X) → option_or (option_or a b) c ≡ option_or a (option_or b c)
@@ -51,18 +50,33 @@ first_added old new key number isnt updates other =
         rw (is, none) refl
     by (inr isnt) = rw isnt (sym (option_or_none (get_by_text old other)))
 
+joined : (old one rest : Option ℕ) {new all : Option ℕ} → new ≡ option_or old one
+    → option_or old (option_or one rest) ≡ all → option_or new rest ≡ all
+joined old one rest is was = ap (λ found. option_or found rest) is ∙ or_assoc old one rest ∙ was
+
 pub agents_next : (f : List ℕ → Option ℕ) (agents : List (Bor (List ℕ))) (at : ℕ) (item : Bor (List ℕ))
     (old : Option ℕ) {new all : Option ℕ} → at < length agents
     → new ≡ option_or old (f (slice_index_or agents at item).now)
     → option_or old (first_of f (map (λ agent. agent.now) (drop at agents))) ≡ all
     → option_or new (first_of f (map (λ agent. agent.now) (drop (at + 1) agents))) ≡ all
-agents_next f agents at item old {new} {all} below is was =
-    let rest = first_of f (map (λ agent. agent.now) (drop (at + 1) agents)) in
-    let names = slice_index_or agents at item ∷ drop (at + 1) agents in
-    let before : option_or old (first_of f (map (λ agent. agent.now) names)) ≡ all
-    = rw (drop_more agents at item below) at was in
-    ap (λ found. option_or found rest) is
-    ∙ or_assoc old (f (slice_index_or agents at item).now) rest ∙ before
+agents_next f agents at item old below is was =
+    joined old (f (slice_index_or agents at item).now)
+    (first_of f (map (λ agent. agent.now) (drop (at + 1) agents))) is
+    (rw (drop_more agents at item below) at was)
+
+-- loop step: what is found for one more rule was noted
+pub noted_next : (f : PlacedRule → Option ℕ) (rules : List PlacedRule) (at number : ℕ)
+    (placed item : PlacedRule) (old : Option ℕ) {other new all : Option ℕ} → at < length rules
+    → placed ≡ item → item ≡ slice_index_or rules at item → other ≡ f item
+    → new ≡ option_or old (if placed.line == number then other else None)
+    → option_or old (first_of (at_line number f) (drop at rules)) ≡ all
+    → option_or new (first_of (at_line number f) (drop (at + 1) rules)) ≡ all
+noted_next f rules at number placed item old {other} below same here found is was =
+    let one : (if placed.line == number then other else None)
+    ≡ at_line number f (slice_index_or rules at item) = rw (found, same) (ap (at_line number f) here) in
+    joined old (at_line number f (slice_index_or rules at item))
+    (first_of (at_line number f) (drop (at + 1) rules)) (is ∙ ap (option_or old) one)
+    (rw (drop_more rules at item below) at was)
 
 pub slash_or_star : (value : List ℕ)
     → bytes_eq (compared (escaped value)) (codes "/")
@@ -128,24 +142,14 @@ groups_among (labeled ∷ labels) = rw (groups_among labels) refl
 not_first : (preceding : Preceding) (line : LineValue) → is_agent line ≡ false
     → is_first_name preceding line ≡ false
 not_first Agent line isnt = refl
-not_first Delay line isnt = isnt
-not_first Other line isnt = isnt
+not_first preceding line isnt = isnt
 
 not_replacing : (agents : List (List ℕ)) (lines : List LineValue) (preceding : Preceding) (line : LineValue)
     (later : List LineValue) → is_other_name line ≡ false
     → is_replacing agents lines preceding line (line ∷ later) ≡ false
 not_replacing agents lines preceding (UserAgent value) later isnt =
     let star : bytes_eq value (codes "*") ≡ true = not-false _ isnt in rw star (simp and-false refl)
-not_replacing agents lines preceding (Allow value) later isnt =
-    rw (not_first preceding (Allow value) refl) refl
-not_replacing agents lines preceding (Disallow value) later isnt =
-    rw (not_first preceding (Disallow value) refl) refl
-not_replacing agents lines preceding (CrawlDelay delay) later isnt =
-    rw (not_first preceding (CrawlDelay delay) refl) refl
-not_replacing agents lines preceding (Sitemap value) later isnt =
-    rw (not_first preceding (Sitemap value) refl) refl
-not_replacing agents lines preceding (Raw body) later isnt =
-    rw (not_first preceding (Raw body) refl) refl
+not_replacing agents lines preceding line later isnt = rw (not_first preceding line refl) refl
 
 none_replacing : (agents : List (List ℕ)) (lines : List LineValue) (preceding : Preceding)
     (labels : List LabeledLine) → list_any (λ labeled. is_other_name (by_value labeled.line)) labels ≡ false

@@ -1,5 +1,5 @@
 //! Rules that contradict each other.
-ghost use Rattle.std.specs.Prelude.{◌≡◌, ◌==◌, ℕ, Bool, IfOk, List, None, OnOk, Some, codes, if◌then◌else◌, true};
+ghost use Rattle.std.specs.Prelude.{◌≡◌, ◌==◌, ◌&&◌, ℕ, Bool, IfOk, List, None, OnOk, Some, codes, if◌then◌else◌, true};
 ghost use Rattle.std.specs.Prelude.{map, string_bytes};
 ghost use Rattle.std.specs.HashMap.{get_by_text};
 ghost use Rattle.std.specs.{BTreeMap.get, BTreeSet.contains, Option.option_or, Ordering.nat_cmp, Str.bytes_eq};
@@ -128,6 +128,17 @@ fn overruling(rules: &[SiteRule<'_>], empty: &Numbers) -> Option<usize>
     }
 }
 
+/// `other` if the rule is an empty Disallow.
+fn if_empty(rule: &SiteRule<'_>, other: Option<usize>, empty: &Numbers) -> Option<usize>
+    ensures { result ≡ (if rule.now.rule.1 && contains nat_cmp empty.now rule.now.line then other else None) }
+{
+    if rule.is_allow && empty.contains(&rule.line) {
+        other
+    } else {
+        None
+    }
+}
+
 /// Inserts the lines of Disallows that contradict an Allow, and of empty Disallows that contradict a
 /// Disallow, of these rules of one crawler.
 fn add_others(
@@ -149,9 +160,8 @@ fn add_others(
     for rule in rules {
         let allow = allow_beside(alloc, &allowed, rule)?;
         note(conflicts, rule.line, allow)?;
-        if rule.is_allow && empty.contains(&rule.line) {
-            note(overruled, rule.line, other)?;
-        }
+        let disallow = if_empty(rule, other, empty);
+        note(overruled, rule.line, disallow)?;
     }
     Ok(())
 }

@@ -109,7 +109,6 @@ fn warn_in_general<'a>(
     warn_of_urls(alloc, found, urls)
 }
 
-#[tactic(auto, using(crate::proofs::PlainLemmas::plain_has_none))]
 fn warn_of_rule(found: &mut Found<'_>, line: Option<usize>, value: &[u8]) -> Result<(), AllocError>
     ensures { OnOk result (Adds found.old.items found.new.items (warned line None (rule_checks value.now))) }
 {

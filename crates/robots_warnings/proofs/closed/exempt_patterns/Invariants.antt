@@ -7,5 +7,5 @@ use Rattle.robots_warnings.proofs.closed.exempt_patterns.Given as goal
 abbrev pub invariant-loop-url : goal.invariant-loop-url
 invariant-loop-url l = (pattern : List ℕ)
     → (contains_text l.patterns pattern || list_any (is_literally pattern)
-    (filter_map opened_path (map (λ url. url.now) (drop l.url-index l.urls.items))))
+    (filter_map opened_path (map (λ url. url.now) (drop l.url-index l.url-items))))
     ≡ is_exempt (file_lines l.site) pattern

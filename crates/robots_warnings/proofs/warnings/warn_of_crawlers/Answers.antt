@@ -12,7 +12,8 @@ returns c =
     let agents = map (λ agent. agent.now) c.args.agents.now in
     let lines = file_lines c.args.read.now.site in
     let is_empty = is_empty_at labels in
-    let empty : contains nat_cmp c.in_ok-empty.empty ≡ is_empty = λ i n. c.in_ok-empty.ensures n i in
+    let are_empty = rw c.deref.ensures.value at c.in_ok-empty.ensures in
+    let empty : contains nat_cmp c.in_ok-empty.empty ≡ is_empty = λ i n. are_empty n i in
     let are = c.in_ok-lines.ensures in
     let same : flat_map (λ label. warnings_at c.in_ok-lines.lines label.number) labels
     ≡ crawler_warnings is_empty agents lines labels = λ i. flat_map (λ label. rule_warnings
@@ -20,4 +21,5 @@ returns c =
     (λ n. (are.overruled n ∙ ap (λ is_empty. overruled is_empty agents lines n) empty) i)
     label.number) labels in
     subst (λ more. OnOk c.warn_of_numbers.result
-    (Adds c.args.found.now.items c.warn_of_numbers.new.found.items more)) same c.warn_of_numbers.ensures
+    (Adds c.args.found.now.items c.warn_of_numbers.new.found.items more)) same
+    (rw c.deref-2.ensures.value at c.warn_of_numbers.ensures)
