@@ -118,20 +118,14 @@ fn all_differences(alloc: Global, comparison: &Comparison<'_>) -> Result<Finding
     Ok(found)
 }
 
-/// Such as `old: old.txt (empty), new: robots.txt`.
-fn write_sides(out: &mut Report, older: &Side<'_>, newer: &Side<'_>) -> fmt::Result {
-    let mut front = "old: ";
-    for side in [older, newer] {
-        let end = if side.has_no_directive {
-            " (empty)"
-        } else {
-            ""
-        };
-        let name = side.name;
-        write!(out, "{front}{name}{end}")?;
-        front = ", new: ";
-    }
-    out.end_line()
+fn write_side(out: &mut Report, front: &str, side: &Side<'_>) -> fmt::Result {
+    let end = if side.has_no_directive {
+        " (empty)"
+    } else {
+        ""
+    };
+    let name = side.name;
+    write!(out, "{front}{name}{end}")
 }
 
 fn write_messages(out: &mut Report, found: &Findings) -> fmt::Result {
@@ -167,7 +161,9 @@ fn write_report(alloc: Global, out: &mut Report, comparison: &Comparison<'_>) ->
         Section::Urls,
         Section::SameRules,
     ];
-    write_sides(out, &comparison.older, &comparison.newer)?;
+    write_side(out, "old: ", &comparison.older)?;
+    write_side(out, ", new: ", &comparison.newer)?;
+    out.end_line()?;
     let mut found = Vec::new(alloc);
     add_crawlers(alloc, &mut found, &sections, &comparison.crawlers)?;
     write_messages(out, &found)?;

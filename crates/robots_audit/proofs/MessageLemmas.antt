@@ -15,7 +15,7 @@ use Rattle.clap.specs.{declared.parser.matches.ArgMatches.ArgMatches}
 use Rattle.printable_text.proofs.ReportLemmas.{report_printable, shown_colored, shown_nil}
 use Rattle.audit_core.specs.Request.{RequestValue, requested_by, requested_colors}
 use Rattle.audit_core.specs.{Answer.IsText, Audit.AuditValue, declared.answer.Answer.Answer, Findings.Found}
-use Rattle.audit_core.specs.{declared.request.Format.Format}
+use Rattle.audit_core.specs.{declared.findings.Finding.Finding, declared.request.Format.Format}
 use Rattle.audit_core.specs.declared.request.Format.TheVariants.{Text, Github, Html, Json, Sarif}
 use Rattle.audit_text.proofs.{GithubLemmas.github_printable}
 use Rattle.audit_json.specs.{Json.json_line}
@@ -80,7 +80,7 @@ pub text_safe : (answer : Answer) → IsText answer → IsSafeAnswer answer
 text_safe answer is = record { report = inl is.report; warnings = silent true answer is.quiet }
 
 annotated : (file text : List ℕ) (found : List Found) → AreAnnotations file found text → IsSafe text
-annotated file text found (all, are, is) = inr (inr (file, all, is))
+annotated file text found is = inr (inr (file, is.findings, is.text_is))
 
 lined : (text : List ℕ) (value : Data) → text ≡ json_line value → IsReport (json_line value) → IsSafe text
 lined text value is safe = inl (subst IsReport (sym is) safe)
@@ -93,10 +93,10 @@ output_safe Html requested audit text is = inr (inl is)
 output_safe Github requested audit text is = annotated _ text _ is
 output_safe Sarif requested audit text is = lined text _ is.text_is (log_report _ is.findings)
 
-listed_safe : (format : Format) (file old : List ℕ) (found : List Found) (text : List ℕ)
+listed_safe : (format : Format) (file old : List ℕ) (found : List Finding) (text : List ℕ)
     → IsListedIn format file old found text → IsSafe text
-listed_safe Json file old found text (all, are, is) = lined text _ is (findings_report file old all)
-listed_safe Github file old found text is = annotated file text found is
+listed_safe Json file old found text is = lined text _ is (findings_report file old found)
+listed_safe Github file old found text is = inr (inr (file, found, is))
 listed_safe Text file old found text is = inl is
 listed_safe Html file old found text is = absurd is
 listed_safe Sarif file old found text is = absurd is

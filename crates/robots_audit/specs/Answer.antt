@@ -36,9 +36,10 @@ abbrev pub reported : RequestValue → AuditValue → AuditValue
 reported requested audit = shown (leaves_out_allowed requested) audit
 
 -- what was found in the file with this name, as annotations
-abbrev pub AreAnnotations : (file : List ℕ) → List Found → List ℕ → Type 0
-AreAnnotations file found text =
-    (all : List Finding) × (map found_of all ≡ found) × (text ≡ github_text file all)
+pub record AreAnnotations (file : List ℕ) (found : List Found) (text : List ℕ) : Type 0 where
+  pub findings : List Finding
+  pub are : map found_of findings ≡ found
+  pub text_is : text ≡ github_text file findings
 
 -- the report in this format
 abbrev pub IsOutput : Format → RequestValue → AuditValue → List ℕ → Type 0
@@ -71,10 +72,9 @@ pub record IsAudited (requested : RequestValue) (file : List ℕ) (answer : Answ
 
 -- the report in this format on what was found in the file with this name; an empty name means that there is
 -- no old file
-abbrev pub IsListedIn : Format → (file old : List ℕ) → List Found → List ℕ → Type 0
-IsListedIn Json file old found text =
-    (all : List Finding) × (map found_of all ≡ found) × (text ≡ findings_text file old all)
-IsListedIn Github file old found text = AreAnnotations file found text
+abbrev pub IsListedIn : Format → (file old : List ℕ) → List Finding → List ℕ → Type 0
+IsListedIn Json file old found text = text ≡ findings_text file old found
+IsListedIn Github file old found text = text ≡ github_text file found
 IsListedIn Text file old found text = IsReport text
 IsListedIn format file old found text = ⊥
 
@@ -89,8 +89,8 @@ abbrev pub IsFormatFault : Format → Fault → Type 0
 IsFormatFault format fault = (fault ≡ Memory) ⊎ ((is_for_audits format ≡ true) × (fault ≡ OfAudits))
 
 -- the answer is this report, and whether a file is rejected and all is well; there are no warnings
-pub record IsListed (format : Format) (file old : List ℕ) (found : List Found) (is_rejected has_passed : Bool)
-    (answer : Answer) : Type 0 where
+pub record IsListed (format : Format) (file old : List ℕ) (found : List Finding)
+    (is_rejected has_passed : Bool) (answer : Answer) : Type 0 where
   pub report : IsListedIn format file old found answer.report.items
   pub rejected : answer.outcome.is_rejected ≡ is_rejected
   pub passed : answer.outcome.has_passed ≡ has_passed
@@ -102,13 +102,15 @@ pub record IsCompared (requested : RequestValue) (older_name older newer_name ne
     (answer : Answer) : Type 0 where
   pub comparison : ComparisonValue
   pub of : IsComparison requested.agents requested.urls older_name older newer_name newer comparison
-  pub listed : IsListed requested.format (shown_name requested.file) older_name (all_differences comparison)
-      (rejects_one comparison) (differs_nowhere comparison) answer
+  pub found : List Finding
+  pub found_are : map found_of found ≡ all_differences comparison
+  pub listed : IsListed requested.format (shown_name requested.file) older_name found (rejects_one comparison)
+      (differs_nowhere comparison) answer
 
 -- a rejected file is a failure
 pub record IsExpected (format : Format) (name text file : List ℕ) (answer : Answer) : Type 0 where
-  pub found : List Found
-  pub of : AreFailuresOf text file found
+  pub found : List Finding
+  pub of : AreFailuresOf text file (map found_of found)
   pub listed : IsListed format name [] found false (length found == 0) answer
 
 abbrev pub given_name : Option (List ℕ) → List ℕ

@@ -5,7 +5,7 @@ ghost use Rattle.robots_audit.specs.Answer.{IsListed, IsOutput, given_name, has_
 ghost use Rattle.printable_text.specs.Text.{IsShownReport};
 ghost use Rattle.audit_compare.specs.Compare.{IsComparison};
 ghost use Rattle.audit_core.specs.declared.fault.Entry.TheVariants.{Expectation};
-ghost use Rattle.audit_core.specs.{Findings.found_of, Request.requested_by};
+ghost use Rattle.audit_core.specs.{Request.requested_by};
 ghost use Rattle.audit_expect.specs.Expect.{IsEntryFault, expectations_in};
 
 use audit_compare::compare::{
@@ -141,8 +141,8 @@ fn listed(
     is_rejected: bool,
     has_passed: bool,
 ) -> Result<Answer, Fault>
-    ensures ok { IfOk result (IsListed format file.now old.now (map found_of reported.1.items)
-        is_rejected has_passed) }
+    ensures ok { IfOk result (IsListed format file.now old.now reported.1.items is_rejected
+        has_passed) }
     ensures fault { IfErr result (IsFormatFault format) }
 {
     let (text, found) = reported;
