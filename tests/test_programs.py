@@ -209,6 +209,14 @@ def test_many_pages():
     assert run("robots_verdict", stdin=text.encode()) == Result(0, out, "")
 
 
+@pytest.mark.parametrize("white", ["", " ", "\u00A0", "\u3000 "], ids=["none", "space", "no break", "wide"])
+def test_the_name_of_a_file_begins_no_command(white, tmp_path):
+    """GitHub's runner drops white space of Unicode at the start of a line before it looks for a command."""
+    path = tmp_path / f"{white}::error::x"
+    path.write_text("User-agent: *\nDisallow: a\n")
+    assert run("robots_audit", [path.name], cwd=tmp_path).err.startswith(f"\\{path.name}:2: ")
+
+
 def test_messages_of_robots_examples(tmp_path):
     """The program of docs/GUIDE.md. `rt ci` runs it on its data."""
     path = tmp_path / "robots.txt"

@@ -2,26 +2,24 @@
 use Rattle.std.proofs.Common.{◌≡◌, ◌∙◌, ◌↔◌, ◌||◌, ℕ, zero, suc, Bool, true, false, List, [], ◌∷◌, Contains}
 use Rattle.std.proofs.Common.{None, Option, Some, ap, arith, not, refl, ⊎_elim, subst, ◌==◌, if◌then◌else◌}
 use Rattle.std.proofs.Common.{length, sym, ◌+◌, ◌<◌, Bor, ◌++◌, append_assoc, bytes_eq, cond, drop, map}
-use Rattle.std.proofs.Common.{slice_index_or, string_bytes, take}
+use Rattle.std.proofs.Common.{slice_index_or, take}
 use Rattle.std.proofs.Math.{Bool.beq, Seq.drop-nil}
 use Rattle.std.specs.{List.AllZip, BTreeSet.BTreeSet, BTreeSet.Updates, BTreeSet.contains}
 use Rattle.std.proofs.lemmas.{Bool.and_parts, Bool.or_cases, Grind.common_steps, Slice.Eq.bytes_eq-Decides}
-use Rattle.std.proofs.lemmas.{List.map_more, Map.Text.is_eq-slice_cmp, Simd.map-map}
+use Rattle.std.proofs.lemmas.{List.map_more, Map.Text.is_eq-slice_cmp}
 use Rattle.std.proofs.lemmas.List.{Folds.Any-from_list_any, drop_more}
 use Rattle.texting_robots.specs.Callers.{IsDenied, IsVerdict, LineValue, PlacedRule, Rule, placed_rules}
 use Rattle.texting_robots.specs.Callers.{rules_for, unplaced}
 use Rattle.texting_robots.specs.{Decision.IsDecisionOn, declared.decision.Decision.Decision}
 use Rattle.texting_robots.proofs.Shared.{one_verdict}
-use Rattle.audit_core.specs.{Asked.asked_target, Findings.FindingValue, Findings.finding_value}
+use Rattle.audit_core.specs.{Asked.asked_target}
 use Rattle.audit_core.specs.Audit.{IsRuling, IsVerdictOn, VerdictValue}
 use Rattle.audit_core.proofs.{AuditLemmas.none_of}
 use Rattle.audit_compare.specs.Compare.{ComparedValue, IsCompared, has_rule, has_same_rules, is_same_decision}
 use Rattle.audit_compare.specs.Compare.{is_same_rule, is_unchanged, rules_lacked, rules_only_in, url_changes}
-use Rattle.audit_compare.specs.Compare.{Difference, finding_of, is_listed, new_texts}
-use Rattle.printable_text.specs.{Text.line_text}
+use Rattle.audit_compare.specs.Compare.{is_listed, new_texts}
 use Rattle.robots_warnings.specs.Internal.Names.{Key, key_cmp}
 use Rattle.robots_warnings.proofs.ClosedLemmas.{any_last, either}
-use Rattle.audit_core.specs.declared.findings.{Finding.Finding}
 use Rattle.audit_compare.specs.Internal.Compare.{AddsText}
 
 -- ---- Rules that other rules lack, and the verdicts by the same rules.
@@ -205,13 +203,3 @@ pub found_more : (front : List (List ℕ)) (items : List (Bor (List ℕ))) (at :
 found_more front items at d found new whole is_new below was added before =
     rw (added, was, ← texts_more front items at d below, append_assoc)
     (rw (drop_more items at d below) at before)
-
-pub messages_of : (found : List Finding) (differences : List Difference)
-    → map finding_value found ≡ map finding_of differences
-    → map (λ finding. string_bytes finding.message) found
-    ≡ map line_text (map (λ (difference : Difference). difference.text) differences)
-messages_of found differences same =
-    let message = λ (value : FindingValue). value.message in
-    sym (map-map message finding_value found) ∙ ap (map message) same
-    ∙ map-map message finding_of differences
-    ∙ sym (map-map line_text (λ (difference : Difference). difference.text) differences)

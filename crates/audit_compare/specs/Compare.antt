@@ -1,21 +1,17 @@
 -- Two versions of a robots.txt file compared.
 use Rattle.std.specs.Prelude.{◌≡◌, ℕ, ◌==◌, Bool, true, false, not, ◌&&◌, ◌||◌, List, [], ◌∷◌, ◌++◌, Option}
 use Rattle.std.specs.Prelude.{Some, None, bytes_eq, codes, filter, flat_map, if◌then◌else◌, is_some, length}
-use Rattle.std.specs.Prelude.{map, nat_eq, refl}
+use Rattle.std.specs.Prelude.{map, nat_eq}
 use Rattle.std.specs.{List.AllZip, List.list_all, List.list_any, Option.option_eq}
 use Rattle.std.proofs.Math.{Bool.beq}
 use Rattle.texting_robots.specs.Callers.{LineValue, PlacedRule, Rule, lines_read, placed_rules, sitemaps_in}
 use Rattle.texting_robots.specs.declared.decision.{Decision.Decision}
-use Rattle.printable_text.specs.declared.level.Level.{Level}
 use Rattle.printable_text.specs.declared.level.Level.TheVariants.{Error, Note, Warning}
-use Rattle.printable_text.specs.Text.{Absent, Fixed, Label, Number, Part, PartValue, ReportLine, Untrusted}
-use Rattle.printable_text.specs.Text.{Value, Word, is_fixed, label, line_from, only, starts_line, word}
 use Rattle.robots_warnings.specs.{declared.facts.LineKinds.LineKinds, Facts.kinds_of}
 use Rattle.audit_core.specs.declared.group.Group.{Group}
 use Rattle.audit_core.specs.declared.group.Group.TheVariants.{Everyone, Named, Nobody, Star}
 use Rattle.audit_core.specs.Audit.{AgentValue, IsAgentAudit, VerdictValue, agents_requested}
-use Rattle.audit_core.specs.Findings.{FindingValue, Found, Parts, found_value}
-use Rattle.audit_core.specs.Texts.{delay_value, group_value, rejected_parts}
+use Rattle.audit_core.specs.Findings.{Found}
 use Rattle.audit_compare.specs.declared.differences.Section.{Section, TheVariants.Groups}
 use Rattle.audit_compare.specs.declared.differences.Section.TheVariants.{Rejections, Rules, SameRules, Urls}
 
@@ -126,43 +122,10 @@ pub record IsComparison (agents : List (List ℕ)) (urls : List (List ℕ))
   pub removed_are : comparison.removed ≡ sitemaps_only_in (lines_read older) (lines_read newer)
   pub added_are : comparison.added ≡ sitemaps_only_in (lines_read newer) (lines_read older)
 
--- a difference as a finding: how serious it is, the line of the newer file that it is about, if there is one,
--- its name, and its line in the report
-pub record Difference : Type 0 where
-  pub level : Level
-  pub line : Option ℕ
-  pub name : Fixed
-  pub text : ReportLine
+-- ---- What differs, as findings with lines of the newer file.
 
-abbrev pub found_in : Difference → Found
-found_in difference = record {
-  level = difference.level;
-  line = difference.line;
-  name = difference.name;
-  message = Parts (difference.text.first ∷ difference.text.rest);
-}
-
-abbrev pub finding_of : Difference → FindingValue
-finding_of difference = found_value (found_in difference)
-
--- most differences are notes
-abbrev pub note : (name : List ℕ) → is_fixed name ≡ true → ReportLine → Difference
-note name is text = record {
-  level = Note;
-  line = None;
-  name = record { text = name; safe = is };
-  text = text;
-}
-
--- each line begins with a word of its own, as the name may come from a file and begin with anything
-abbrev pub crawler : List ℕ → PartValue
-crawler agent = Part (label (codes "crawler ") refl) (Untrusted agent)
-
-abbrev pub about : List ℕ → List PartValue → ReportLine
-about agent what = line_from (crawler agent) refl what
-
-abbrev pub arrow : Label
-arrow = label (codes " -> ") refl
+abbrev pub note : (name : List ℕ) → Found
+note name = record { level = Note; line = None; name = name }
 
 abbrev pub is_same_group : Group → Group → Bool
 is_same_group Named Named = true
@@ -171,83 +134,34 @@ is_same_group Nobody Nobody = true
 is_same_group Everyone Everyone = true
 is_same_group _ _ = false
 
--- the groups, if they differ: `none` if no group applies, and `everyone` if the file has no user-agent line
-abbrev pub group_changes : List ℕ → Group → Group → List Difference
-group_changes agent older newer =
-    if is_same_group older newer then []
-    else note (codes "group") refl
-    (about agent (Part (label (codes ": group ") refl) (group_value agent older)
-    ∷ Part arrow (group_value agent newer) ∷ [])) ∷ []
+abbrev pub group_changes : Group → Group → List Found
+group_changes older newer = if is_same_group older newer then [] else note (codes "group") ∷ []
 
--- the delays, if they differ
-abbrev pub delay_changes : List ℕ → (older newer : Option ℕ) → List Difference
-delay_changes agent older newer =
-    if option_eq nat_eq older newer then []
-    else note (codes "delay") refl
-    (about agent (Part (label (codes ": delay ") refl) (delay_value older)
-    ∷ Part arrow (delay_value newer) ∷ [])) ∷ []
+abbrev pub delay_changes : (older newer : Option ℕ) → List Found
+delay_changes older newer = if option_eq nat_eq older newer then [] else note (codes "delay") ∷ []
 
-abbrev pub sign : (is_added : Bool) → Label
-sign true = label (codes ": + ") refl
-sign false = label (codes ": - ") refl
+abbrev pub rule_name : (is_added : Bool) → List ℕ
+rule_name is_added = if is_added then codes "rule-added" else codes "rule-removed"
 
-abbrev pub rule_name : (is_added : Bool) → Fixed
-rule_name true = record { text = codes "rule-added"; safe = refl }
-rule_name false = record { text = codes "rule-removed"; safe = refl }
-
-abbrev pub kind_word : (is_allow : Bool) → Value
-kind_word true = word (codes "Allow") refl
-kind_word false = word (codes "Disallow") refl
-
--- such as `crawler Googlebot: - Disallow: /x (line 4)`
-abbrev pub rule_line : List ℕ → (is_added : Bool) → PlacedRule → ReportLine
-rule_line agent is_added placed =
-    about agent (Part (sign is_added) (kind_word placed.rule.1)
-    ∷ Part (label (codes ": ") refl) (Untrusted placed.rule.0)
-    ∷ Part (label (codes " (line ") refl) (Number placed.line) ∷ only (codes ")") refl ∷ [])
-
-abbrev pub rule_change : List ℕ → (is_added : Bool) → PlacedRule → Difference
-rule_change agent is_added placed = record {
+abbrev pub rule_change : (is_added : Bool) → PlacedRule → Found
+rule_change is_added placed = record {
   level = Note;
   line = if is_added then Some placed.line else None;
   name = rule_name is_added;
-  text = rule_line agent is_added placed;
 }
 
-abbrev pub verdict_word : (allowed : Bool) → Value
-verdict_word true = word (codes "allow") refl
-verdict_word false = word (codes "deny") refl
-
--- the line that decides
-abbrev pub deciding : Option ℕ → PartValue
-deciding None = Absent
-deciding (Some line) = Part (label (codes " ") refl) (Number line)
-
 -- what the change does to a URL; without another verdict, another rule decides
-abbrev pub change_name : (older newer : Bool) → Fixed
-change_name true false = record { text = codes "closed"; safe = refl }
-change_name false true = record { text = codes "opened"; safe = refl }
-change_name older newer = record { text = codes "other-rule"; safe = refl }
-
-abbrev pub change_part : (older newer : Bool) → PartValue
-change_part older newer =
-    if beq older newer then Absent else Part (label (codes ", ") refl) (Word (change_name older newer))
-
--- such as `crawler Googlebot /products/tea: allow -> deny 3, closed`
-abbrev pub url_line : List ℕ → UrlChangeValue → ReportLine
-url_line agent change =
-    about agent (Part (label (codes " ") refl) (Untrusted change.url)
-    ∷ Part (label (codes ": ") refl) (verdict_word change.older.allowed) ∷ deciding change.older.line
-    ∷ Part arrow (verdict_word change.newer.allowed) ∷ deciding change.newer.line
-    ∷ change_part change.older.allowed change.newer.allowed ∷ [])
+abbrev pub change_name : (older newer : Bool) → List ℕ
+change_name true false = codes "closed"
+change_name false true = codes "opened"
+change_name older newer = codes "other-rule"
 
 -- a URL that was closed is a warning
-abbrev pub url_change : List ℕ → UrlChangeValue → Difference
-url_change agent change = record {
+abbrev pub url_change : UrlChangeValue → Found
+url_change change = record {
   level = if change.older.allowed && not change.newer.allowed then Warning else Note;
   line = change.newer.line;
   name = change_name change.older.allowed change.newer.allowed;
-  text = url_line agent change;
 }
 
 abbrev pub is_rejected : ComparedValue → Bool
@@ -263,128 +177,62 @@ is_unchanged compared =
     ((not (is_rejected compared) && is_same_group compared.older.group compared.newer.group)
     && option_eq nat_eq compared.older.delay compared.newer.delay) && has_same_rules compared
 
-abbrev pub file_part : (is_new : Bool) → PartValue
-file_part true = only (codes "the new file is ") refl
-file_part false = only (codes "the old file is ") refl
+abbrev pub rejection_name : (is_new : Bool) → List ℕ
+rejection_name is_new = if is_new then codes "rejected" else codes "old-rejected"
 
-abbrev pub file_begins : (is_new : Bool) → starts_line (file_part is_new) ≡ true
-file_begins true = refl
-file_begins false = refl
-
-abbrev pub rejection_name : (is_new : Bool) → Fixed
-rejection_name true = record { text = codes "rejected"; safe = refl }
-rejection_name false = record { text = codes "old-rejected"; safe = refl }
-
--- that this file is rejected for the crawler, and why, if it is
-abbrev pub rejection_of : (is_new : Bool) → List ℕ → Option ℕ → List Difference
-rejection_of is_new agent None = []
-rejection_of is_new agent (Some line) = (record {
+-- that this file is rejected for a crawler, if it is
+abbrev pub rejection : (is_new : Bool) → Option ℕ → List Found
+rejection is_new None = []
+rejection is_new (Some line) = (record {
   level = Error;
   line = if is_new then Some line else None;
   name = rejection_name is_new;
-  text = line_from (file_part is_new) (file_begins is_new) (rejected_parts agent line);
 }) ∷ []
 
-abbrev pub rejection : (is_new : Bool) → AgentValue → List Difference
-rejection is_new audit = rejection_of is_new audit.agent audit.rejected
-
--- that no rule was removed or added, if that is so
-abbrev pub same_rules : List ℕ → (has_same : Bool) → List Difference
-same_rules agent has_same =
-    if has_same then note (codes "same-rules") refl
-    (about agent (only (codes ": same rules, so no URL's verdict differs") refl ∷ [])) ∷ []
-    else []
-
 -- what a section of the report says of a crawler for which no file is rejected
-abbrev pub accepted_changes : Section → ComparedValue → List Difference
+abbrev pub accepted_changes : Section → ComparedValue → List Found
 accepted_changes Groups compared =
-    group_changes compared.agent compared.older.group compared.newer.group
-    ++ delay_changes compared.agent compared.older.delay compared.newer.delay
+    group_changes compared.older.group compared.newer.group
+    ++ delay_changes compared.older.delay compared.newer.delay
 accepted_changes Rules compared =
-    map (rule_change compared.agent false) compared.removed
-    ++ map (rule_change compared.agent true) compared.added
-accepted_changes Urls compared = map (url_change compared.agent) compared.changes
+    map (rule_change false) compared.removed ++ map (rule_change true) compared.added
+accepted_changes Urls compared = map url_change compared.changes
 accepted_changes SameRules compared =
-    same_rules compared.agent (has_same_rules compared && not (is_unchanged compared))
+    if has_same_rules compared && not (is_unchanged compared) then note (codes "same-rules") ∷ [] else []
 accepted_changes Rejections compared = []
 
-abbrev pub section_changes : Section → ComparedValue → List Difference
-section_changes Rejections compared = rejection false compared.older ++ rejection true compared.newer
+abbrev pub section_changes : Section → ComparedValue → List Found
+section_changes Rejections compared =
+    rejection false compared.older.rejected ++ rejection true compared.newer.rejected
 section_changes section compared = if is_rejected compared then [] else accepted_changes section compared
 
 -- what these sections say, in order
-abbrev pub crawler_changes : List Section → ComparedValue → List Difference
+abbrev pub crawler_changes : List Section → ComparedValue → List Found
 crawler_changes sections compared = flat_map (λ section. section_changes section compared) sections
 
-abbrev pub unchanged_part : PartValue
-unchanged_part = only (codes ": no group, delay or rule differs, so no URL's verdict does") refl
+abbrev pub sitemap_name : (is_added : Bool) → List ℕ
+sitemap_name is_added = if is_added then codes "sitemap-added" else codes "sitemap-removed"
 
--- the unchanged crawlers are all that were compared, or the others
-abbrev pub several_line : (all : Bool) → ReportLine
-several_line true = line_from (only (codes "all compared crawlers") refl) refl (unchanged_part ∷ [])
-several_line false = line_from (only (codes "other compared crawlers") refl) refl (unchanged_part ∷ [])
+abbrev pub sitemap_change : (is_added : Bool) → List ℕ → Found
+sitemap_change is_added text = note (sitemap_name is_added)
 
-abbrev pub unchanged_line : List ComparedValue → ReportLine
-unchanged_line (compared ∷ []) = about compared.agent (unchanged_part ∷ [])
-unchanged_line crawlers = several_line (list_all is_unchanged crawlers)
-
--- those on which nothing else is reported, if there are some
-abbrev pub unchanged : List ComparedValue → List Difference
-unchanged crawlers =
-    if list_any is_unchanged crawlers then note (codes "unchanged") refl (unchanged_line crawlers) ∷ []
-    else []
-
-abbrev pub sitemap_change : (is_added : Bool) → List ℕ → Difference
-sitemap_change true text =
-    note (codes "sitemap-added") refl
-    (line_from (Part (label (codes "sitemap added: ") refl) (Untrusted text)) refl [])
-sitemap_change false text =
-    note (codes "sitemap-removed") refl
-    (line_from (Part (label (codes "sitemap removed: ") refl) (Untrusted text)) refl [])
-
-abbrev pub sitemap_changes : ComparisonValue → List Difference
+abbrev pub sitemap_changes : ComparisonValue → List Found
 sitemap_changes comparison =
     map (sitemap_change false) comparison.removed ++ map (sitemap_change true) comparison.added
 
--- what the text has of a comparison
-abbrev pub all_lines : ComparisonValue → List Difference
-all_lines comparison =
-    flat_map (crawler_changes (Rejections ∷ Groups ∷ Rules ∷ Urls ∷ SameRules ∷ [])) comparison.crawlers
-    ++ unchanged comparison.crawlers ++ sitemap_changes comparison
-
-abbrev pub empty_line : ReportLine
-empty_line = line_from (only (codes "the new file has no directive") refl) refl []
-
 -- that the new file has no directive, but the old one has some
-abbrev pub emptied : SideValue → SideValue → List Difference
+abbrev pub emptied : SideValue → SideValue → List Found
 emptied older newer =
     if newer.has_no_directive && not older.has_no_directive
-    then record (note (codes "empty") refl empty_line) { level = Warning } ∷ [] else []
+    then record { level = Warning; line = None; name = codes "empty" } ∷ [] else []
 
 -- what annotations and JSON have: first rejections and verdicts, as a service may show only some findings
-abbrev pub all_differences : ComparisonValue → List Difference
+abbrev pub all_differences : ComparisonValue → List Found
 all_differences comparison =
     emptied comparison.older comparison.newer
     ++ flat_map (crawler_changes (Rejections ∷ [])) comparison.crawlers
     ++ flat_map (crawler_changes (Urls ∷ [])) comparison.crawlers
     ++ flat_map (crawler_changes (Groups ∷ Rules ∷ [])) comparison.crawlers ++ sitemap_changes comparison
-
--- that a file has no directive
-abbrev pub empty_part : (has_no_directive : Bool) → PartValue
-empty_part true = only (codes " (empty)") refl
-empty_part false = Absent
-
--- such as `old: old.txt (empty), new: robots.txt`
-abbrev pub sides_line : SideValue → SideValue → ReportLine
-sides_line older newer =
-    line_from (Part (label (codes "old: ") refl) (Untrusted older.name)) refl
-    (empty_part older.has_no_directive ∷ Part (label (codes ", new: ") refl) (Untrusted newer.name)
-    ∷ empty_part newer.has_no_directive ∷ [])
-
-abbrev pub report_lines : ComparisonValue → List ReportLine
-report_lines comparison =
-    sides_line comparison.older comparison.newer
-    ∷ map (λ (difference : Difference). difference.text) (all_lines comparison)
 
 abbrev pub rejects_some : ComparisonValue → Bool
 rejects_some comparison = list_any is_rejected comparison.crawlers

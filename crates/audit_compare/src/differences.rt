@@ -1,25 +1,23 @@
 //! What differs between two files for a crawler, as findings.
-ghost use Rattle.std.specs.Prelude.{◌≡◌, ◌++◌, ◌∷◌, [], OnOk, map};
+ghost use Rattle.std.specs.Prelude.{◌≡◌, ◌∷◌, [], OnOk, map};
 ghost use Rattle.std.specs.List.{list_all};
-ghost use Rattle.printable_text.specs.Raw.{raw_line, raw_text, raw_value};
-ghost use Rattle.printable_text.specs.Text.{line_text, part_text, value_text};
-ghost use Rattle.audit_core.specs.Findings.{finding_value};
-ghost use Rattle.audit_compare.specs.Compare.{change_name, change_part, crawler, crawler_changes, deciding};
-ghost use Rattle.audit_compare.specs.Compare.{delay_changes, file_part, group_changes, has_same_rules};
-ghost use Rattle.audit_compare.specs.Compare.{is_rejected, is_same_group, is_unchanged, rejection};
-ghost use Rattle.audit_compare.specs.Compare.{rejection_name, rule_change, rule_line, rule_name, same_rules};
-ghost use Rattle.audit_compare.specs.Compare.{section_changes, url_change, url_line, verdict_word};
-ghost use Rattle.audit_compare.specs.Internal.Compare.{Adds};
+ghost use Rattle.audit_core.specs.Findings.{Adds};
+ghost use Rattle.audit_compare.specs.Compare.{accepted_changes, change_name, crawler_changes, delay_changes};
+ghost use Rattle.audit_compare.specs.Compare.{group_changes, has_same_rules, is_rejected, is_same_group};
+ghost use Rattle.audit_compare.specs.Compare.{is_unchanged, rejection, rejection_name, rule_change};
+ghost use Rattle.audit_compare.specs.Compare.{rule_name, section_changes, url_change};
 
 use crate::compared::{Compared, UrlChange};
-use audit_core::audit::AgentAudit;
-use audit_core::findings::{Finding, Findings};
+use audit_core::findings::{Findings, add};
 use audit_core::group::Group;
 use audit_core::rules::Rule;
-use audit_core::texts::{delay_value, group_value, rejected_parts};
+use audit_core::texts::{DelayOrNone, Rejected};
 use printable_text::level::Level;
-use printable_text::parts::{Part, Value, push_parts};
-use std::alloc::{AllocError, Global};
+use printable_text::report::Line;
+use std::alloc::Global;
+use std::fmt;
+use std::fmt::Write;
+use texting_robots::robot::Decision;
 
 /// A section of what is reported on a crawler. If a file is rejected for it, the other sections are empty.
 #[derive(Clone, Copy)]
@@ -29,33 +27,6 @@ pub(crate) enum Section {
     Rules,
     Urls,
     SameRules,
-}
-
-pub(crate) fn add(
-    alloc: Global,
-    found: &mut Findings,
-    level: Level,
-    line: Option<usize>,
-    name: &'static str,
-    parts: &[Part<'_>],
-) -> Result<(), AllocError>
-    ensures { OnOk result (map finding_value found.new.items ≡ map finding_value found.old.items
-        ++ (record { level = level; line = line; name = name.now; message = raw_line parts.now }) ∷ []) }
-{
-    let mut message = String::new(alloc);
-    push_parts(&mut message, parts)?;
-    Ok(found.push(Finding {
-        level,
-        line,
-        name,
-        message,
-    })?)
-}
-
-pub(crate) fn crawler(agent: &str) -> Part<'_>
-    ensures { raw_text result ≡ part_text (crawler agent.now) }
-{
-    Part("crawler ", Value::Untrusted(agent.as_bytes()))
 }
 
 fn is_same_group(one: Group, other: Group) -> bool
@@ -70,24 +41,31 @@ fn is_same_group(one: Group, other: Group) -> bool
     }
 }
 
+fn group_name<'a>(agent: &'a str, group: Group) -> &'a str {
+    match group {
+        Group::Named => agent,
+        Group::Star => "*",
+        Group::Nobody => "none",
+        Group::Everyone => "everyone",
+    }
+}
+
 fn add_groups(
     alloc: Global,
     found: &mut Findings,
     agent: &str,
     older: Group,
     newer: Group,
-) -> Result<(), AllocError>
-    ensures { OnOk result (Adds found.old.items found.new.items (group_changes agent.now older newer)) }
+) -> fmt::Result
+    ensures { OnOk result (Adds found.old.items found.new.items (group_changes older newer)) }
 {
     if is_same_group(older, newer) {
         return Ok(());
     }
-    let parts = [
-        crawler(agent),
-        Part(": group ", group_value(agent, older)),
-        Part(" -> ", group_value(agent, newer)),
-    ];
-    add(alloc, found, Level::Note, None, "group", &parts)
+    let (old, new) = (group_name(agent, older), group_name(agent, newer));
+    let mut message = Line::new(alloc);
+    write!(message, "crawler {agent}: group {old} -> {new}")?;
+    add(alloc, found, Level::Note, None, "group", &message)
 }
 
 fn add_delays(
@@ -96,22 +74,20 @@ fn add_delays(
     agent: &str,
     older: Option<u64>,
     newer: Option<u64>,
-) -> Result<(), AllocError>
-    ensures { OnOk result (Adds found.old.items found.new.items (delay_changes agent.now older newer)) }
+) -> fmt::Result
+    ensures { OnOk result (Adds found.old.items found.new.items (delay_changes older newer)) }
 {
     if older == newer {
         return Ok(());
     }
-    let parts = [
-        crawler(agent),
-        Part(": delay ", delay_value(older)),
-        Part(" -> ", delay_value(newer)),
-    ];
-    add(alloc, found, Level::Note, None, "delay", &parts)
+    let (old, new) = (DelayOrNone(older), DelayOrNone(newer));
+    let mut message = Line::new(alloc);
+    write!(message, "crawler {agent}: delay {old} -> {new}")?;
+    add(alloc, found, Level::Note, None, "delay", &message)
 }
 
 fn rule_name(is_added: bool) -> &'static str
-    ensures { result.now ≡ (rule_name is_added).text }
+    ensures { result.now ≡ rule_name is_added }
 {
     if is_added {
         "rule-added"
@@ -120,17 +96,32 @@ fn rule_name(is_added: bool) -> &'static str
     }
 }
 
-fn rule_line<'a>(agent: &'a str, is_added: bool, rule: &'a Rule) -> [Part<'a>; 5]
-    ensures { raw_line result ≡ line_text (rule_line agent.entry.now is_added rule.entry.now) }
+fn add_rule(
+    alloc: Global,
+    found: &mut Findings,
+    agent: &str,
+    is_added: bool,
+    rule: &Rule,
+) -> fmt::Result
+    ensures { OnOk result (Adds found.old.items found.new.items (rule_change is_added rule.now ∷ [])) }
 {
+    let sign = if is_added { "+" } else { "-" };
     let kind = if rule.is_allow { "Allow" } else { "Disallow" };
-    [
-        crawler(agent),
-        Part(if is_added { ": + " } else { ": - " }, Value::Word(kind)),
-        Part(": ", Value::Untrusted(rule.pattern.as_bytes())),
-        Part(" (line ", Value::Number(rule.line)),
-        Part(")", Value::Nothing),
-    ]
+    let (pattern, number) = (rule.pattern.as_str(), rule.line);
+    let mut message = Line::new(alloc);
+    write!(
+        message,
+        "crawler {agent}: {sign} {kind}: {pattern} (line {number})"
+    )?;
+    let line = if is_added { Some(number) } else { None };
+    add(
+        alloc,
+        found,
+        Level::Note,
+        line,
+        rule_name(is_added),
+        &message,
+    )
 }
 
 fn add_rules(
@@ -139,35 +130,17 @@ fn add_rules(
     agent: &str,
     is_added: bool,
     rules: &[Rule],
-) -> Result<(), AllocError>
-    ensures { OnOk result (Adds found.old.items found.new.items
-        (map (rule_change agent.now is_added) rules.now)) }
+) -> fmt::Result
+    ensures { OnOk result (Adds found.old.items found.new.items (map (rule_change is_added) rules.now)) }
 {
     for rule in rules {
-        let line = if is_added { Some(rule.line) } else { None };
-        let parts = rule_line(agent, is_added, rule);
-        add(alloc, found, Level::Note, line, rule_name(is_added), &parts)?;
+        add_rule(alloc, found, agent, is_added, rule)?;
     }
     Ok(())
 }
 
-fn deciding(line: Option<usize>) -> Part<'static>
-    ensures { raw_text result ≡ part_text (deciding line) }
-{
-    match line {
-        Some(number) => Part(" ", Value::Number(number)),
-        None => Part("", Value::Nothing),
-    }
-}
-
-fn verdict_word(allowed: bool) -> Value<'static>
-    ensures { raw_value result ≡ value_text (verdict_word allowed) }
-{
-    Value::Word(if allowed { "allow" } else { "deny" })
-}
-
 fn change_name(older: bool, newer: bool) -> &'static str
-    ensures { result.now ≡ (change_name older newer).text }
+    ensures { result.now ≡ change_name older newer }
 {
     match (older, newer) {
         (true, false) => "closed",
@@ -176,46 +149,37 @@ fn change_name(older: bool, newer: bool) -> &'static str
     }
 }
 
-fn change_part(older: bool, newer: bool) -> Part<'static>
-    ensures { raw_text result ≡ part_text (change_part older newer) }
-{
-    if older == newer {
-        Part("", Value::Nothing)
-    } else {
-        Part(", ", Value::Word(change_name(older, newer)))
+/// The verdict, and the line that decides.
+#[derive(Clone, Copy)]
+struct Decided(Decision);
+
+impl fmt::Display for Decided {
+    fn fmt<W: fmt::Write>(&self, f: &mut fmt::Formatter<W>) -> fmt::Result {
+        f.write_str(if self.0.allowed { "allow" } else { "deny" })?;
+        match self.0.line {
+            Some(line) => write!(f, " {line}"),
+            None => Ok(()),
+        }
     }
 }
 
-fn url_line<'a>(agent: &'a str, change: &UrlChange<'a>) -> [Part<'a>; 7]
-    ensures { raw_line result ≡ line_text (url_line agent.now change.now) }
+fn add_url(alloc: Global, found: &mut Findings, agent: &str, change: &UrlChange<'_>) -> fmt::Result
+    ensures { OnOk result (Adds found.old.items found.new.items (url_change change.now ∷ [])) }
 {
-    [
-        crawler(agent),
-        Part(" ", Value::Untrusted(change.url.as_bytes())),
-        Part(": ", verdict_word(change.older.allowed)),
-        deciding(change.older.line),
-        Part(" -> ", verdict_word(change.newer.allowed)),
-        deciding(change.newer.line),
-        change_part(change.older.allowed, change.newer.allowed),
-    ]
-}
-
-fn add_url(
-    alloc: Global,
-    found: &mut Findings,
-    agent: &str,
-    change: &UrlChange<'_>,
-) -> Result<(), AllocError>
-    ensures { OnOk result (Adds found.old.items found.new.items (url_change agent.now change.now ∷ [])) }
-{
-    let (older, newer) = (change.older.allowed, change.newer.allowed);
-    let level = if older && !newer {
+    let (older, newer, url) = (change.older, change.newer, change.url);
+    let (old, new) = (Decided(older), Decided(newer));
+    let mut message = Line::new(alloc);
+    write!(message, "crawler {agent} {url}: {old} -> {new}")?;
+    let name = change_name(older.allowed, newer.allowed);
+    if older.allowed != newer.allowed {
+        write!(message, ", {name}")?;
+    }
+    let level = if older.allowed && !newer.allowed {
         Level::Warning
     } else {
         Level::Note
     };
-    let (name, parts) = (change_name(older, newer), url_line(agent, change));
-    add(alloc, found, level, change.newer.line, name, &parts)
+    add(alloc, found, level, newer.line, name, &message)
 }
 
 fn add_urls(
@@ -223,8 +187,8 @@ fn add_urls(
     found: &mut Findings,
     agent: &str,
     changes: &[UrlChange<'_>],
-) -> Result<(), AllocError>
-    ensures { OnOk result (Adds found.old.items found.new.items (map (url_change agent.now) changes.now)) }
+) -> fmt::Result
+    ensures { OnOk result (Adds found.old.items found.new.items (map url_change changes.now)) }
 {
     for change in changes {
         add_url(alloc, found, agent, change)?;
@@ -260,35 +224,24 @@ pub(crate) fn all_unchanged(crawlers: &[Compared<'_>]) -> bool
     crawlers.iter().all(is_unchanged)
 }
 
-fn add_same_rules(
-    alloc: Global,
-    found: &mut Findings,
-    agent: &str,
-    has_same: bool,
-) -> Result<(), AllocError>
-    ensures { OnOk result (Adds found.old.items found.new.items (same_rules agent.now has_same)) }
+fn add_same_rules(alloc: Global, found: &mut Findings, compared: &Compared<'_>) -> fmt::Result
+    ensures { OnOk result (Adds found.old.items found.new.items
+        (accepted_changes Section.SameRules compared.now)) }
 {
-    if !has_same {
+    if !has_same_rules(compared) || is_unchanged(compared) {
         return Ok(());
     }
-    let what = Part(": same rules, so no URL's verdict differs", Value::Nothing);
-    let parts = [crawler(agent), what];
-    add(alloc, found, Level::Note, None, "same-rules", &parts)
-}
-
-fn file_text(is_new: bool) -> &'static str
-    ensures { result.now ≡ part_text (file_part is_new) }
-{
-    if is_new {
-        "the new file is "
-    } else {
-        "the old file is "
-    }
+    let (mut message, agent) = (Line::new(alloc), compared.agent);
+    write!(
+        message,
+        "crawler {agent}: same rules, so no URL's verdict differs"
+    )?;
+    add(alloc, found, Level::Note, None, "same-rules", &message)
 }
 
 /// The name of the finding that a file is rejected.
 fn rejection_name(is_new: bool) -> &'static str
-    ensures { result.now ≡ (rejection_name is_new).text }
+    ensures { result.now ≡ rejection_name is_new }
 {
     if is_new { "rejected" } else { "old-rejected" }
 }
@@ -296,22 +249,27 @@ fn rejection_name(is_new: bool) -> &'static str
 fn add_rejection(
     alloc: Global,
     found: &mut Findings,
+    agent: &str,
     is_new: bool,
-    audit: &AgentAudit<'_>,
-) -> Result<(), AllocError>
-    ensures { OnOk result (Adds found.old.items found.new.items (rejection is_new audit.now)) }
+    rejected: Option<usize>,
+) -> fmt::Result
+    ensures { OnOk result (Adds found.old.items found.new.items (rejection is_new rejected)) }
 {
-    let Some(line) = audit.rejected else {
+    let Some(line) = rejected else {
         return Ok(());
     };
-    let mut message = String::from_str(alloc, file_text(is_new))?;
-    push_parts(&mut message, &rejected_parts(audit.agent, line))?;
-    Ok(found.push(Finding {
-        level: Level::Error,
-        line: if is_new { Some(line) } else { None },
-        name: rejection_name(is_new),
-        message,
-    })?)
+    let (mut message, reason) = (Line::new(alloc), Rejected { agent, line });
+    let version = if is_new { "new" } else { "old" };
+    write!(message, "the {version} file is {reason}")?;
+    let line = if is_new { rejected } else { None };
+    add(
+        alloc,
+        found,
+        Level::Error,
+        line,
+        rejection_name(is_new),
+        &message,
+    )
 }
 
 /// Adds what a section says of a crawler.
@@ -320,14 +278,14 @@ fn add_section(
     found: &mut Findings,
     section: Section,
     compared: &Compared<'_>,
-) -> Result<(), AllocError>
+) -> fmt::Result
     ensures { OnOk result (Adds found.old.items found.new.items (section_changes section compared.now)) }
 {
     let (agent, older, newer) = (compared.agent, &compared.older, &compared.newer);
     match section {
         Section::Rejections => {
-            add_rejection(alloc, found, false, older)?;
-            add_rejection(alloc, found, true, newer)
+            add_rejection(alloc, found, agent, false, older.rejected)?;
+            add_rejection(alloc, found, agent, true, newer.rejected)
         }
         _ if is_rejected(compared) => Ok(()),
         Section::Groups => {
@@ -339,10 +297,7 @@ fn add_section(
             add_rules(alloc, found, agent, true, &compared.added)
         }
         Section::Urls => add_urls(alloc, found, agent, &compared.changes),
-        Section::SameRules => {
-            let has_same = has_same_rules(compared) && !is_unchanged(compared);
-            add_same_rules(alloc, found, agent, has_same)
-        }
+        Section::SameRules => add_same_rules(alloc, found, compared),
     }
 }
 
@@ -352,7 +307,7 @@ pub(crate) fn add_crawler(
     found: &mut Findings,
     sections: &[Section],
     compared: &Compared<'_>,
-) -> Result<(), AllocError>
+) -> fmt::Result
     ensures { OnOk result (Adds found.old.items found.new.items (crawler_changes sections.now compared.now)) }
 {
     for section in sections {

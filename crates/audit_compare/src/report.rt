@@ -1,22 +1,18 @@
 //! The report on a comparison: what differs, as findings, and as text.
-ghost use Rattle.std.specs.Prelude.{◌≡◌, ◌++◌, ◌∷◌, [], IfOk, OnOk, flat_map, map, string_bytes};
-ghost use Rattle.std.specs.List.{list_any};
-ghost use Rattle.printable_text.specs.{Lines.ended, Raw.raw_line, Raw.raw_text};
-ghost use Rattle.printable_text.specs.Text.{line_text, part_text, written};
-ghost use Rattle.audit_core.specs.Findings.{finding_value};
-ghost use Rattle.audit_compare.specs.Compare.{all_differences, all_lines, crawler_changes, emptied};
-ghost use Rattle.audit_compare.specs.Compare.{empty_part, finding_of, is_unchanged, report_lines, sides_line};
-ghost use Rattle.audit_compare.specs.Compare.{sitemap_change, sitemap_changes, unchanged, unchanged_line};
-ghost use Rattle.audit_compare.specs.Compare.{unchanged_part};
-ghost use Rattle.audit_compare.specs.Internal.Compare.{Adds};
+ghost use Rattle.std.specs.Prelude.{◌≡◌, ◌∷◌, [], IfOk, OnOk, flat_map, map};
+ghost use Rattle.audit_core.specs.Findings.{Adds, found_of};
+ghost use Rattle.audit_compare.specs.Compare.{all_differences, crawler_changes, emptied, sitemap_change};
+ghost use Rattle.audit_compare.specs.Compare.{sitemap_changes, sitemap_name};
 
 use crate::compare::{Comparison, Side};
 use crate::compared::Compared;
-use crate::differences::{Section, add, add_crawler, all_unchanged, crawler, is_unchanged};
-use audit_core::findings::{Finding, Findings};
+use crate::differences::{Section, add_crawler, all_unchanged, is_unchanged};
+use audit_core::findings::{Findings, add};
 use printable_text::level::Level;
-use printable_text::parts::{Part, Value, push_line_of};
-use std::alloc::{AllocError, Global};
+use printable_text::report::{Line, Report, Untrusted};
+use std::alloc::Global;
+use std::fmt;
+use std::fmt::Write;
 
 /// Adds what these sections say of each of these crawlers.
 fn add_crawlers(
@@ -24,7 +20,7 @@ fn add_crawlers(
     found: &mut Findings,
     sections: &[Section],
     crawlers: &[Compared<'_>],
-) -> Result<(), AllocError>
+) -> fmt::Result
     ensures { OnOk result (Adds found.old.items found.new.items
         (flat_map (crawler_changes sections.now) crawlers.now)) }
 {
@@ -34,57 +30,30 @@ fn add_crawlers(
     Ok(())
 }
 
-/// What is reported on crawlers on which nothing else is.
-const UNCHANGED: Part<'static> = Part(
-    ": no group, delay or rule differs, so no URL's verdict does",
-    Value::Nothing,
-);
-
-fn unchanged_subject<'a>(crawlers: &[Compared<'a>]) -> Part<'a>
-    ensures { raw_text result ++ part_text unchanged_part ≡ line_text (unchanged_line crawlers.now) }
+fn sitemap_name(is_added: bool) -> &'static str
+    ensures { result.now ≡ sitemap_name is_added }
 {
-    match crawlers {
-        [compared] => crawler(compared.agent),
-        _ if all_unchanged(crawlers) => Part("all compared crawlers", Value::Nothing),
-        _ => Part("other compared crawlers", Value::Nothing),
+    if is_added {
+        "sitemap-added"
+    } else {
+        "sitemap-removed"
     }
 }
 
-fn has_unchanged(crawlers: &[Compared<'_>]) -> bool
-    ensures { result ≡ list_any is_unchanged crawlers.now }
-{
-    crawlers.iter().any(is_unchanged)
-}
-
-fn add_unchanged(
-    alloc: Global,
-    found: &mut Findings,
-    crawlers: &[Compared<'_>],
-) -> Result<(), AllocError>
-    ensures { OnOk result (Adds found.old.items found.new.items (unchanged crawlers.now)) }
-{
-    if !has_unchanged(crawlers) {
-        return Ok(());
-    }
-    let parts = [unchanged_subject(crawlers), UNCHANGED];
-    add(alloc, found, Level::Note, None, "unchanged", &parts)
-}
-
-fn add_sitemap(
-    alloc: Global,
-    found: &mut Findings,
-    is_added: bool,
-    sitemap: &[u8],
-) -> Result<(), AllocError>
+fn add_sitemap(alloc: Global, found: &mut Findings, is_added: bool, sitemap: &[u8]) -> fmt::Result
     ensures { OnOk result (Adds found.old.items found.new.items (sitemap_change is_added sitemap.now ∷ [])) }
 {
-    let value = Value::Untrusted(sitemap);
-    if is_added {
-        let parts = [Part("sitemap added: ", value)];
-        return add(alloc, found, Level::Note, None, "sitemap-added", &parts);
-    }
-    let parts = [Part("sitemap removed: ", value)];
-    add(alloc, found, Level::Note, None, "sitemap-removed", &parts)
+    let (mut message, sitemap) = (Line::new(alloc), Untrusted(sitemap));
+    let what = if is_added { "added" } else { "removed" };
+    write!(message, "sitemap {what}: {sitemap}")?;
+    add(
+        alloc,
+        found,
+        Level::Note,
+        None,
+        sitemap_name(is_added),
+        &message,
+    )
 }
 
 fn add_sitemaps(
@@ -92,7 +61,7 @@ fn add_sitemaps(
     found: &mut Findings,
     is_added: bool,
     sitemaps: &[&[u8]],
-) -> Result<(), AllocError>
+) -> fmt::Result
     ensures { OnOk result (Adds found.old.items found.new.items
         (map (sitemap_change is_added) (map (λ sitemap. sitemap.now) sitemaps.now))) }
 {
@@ -107,30 +76,11 @@ fn add_both_sitemaps(
     alloc: Global,
     found: &mut Findings,
     comparison: &Comparison<'_>,
-) -> Result<(), AllocError>
+) -> fmt::Result
     ensures { OnOk result (Adds found.old.items found.new.items (sitemap_changes comparison.now)) }
 {
     add_sitemaps(alloc, found, false, &comparison.removed)?;
     add_sitemaps(alloc, found, true, &comparison.added)
-}
-
-/// All lines of the text but the first, as findings.
-fn all_lines(alloc: Global, comparison: &Comparison<'_>) -> Result<Findings, AllocError>
-    ensures { IfOk result (λ found.
-        map finding_value found.items ≡ map finding_of (all_lines comparison.now)) }
-{
-    let mut found = Vec::new(alloc);
-    let sections = [
-        Section::Rejections,
-        Section::Groups,
-        Section::Rules,
-        Section::Urls,
-        Section::SameRules,
-    ];
-    add_crawlers(alloc, &mut found, &sections, &comparison.crawlers)?;
-    add_unchanged(alloc, &mut found, &comparison.crawlers)?;
-    add_both_sitemaps(alloc, &mut found, comparison)?;
-    Ok(found)
 }
 
 /// Adds that the new file has no directive, if the old one has some.
@@ -139,20 +89,20 @@ fn add_emptied(
     found: &mut Findings,
     older: &Side<'_>,
     newer: &Side<'_>,
-) -> Result<(), AllocError>
+) -> fmt::Result
     ensures { OnOk result (Adds found.old.items found.new.items (emptied older.now newer.now)) }
 {
     if older.has_no_directive || !newer.has_no_directive {
         return Ok(());
     }
-    let parts = [Part("the new file has no directive", Value::Nothing)];
-    add(alloc, found, Level::Warning, None, "empty", &parts)
+    let mut message = Line::new(alloc);
+    message.write_str("the new file has no directive")?;
+    add(alloc, found, Level::Warning, None, "empty", &message)
 }
 
 /// What formats other than text have.
-fn all_differences(alloc: Global, comparison: &Comparison<'_>) -> Result<Findings, AllocError>
-    ensures { IfOk result (λ found.
-        map finding_value found.items ≡ map finding_of (all_differences comparison.now)) }
+fn all_differences(alloc: Global, comparison: &Comparison<'_>) -> Result<Findings, fmt::Error>
+    ensures { IfOk result (λ found. map found_of found.items ≡ all_differences comparison.now) }
 {
     let (mut found, crawlers) = (Vec::new(alloc), &comparison.crawlers);
     add_emptied(alloc, &mut found, &comparison.older, &comparison.newer)?;
@@ -168,56 +118,69 @@ fn all_differences(alloc: Global, comparison: &Comparison<'_>) -> Result<Finding
     Ok(found)
 }
 
-fn empty_part(has_no_directive: bool) -> Part<'static>
-    ensures { raw_text result ≡ part_text (empty_part has_no_directive) }
-{
-    Part(
-        if has_no_directive { " (empty)" } else { "" },
-        Value::Nothing,
-    )
+fn write_side(out: &mut Report, front: &str, side: &Side<'_>) -> fmt::Result {
+    let end = if side.has_no_directive {
+        " (empty)"
+    } else {
+        ""
+    };
+    let name = side.name;
+    write!(out, "{front}{name}{end}")
 }
 
-fn sides_line<'a>(older: &Side<'a>, newer: &Side<'a>) -> [Part<'a>; 4]
-    ensures { raw_line result ≡ line_text (sides_line older.now newer.now) }
-{
-    [
-        Part("old: ", Value::Untrusted(older.name.as_bytes())),
-        empty_part(older.has_no_directive),
-        Part(", new: ", Value::Untrusted(newer.name.as_bytes())),
-        empty_part(newer.has_no_directive),
-    ]
-}
-
-fn push_message(text: &mut String, finding: &Finding) -> Result<(), AllocError>
-    ensures { OnOk result (string_bytes text.new
-        ≡ string_bytes text.old ++ ended (string_bytes finding.now.message ∷ [])) }
-{
-    text.push_str(&finding.message)?;
-    text.push('\n')
-}
-
-fn push_messages(text: &mut String, found: &[Finding]) -> Result<(), AllocError>
-    ensures { OnOk result (string_bytes text.new
-        ≡ string_bytes text.old ++ ended (map (λ finding. string_bytes finding.message) found.now)) }
-{
+fn write_messages(out: &mut Report, found: &Findings) -> fmt::Result {
     for finding in found {
-        push_message(text, finding)?;
+        out.write_str(&finding.message)?;
+        out.end_line()?;
     }
     Ok(())
+}
+
+/// Writes which crawlers are unchanged, if some are.
+fn write_unchanged(out: &mut Report, crawlers: &[Compared<'_>]) -> fmt::Result {
+    if !crawlers.iter().any(is_unchanged) {
+        return Ok(());
+    }
+    match crawlers {
+        [compared] => {
+            let agent = compared.agent;
+            write!(out, "crawler {agent}")?;
+        }
+        _ if all_unchanged(crawlers) => out.write_str("all compared crawlers")?,
+        _ => out.write_str("other compared crawlers")?,
+    }
+    out.write_str(": no group, delay or rule differs, so no URL's verdict does")?;
+    out.end_line()
+}
+
+fn write_report(alloc: Global, out: &mut Report, comparison: &Comparison<'_>) -> fmt::Result {
+    let sections = [
+        Section::Rejections,
+        Section::Groups,
+        Section::Rules,
+        Section::Urls,
+        Section::SameRules,
+    ];
+    write_side(out, "old: ", &comparison.older)?;
+    write_side(out, ", new: ", &comparison.newer)?;
+    out.end_line()?;
+    let mut found = Vec::new(alloc);
+    add_crawlers(alloc, &mut found, &sections, &comparison.crawlers)?;
+    write_messages(out, &found)?;
+    write_unchanged(out, &comparison.crawlers)?;
+    found.clear();
+    add_both_sitemaps(alloc, &mut found, comparison)?;
+    write_messages(out, &found)
 }
 
 /// The report on a comparison as text, and what differs.
 pub fn reported(
     alloc: Global,
     comparison: &Comparison<'_>,
-) -> Result<(String, Findings), AllocError>
-    ensures text { IfOk result (λ reported. string_bytes reported.0 ≡ written (report_lines comparison.now)) }
-    ensures found { IfOk result (λ reported.
-        map finding_value reported.1.items ≡ map finding_of (all_differences comparison.now)) }
+) -> Result<(Report, Findings), fmt::Error>
+    ensures { IfOk result (λ reported. map found_of reported.1.items ≡ all_differences comparison.now) }
 {
-    let found = all_lines(alloc, comparison)?;
-    let mut text = String::new(alloc);
-    push_line_of(&mut text, &sides_line(&comparison.older, &comparison.newer))?;
-    push_messages(&mut text, &found)?;
-    Ok((text, all_differences(alloc, comparison)?))
+    let mut out = Report::new(alloc);
+    write_report(alloc, &mut out, comparison)?;
+    Ok((out, all_differences(alloc, comparison)?))
 }

@@ -1,2 +1,1 @@
 pub mod AuditLemmas
-pub mod FindingLemmas

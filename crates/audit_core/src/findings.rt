@@ -1,16 +1,17 @@
 //! What an audit found, as one list, for formats that don't distinguish verdicts and warnings.
-ghost use Rattle.std.specs.Prelude.{◌≡◌, ◌++◌, IfOk, OnOk, flat_map, map, string_bytes};
-ghost use Rattle.printable_text.specs.{Sanitize.sanitized, Raw.raw_line, Text.parts_text};
-ghost use Rattle.audit_core.specs.Findings.{agent_findings, finding_in_part, warning_findings, finding_value};
-ghost use Rattle.audit_core.specs.Findings.{denials, denied, denied_parts, findings, found_value, rejections};
+ghost use Rattle.std.specs.Prelude.{◌≡◌, ◌∷◌, [], IfOk, OnOk, flat_map, map};
+ghost use Rattle.audit_core.specs.Findings.{Adds, agent_findings, denials, finding_in_part, findings};
+ghost use Rattle.audit_core.specs.Findings.{found_of, rejections, warning_findings, warning_found};
 
 use crate::audit::{AgentAudit, Audit, Verdict};
-use crate::texts::rejected_parts;
+use crate::texts::Rejected;
 use printable_text::level::Level;
-use printable_text::parts::{Part, Value, push_parts};
+use printable_text::report::Line;
 use printable_text::sanitize::push_sanitized;
-use robots_warnings::warning::{Warning, push_warning_text};
-use std::alloc::{AllocError, Global};
+use robots_warnings::warning::Warning;
+use std::alloc::Global;
+use std::fmt;
+use std::fmt::Write;
 
 /// A denied URL, a rejected file or a warning.
 #[derive(Drop)]
@@ -23,31 +24,30 @@ pub struct Finding {
 
 pub type Findings = Vec<Finding>;
 
-fn denied_parts<'a>(url: &'a str) -> [Part<'a>; 1]
-    ensures { raw_line result ≡ parts_text (denied_parts url.entry.now) }
-{
-    [Part(" may not fetch ", Value::Untrusted(url.as_bytes()))]
-}
-
-fn push_denied(text: &mut String, agent: &str, url: &str) -> Result<(), AllocError>
-    ensures { OnOk result (string_bytes text.new
-        ≡ string_bytes text.old ++ (sanitized agent.now ++ parts_text (denied_parts url.now))) }
-{
-    push_sanitized(text, agent.as_bytes())?;
-    push_parts(text, &denied_parts(url))
-}
-
-fn denied(alloc: Global, agent: &str, verdict: &Verdict<'_>) -> Result<Finding, AllocError>
-    ensures { IfOk result (λ finding. finding_value finding ≡ found_value (denied agent.now verdict.now)) }
+/// In the message, the start of a command of a workflow is escaped, too.
+pub fn add(
+    alloc: Global,
+    found: &mut Findings,
+    level: Level,
+    line: Option<usize>,
+    name: &'static str,
+    text: &Line,
+) -> fmt::Result
+    ensures { OnOk result (Adds found.old.items found.new.items
+        ((record { level = level; line = line; name = name.now }) ∷ [])) }
 {
     let mut message = String::new(alloc);
-    push_denied(&mut message, agent, verdict.url)?;
-    Ok(Finding {
-        level: Level::Error,
-        line: verdict.decision.line,
-        name: "denied",
+    push_sanitized(&mut message, text.as_str().as_bytes())?;
+    let finding = Finding {
+        level,
+        line,
+        name,
         message,
-    })
+    };
+    match found.push(finding) {
+        Ok(()) => Ok(()),
+        Err(_) => Err(fmt::Error),
+    }
 }
 
 fn is_allowed(verdict: &Verdict<'_>) -> bool
@@ -61,14 +61,22 @@ fn add_denial(
     found: &mut Findings,
     agent: &str,
     verdict: &Verdict<'_>,
-) -> Result<(), AllocError>
-    ensures { OnOk result (map finding_value found.new.items
-        ≡ map finding_value found.old.items ++ map found_value (denials agent.now verdict.now)) }
+) -> fmt::Result
+    ensures { OnOk result (Adds found.old.items found.new.items (denials verdict.now)) }
 {
     if is_allowed(verdict) {
         return Ok(());
     }
-    Ok(found.push(denied(alloc, agent, verdict)?)?)
+    let (mut message, url) = (Line::new(alloc), verdict.url);
+    write!(message, "{agent} may not fetch {url}")?;
+    add(
+        alloc,
+        found,
+        Level::Error,
+        verdict.decision.line,
+        "denied",
+        &message,
+    )
 }
 
 fn add_denials(
@@ -76,9 +84,8 @@ fn add_denials(
     found: &mut Findings,
     agent: &str,
     verdicts: &[Verdict<'_>],
-) -> Result<(), AllocError>
-    ensures { OnOk result (map finding_value found.new.items
-        ≡ map finding_value found.old.items ++ map found_value (flat_map (denials agent.now) verdicts.now)) }
+) -> fmt::Result
+    ensures { OnOk result (Adds found.old.items found.new.items (flat_map denials verdicts.now)) }
 {
     for verdict in verdicts {
         add_denial(alloc, found, agent, verdict)?;
@@ -91,38 +98,27 @@ fn add_rejection(
     found: &mut Findings,
     agent: &str,
     rejected: Option<usize>,
-) -> Result<(), AllocError>
-    ensures { OnOk result (map finding_value found.new.items
-        ≡ map finding_value found.old.items ++ map found_value (rejections agent.now rejected)) }
+) -> fmt::Result
+    ensures { OnOk result (Adds found.old.items found.new.items (rejections rejected)) }
 {
     let Some(line) = rejected else {
         return Ok(());
     };
-    let mut message = String::new(alloc);
-    push_parts(&mut message, &rejected_parts(agent, line))?;
-    Ok(found.push(Finding {
-        level: Level::Error,
-        line: rejected,
-        name: "rejected",
-        message,
-    })?)
+    let mut message = Line::new(alloc);
+    let reason = Rejected { agent, line };
+    write!(message, "{reason}")?;
+    add(alloc, found, Level::Error, rejected, "rejected", &message)
 }
 
-fn add_agent(alloc: Global, found: &mut Findings, agent: &AgentAudit<'_>) -> Result<(), AllocError>
-    ensures { OnOk result (map finding_value found.new.items
-        ≡ map finding_value found.old.items ++ map found_value (agent_findings agent.now)) }
+fn add_agent(alloc: Global, found: &mut Findings, agent: &AgentAudit<'_>) -> fmt::Result
+    ensures { OnOk result (Adds found.old.items found.new.items (agent_findings agent.now)) }
 {
     add_rejection(alloc, found, agent.agent, agent.rejected)?;
     add_denials(alloc, found, agent.agent, &agent.verdicts)
 }
 
-fn add_agents(
-    alloc: Global,
-    found: &mut Findings,
-    agents: &[AgentAudit<'_>],
-) -> Result<(), AllocError>
-    ensures { OnOk result (map finding_value found.new.items
-        ≡ map finding_value found.old.items ++ map found_value (flat_map agent_findings agents.now)) }
+fn add_agents(alloc: Global, found: &mut Findings, agents: &[AgentAudit<'_>]) -> fmt::Result
+    ensures { OnOk result (Adds found.old.items found.new.items (flat_map agent_findings agents.now)) }
 {
     for agent in agents {
         add_agent(alloc, found, agent)?;
@@ -130,27 +126,27 @@ fn add_agents(
     Ok(())
 }
 
+fn add_warning(alloc: Global, found: &mut Findings, warning: &Warning<'_>) -> fmt::Result
+    ensures { OnOk result (Adds found.old.items found.new.items (warning_found warning.now ∷ [])) }
+{
+    let mut message = Line::new(alloc);
+    write!(message, "{warning}")?;
+    let (level, name) = (warning.cause.level(), warning.cause.name());
+    add(alloc, found, level, warning.line, name, &message)
+}
+
 fn add_in_part(
     alloc: Global,
     found: &mut Findings,
     errors: bool,
     warning: &Warning<'_>,
-) -> Result<(), AllocError>
-    ensures { OnOk result (map finding_value found.new.items
-        ≡ map finding_value found.old.items ++ map found_value (finding_in_part errors warning.now)) }
+) -> fmt::Result
+    ensures { OnOk result (Adds found.old.items found.new.items (finding_in_part errors warning.now)) }
 {
-    let level = warning.cause.level();
-    if level.reaches(Level::Error) != errors {
+    if warning.cause.level().reaches(Level::Error) != errors {
         return Ok(());
     }
-    let mut message = String::new(alloc);
-    push_warning_text(&mut message, warning)?;
-    Ok(found.push(Finding {
-        level,
-        line: warning.line,
-        name: warning.cause.name(),
-        message,
-    })?)
+    add_warning(alloc, found, warning)
 }
 
 fn add_warnings(
@@ -158,9 +154,8 @@ fn add_warnings(
     found: &mut Findings,
     errors: bool,
     warnings: &[Warning<'_>],
-) -> Result<(), AllocError>
-    ensures { OnOk result (map finding_value found.new.items
-        ≡ map finding_value found.old.items ++ map found_value (warning_findings errors warnings.now)) }
+) -> fmt::Result
+    ensures { OnOk result (Adds found.old.items found.new.items (warning_findings errors warnings.now)) }
 {
     for warning in warnings {
         add_in_part(alloc, found, errors, warning)?;
@@ -170,12 +165,23 @@ fn add_warnings(
 
 /// The errors among the warnings; for each crawler why the file is rejected or which URLs are denied; and
 /// then the other warnings.
-pub fn findings_of(alloc: Global, audit: &Audit<'_>) -> Result<Findings, AllocError>
-    ensures { IfOk result (λ found. map finding_value found.items ≡ findings audit.now) }
+pub fn findings_of(alloc: Global, audit: &Audit<'_>) -> Result<Findings, fmt::Error>
+    ensures { IfOk result (λ found. map found_of found.items ≡ findings audit.now) }
 {
     let mut found = Vec::new(alloc);
     add_warnings(alloc, &mut found, true, &audit.warnings)?;
     add_agents(alloc, &mut found, &audit.agents)?;
     add_warnings(alloc, &mut found, false, &audit.warnings)?;
+    Ok(found)
+}
+
+/// All warnings, in order.
+pub fn warnings_found(alloc: Global, warnings: &[Warning<'_>]) -> Result<Findings, fmt::Error>
+    ensures { IfOk result (λ found. map found_of found.items ≡ map warning_found warnings.now) }
+{
+    let mut found = Vec::new(alloc);
+    for warning in warnings {
+        add_warning(alloc, &mut found, warning)?;
+    }
     Ok(found)
 }

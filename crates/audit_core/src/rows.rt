@@ -1,15 +1,13 @@
 //! The rows of a report: one for each line of the file.
-ghost use Rattle.std.specs.Prelude.{◌≡◌, ◌++◌, OnOk, string_bytes};
+ghost use Rattle.std.specs.Prelude.{◌≡◌};
 ghost use Rattle.texting_robots.specs.Callers.{by_value};
-ghost use Rattle.audit_core.specs.Rows.{comment_of, has_value, kind_text, line_value_text, membership_word};
+ghost use Rattle.audit_core.specs.Rows.{comment_of, kind_text, membership_word};
 
 use itoa::Buffer;
-use printable_text::delay::{Delay, push_delay_text};
+use printable_text::delay::Delay;
 use printable_text::report::{Report, Untrusted};
-use printable_text::sanitize::push_sanitized;
 use robots_warnings::contents::split_content;
 use robots_warnings::file::is_blank;
-use std::alloc::AllocError;
 use std::fmt;
 use std::fmt::Write;
 use texting_robots::labels::{LabeledLine, Membership};
@@ -40,9 +38,7 @@ pub fn kind_text(line: Line<'_>) -> &'static str
 }
 
 /// Whether a line has a value that is shown.
-pub fn has_value(line: Line<'_>) -> bool
-    ensures { result ≡ has_value (by_value line.entry) }
-{
+fn has_value(line: Line<'_>) -> bool {
     match line {
         Line::UserAgent(value)
         | Line::Allow(value)
@@ -50,20 +46,6 @@ pub fn has_value(line: Line<'_>) -> bool
         | Line::Sitemap(value)
         | Line::Raw(value) => !value.is_empty(),
         Line::CrawlDelay(delay) => delay.is_some(),
-    }
-}
-
-pub fn push_value(text: &mut String, line: Line<'_>) -> Result<(), AllocError>
-    ensures { OnOk result (string_bytes text.new ≡ string_bytes text.old ++ line_value_text (by_value line.entry)) }
-{
-    match line {
-        Line::UserAgent(value)
-        | Line::Allow(value)
-        | Line::Disallow(value)
-        | Line::Sitemap(value)
-        | Line::Raw(value) => push_sanitized(text, value),
-        Line::CrawlDelay(Some(micros)) => push_delay_text(text, micros),
-        Line::CrawlDelay(None) => Ok(()),
     }
 }
 

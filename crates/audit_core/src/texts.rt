@@ -1,62 +1,24 @@
 //! Texts that several reports share: a delay, which group applies to a crawler, and that the file is
 //! rejected.
 ghost use Rattle.std.specs.Prelude.{◌≡◌, option_map};
-ghost use Rattle.printable_text.specs.Raw.{raw_line, raw_value};
-ghost use Rattle.printable_text.specs.Text.{parts_text, value_text};
-ghost use Rattle.audit_core.specs.Texts.{delay_value, group_value};
-ghost use Rattle.audit_core.specs.Texts.{may_fetch, rejected_parts};
+ghost use Rattle.audit_core.specs.Texts.{may_fetch};
 
 use crate::group::Group;
 use printable_text::delay::Delay;
-use printable_text::parts::{Part, Value};
 use printable_text::report::Report;
 use robots_warnings::closed::Reach;
 use std::fmt;
 use std::fmt::Write;
 
-pub fn delay_value(delay: Option<u64>) -> Value<'static>
-    ensures { raw_value result ≡ value_text (delay_value delay) }
-{
-    match delay {
-        Some(micros) => Value::Delay(micros),
-        None => Value::Word("none"),
-    }
-}
-
-pub fn group_value<'a>(agent: &'a str, group: Group) -> Value<'a>
-    ensures { raw_value result ≡ value_text (group_value agent.entry.now group) }
-{
-    match group {
-        Group::Named => Value::Untrusted(agent.as_bytes()),
-        Group::Star => Value::Word("*"),
-        Group::Nobody => Value::Word("none"),
-        Group::Everyone => Value::Word("everyone"),
-    }
-}
-
 /// If the file isn't rejected for the crawler, and it may fetch everything or nothing.
 pub fn may_fetch(rejected: Option<usize>, reach: Reach) -> Option<&'static str>
-    ensures { option_map (λ word. word.now) result ≡ option_map (λ word. word.text) (may_fetch rejected reach) }
+    ensures { option_map (λ word. word.now) result ≡ may_fetch rejected reach }
 {
     match (rejected, reach) {
         (None, Reach::Everything) => Some("everything"),
         (None, Reach::Nothing) => Some("nothing"),
         _ => None,
     }
-}
-
-/// That the file is rejected for the crawler because of this line.
-pub fn rejected_parts<'a>(agent: &'a str, line: usize) -> [Part<'a>; 3]
-    ensures { raw_line result ≡ parts_text (rejected_parts agent.entry.now line) }
-{
-    [
-        Part("rejected for ", Value::Untrusted(agent.as_bytes())),
-        Part(": line ", Value::Number(line)),
-        Part(
-            ": a pattern with $ longer than 4,096 bytes isn't supported; shorten it",
-            Value::Nothing,
-        ),
-    ]
 }
 
 /// A delay, or `none`.

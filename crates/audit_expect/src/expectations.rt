@@ -1,21 +1,11 @@
 //! Expectations checked against a robots.txt file, and the report on those that fail.
-ghost use Rattle.std.specs.Prelude.{◌≡◌, ◌==◌, ◌++◌, ◌∷◌, [], IfErr, IfOk, Ok, OnOk, bytes_eq, false, length};
-ghost use Rattle.std.specs.Prelude.{map, string_bytes};
-ghost use Rattle.texting_robots.specs.Callers.{robots_file};
-ghost use Rattle.printable_text.specs.Text.{line_text, part_text, parts_text};
-ghost use Rattle.printable_text.specs.{Lines.ended, Sanitize.sanitized, Raw.raw_line, Raw.raw_text};
-ghost use Rattle.audit_core.specs.{Asked.asked_target, Internal.IsReading};
-ghost use Rattle.audit_core.specs.Findings.{finding_value, found_value};
-ghost use Rattle.robots_warnings.specs.Read.{IsRead};
-ghost use Rattle.audit_expect.specs.declared.checks.Judgment.{TheVariants.Decided};
-ghost use Rattle.audit_expect.specs.Expect.{IsEntryFault, expectations_in as specified_in};
-ghost use Rattle.audit_expect.specs.Expectations.{IsReport, decision_parts, demand, demand_parts, failure};
-ghost use Rattle.audit_expect.specs.Expectations.{failures, group_parts, holding, judgment_parts, place};
-ghost use Rattle.audit_expect.specs.Expectations.{nobody_parts, placed, reason_parts, rejected_parts};
-ghost use Rattle.audit_expect.specs.Expectations.{result_lines, rewritten_parts, unmatched, vendor_parts};
-ghost use Rattle.audit_expect.specs.Internal.Expectations.{expectation_value, AreFailuresOn, IsReadFor};
-ghost use Rattle.audit_expect.specs.Internal.Expectations.{checked_value};
+ghost use Rattle.std.specs.Prelude.{◌≡◌, ◌==◌, ◌∷◌, [], IfErr, IfOk, Ok, OnOk, false, length, map};
+ghost use Rattle.audit_core.specs.{Findings.Adds, Findings.found_of, Internal.IsReading};
 ghost use Rattle.audit_core.specs.declared.fault.Entry.TheVariants as entry;
+ghost use Rattle.robots_warnings.specs.Read.{IsRead};
+ghost use Rattle.audit_expect.specs.Expect.{IsEntryFault, expectations_in as specified_in};
+ghost use Rattle.audit_expect.specs.Expectations.{AreFailuresOf, AreFailuresOn, failures};
+ghost use Rattle.audit_expect.specs.Internal.Expectations.{IsReadFor, checked_value, expectation_value};
 
 use crate::checks::{AtVendor, Checked, Judgment, checked_on, fails, fails_here, is_unexpected};
 use crate::entries::without_entries;
@@ -23,11 +13,13 @@ use crate::expect::{Expectation, expectations_in};
 use audit_core::asked::asked_target;
 use audit_core::audit::{Reading, read_for};
 use audit_core::fault::{Entry, Fault};
-use audit_core::findings::{Finding, Findings};
+use audit_core::findings::{Finding, Findings, add};
 use printable_text::level::Level;
-use printable_text::parts::{Part, Value, push_line_of, push_parts};
+use printable_text::report::{Line, Report};
 use robots_warnings::read::FileRead;
-use std::alloc::{AllocError, Global};
+use std::alloc::Global;
+use std::fmt;
+use std::fmt::Write;
 use texting_robots::robot::Decision;
 
 #[derive(Drop)]
@@ -55,226 +47,88 @@ fn reading_for<'a>(
     Ok(AgentReading { agent, reading })
 }
 
-fn demand(allowed: bool) -> &'static str
-    ensures { result.now ≡ (demand allowed).text }
-{
-    if allowed {
-        " must be allowed "
-    } else {
-        " must be denied "
-    }
-}
-
-fn demand_parts<'a>(expectation: &Expectation<'a>) -> [Part<'a>; 3]
-    ensures { raw_line result ≡ sanitized (expectation_value expectation.now).agent
-        ++ parts_text (demand_parts (expectation_value expectation.now)) }
-{
-    let url = Value::Untrusted(expectation.url.as_bytes());
-    [
-        Part("", Value::Untrusted(expectation.agent.as_bytes())),
-        Part(demand(expectation.allowed), url),
-        Part(", but ", Value::Nothing),
-    ]
-}
-
-fn unmatched(alloc: Global, url: &str) -> Result<&'static str, Fault>
-    ensures ok { IfOk result (λ text. text.now ≡ part_text (unmatched (bytes_eq (asked_target url.now) robots_file))) }
-    ensures fault { IfErr result (λ fault. fault ≡ Fault.Memory) }
-{
-    let target = asked_target(alloc, url)?;
-    if target.as_str() == "/robots.txt" {
-        Ok("/robots.txt is always allowed")
-    } else {
-        Ok("no rule matches it")
-    }
-}
-
-fn push_decision(
-    alloc: Global,
-    text: &mut String,
-    front: &'static str,
-    url: &str,
-    decision: &Decision,
-) -> Result<(), Fault>
-    ensures ok { OnOk result (string_bytes text.new ≡ string_bytes text.old
-        ++ (front.now ++ parts_text (decision_parts url.now decision.now.allowed decision.now.line))) }
-    ensures fault { IfErr result (λ fault. fault ≡ Fault.Memory) }
-{
-    text.push_str(front)?;
+/// `target` is what is compared here, as for the functions below.
+fn write_decision(out: &mut Line, target: &str, decision: &Decision) -> fmt::Result {
     match decision.line {
         Some(line) => {
-            let how = if decision.allowed {
-                " allows it"
-            } else {
-                " denies it"
-            };
-            let decides = Part(how, Value::Nothing);
-            push_parts(text, &[Part("line ", Value::Number(line)), decides])?;
+            let how = if decision.allowed { "allows" } else { "denies" };
+            write!(out, "line {line} {how} it")
         }
-        None => text.push_str(unmatched(alloc, url)?)?,
-    }
-    Ok(())
-}
-
-fn push_decisions(
-    alloc: Global,
-    text: &mut String,
-    url: &str,
-    allowed: bool,
-    decision: &Decision,
-    other: &Decision,
-    normal: &Decision,
-) -> Result<(), Fault>
-    ensures ok { OnOk result (string_bytes text.new ≡ string_bytes text.old
-        ++ parts_text (judgment_parts [] url.now allowed (Decided decision.now other.now normal.now))) }
-    ensures fault { IfErr result (λ fault. fault ≡ Fault.Memory) }
-{
-    if is_unexpected(allowed, decision) {
-        push_decision(alloc, text, "", url, decision)
-    } else if is_unexpected(allowed, other) {
-        let front = "where an empty Disallow is no rule, as for RFC 9309 and Google, ";
-        push_decision(alloc, text, front, url, other)
-    } else {
-        let front = "by RFC 9309, which compares normal forms, ";
-        push_decision(alloc, text, front, url, normal)
+        None if target == "/robots.txt" => out.write_str("/robots.txt is always allowed"),
+        None => out.write_str("no rule matches it"),
     }
 }
 
-fn rejected_parts<'a>(agent: &'a str, line: usize) -> [Part<'a>; 2]
-    ensures { raw_line result ≡ parts_text (rejected_parts agent.entry.now line) }
-{
-    [
-        Part(
-            "the file is rejected for ",
-            Value::Untrusted(agent.as_bytes()),
-        ),
-        Part(": line ", Value::Number(line)),
-    ]
-}
-
-fn push_rewritten(alloc: Global, text: &mut String, url: &str) -> Result<(), Fault>
-    ensures ok { OnOk result (string_bytes text.new ≡ string_bytes text.old
-        ++ parts_text (rewritten_parts (asked_target url.now))) }
-    ensures fault { IfErr result (λ fault. fault ≡ Fault.Memory) }
-{
-    let target = asked_target(alloc, url)?;
-    let front = "crawlers may ask for another path or query: ";
-    let target = Value::Untrusted(target.as_bytes());
-    Ok(push_parts(text, &[Part(front, target)])?)
-}
-
-fn push_judgment(
-    alloc: Global,
-    text: &mut String,
+/// Why the decision for a crawler or a group isn't the expected one.
+fn write_judgment(
+    out: &mut Line,
     agent: &str,
-    url: &str,
+    target: &str,
     allowed: bool,
     judgment: &Judgment,
-) -> Result<(), Fault>
-    ensures ok { OnOk result (string_bytes text.new ≡ string_bytes text.old
-        ++ parts_text (judgment_parts agent.now url.now allowed judgment.now)) }
-    ensures fault { IfErr result (λ fault. fault ≡ Fault.Memory) }
-{
+) -> fmt::Result {
     match judgment {
-        Judgment::Rejected(line) => Ok(push_parts(text, &rejected_parts(agent, *line))?),
-        Judgment::Rewritten => push_rewritten(alloc, text, url),
+        Judgment::Rejected(line) => write!(out, "the file is rejected for {agent}: line {line}"),
+        Judgment::Rewritten => {
+            write!(out, "crawlers may ask for another path or query: {target}")
+        }
         Judgment::Decided(decision, other, normal) => {
-            push_decisions(alloc, text, url, allowed, decision, other, normal)
+            if is_unexpected(allowed, decision) {
+                return write_decision(out, target, decision);
+            }
+            if is_unexpected(allowed, other) {
+                out.write_str("where an empty Disallow is no rule, as for RFC 9309 and Google, ")?;
+                return write_decision(out, target, other);
+            }
+            out.write_str("by RFC 9309, which compares normal forms, ")?;
+            write_decision(out, target, normal)
         }
     }
 }
 
-fn group_parts<'a>(name: &'a str) -> [Part<'a>; 2]
-    ensures { raw_line result ≡ parts_text (group_parts name.entry.now) }
-{
-    [
-        Part(
-            "its vendor applies the group ",
-            Value::Untrusted(name.as_bytes()),
-        ),
-        Part(" to it, and ", Value::Nothing),
-    ]
-}
-
-fn push_group(
-    alloc: Global,
-    text: &mut String,
-    name: &str,
-    url: &str,
-    allowed: bool,
-    judgment: &Judgment,
-) -> Result<(), Fault>
-    ensures ok { OnOk result (string_bytes text.new ≡ string_bytes text.old
-        ++ parts_text (group_parts name.now ++ judgment_parts name.now url.now allowed judgment.now)) }
-    ensures fault { IfErr result (λ fault. fault ≡ Fault.Memory) }
-{
-    push_parts(text, &group_parts(name))?;
-    push_judgment(alloc, text, name, url, allowed, judgment)
-}
-
-fn nobody_parts() -> [Part<'static>; 1]
-    ensures { raw_line result ≡ parts_text nobody_parts }
-{
-    [Part("its vendor doesn't apply the group * to it", Value::Nothing)]
-}
-
-fn push_vendor(
-    alloc: Global,
-    text: &mut String,
-    url: &str,
-    allowed: bool,
-    vendor: &AtVendor<'_>,
-) -> Result<(), Fault>
-    ensures ok { OnOk result (string_bytes text.new ≡ string_bytes text.old
-        ++ parts_text (vendor_parts url.now allowed vendor.now)) }
-    ensures fault { IfErr result (λ fault. fault ≡ Fault.Memory) }
-{
-    match vendor {
+/// Why an expectation fails.
+fn write_reason(out: &mut Line, target: &str, checked: &Checked<'_>) -> fmt::Result {
+    let (agent, allowed) = (checked.expectation.agent, checked.expectation.allowed);
+    if fails_here(checked) {
+        return write_judgment(out, agent, target, allowed, &checked.judgment);
+    }
+    match &checked.vendor {
         AtVendor::Same => Ok(()),
-        AtVendor::Group(name, judgment) => push_group(alloc, text, name, url, allowed, judgment),
-        AtVendor::Nobody => Ok(push_parts(text, &nobody_parts())?),
+        AtVendor::Group(name, judgment) => {
+            write!(out, "its vendor applies the group {name} to it, and ")?;
+            write_judgment(out, name, target, allowed, judgment)
+        }
+        AtVendor::Nobody => out.write_str("its vendor doesn't apply the group * to it"),
     }
 }
 
-fn push_reason(alloc: Global, text: &mut String, checked: &Checked<'_>) -> Result<(), Fault>
-    ensures ok { OnOk result (string_bytes text.new ≡ string_bytes text.old
-        ++ parts_text (reason_parts (checked_value checked.now))) }
+fn message_of(alloc: Global, checked: &Checked<'_>) -> Result<Line, Fault>
     ensures fault { IfErr result (λ fault. fault ≡ Fault.Memory) }
 {
     let (agent, url) = (checked.expectation.agent, checked.expectation.url);
-    let allowed = checked.expectation.allowed;
-    if fails_here(checked) {
-        push_judgment(alloc, text, agent, url, allowed, &checked.judgment)
+    let target = asked_target(alloc, url)?;
+    let demand = if checked.expectation.allowed {
+        "allowed"
     } else {
-        push_vendor(alloc, text, url, allowed, &checked.vendor)
-    }
-}
-
-fn failure(alloc: Global, checked: &Checked<'_>) -> Result<Finding, Fault>
-    ensures ok { IfOk result (λ found.
-        finding_value found ≡ found_value (failure (checked_value checked.now))) }
-    ensures fault { IfErr result (λ fault. fault ≡ Fault.Memory) }
-{
-    let mut message = String::new(alloc);
-    push_parts(&mut message, &demand_parts(&checked.expectation))?;
-    push_reason(alloc, &mut message, checked)?;
-    Ok(Finding {
-        level: Level::Error,
-        line: Some(checked.expectation.number),
-        name: "expectation",
-        message,
-    })
+        "denied"
+    };
+    let mut message = Line::new(alloc);
+    write!(message, "{agent} must be {demand} {url}, but ")?;
+    write_reason(&mut message, &target, checked)?;
+    Ok(message)
 }
 
 fn add_if_failing(alloc: Global, found: &mut Findings, checked: &Checked<'_>) -> Result<(), Fault>
-    ensures ok { OnOk result (map finding_value found.new.items ≡ map finding_value found.old.items
-        ++ failures (checked_value checked.now ∷ [])) }
+    ensures ok { OnOk result (Adds found.old.items found.new.items
+        (failures (checked_value checked.now ∷ []))) }
     ensures fault { IfErr result (λ fault. fault ≡ Fault.Memory) }
 {
     if !fails(checked) {
         return Ok(());
     }
-    Ok(found.push(failure(alloc, checked)?)?)
+    let message = message_of(alloc, checked)?;
+    let line = Some(checked.expectation.number);
+    Ok(add(alloc, found, Level::Error, line, "expectation", &message)?)
 }
 
 fn failures(
@@ -284,7 +138,7 @@ fn failures(
 ) -> Result<Findings, Fault>
     requires { IsRead read.now }
     ensures ok { IfOk result (λ found. AreFailuresOn read.now.bytes.now (map expectation_value expectations.now)
-        (map finding_value found.items)) }
+        (map found_of found.items)) }
     ensures fault { IfErr result (λ fault. fault ≡ Fault.Memory) }
 {
     let reading = read_for(alloc, "*", read)?;
@@ -301,60 +155,40 @@ fn failures(
     Ok(found)
 }
 
-fn holding(number: usize) -> [Part<'static>; 2]
-    ensures { raw_line result ≡ line_text (holding number) }
-{
+fn write_holding(out: &mut Report, number: usize) -> fmt::Result {
     if number == 1 {
-        return [
-            Part("1 expectation holds", Value::Nothing),
-            Part("", Value::Nothing),
-        ];
+        out.write_str("1 expectation holds")?;
+    } else {
+        write!(out, "{number} expectations hold")?;
     }
-    [
-        Part("", Value::Number(number)),
-        Part(" expectations hold", Value::Nothing),
-    ]
+    out.end_line()
 }
 
-fn place(line: Option<usize>) -> Part<'static>
-    ensures { raw_text result ≡ place line }
-{
-    match line {
-        Some(line) => Part(":", Value::Number(line)),
-        None => Part("", Value::Nothing),
+fn write_failure(out: &mut Report, name: &str, finding: &Finding) -> fmt::Result {
+    out.write_str(name)?;
+    if let Some(line) = finding.line {
+        write!(out, ":{line}")?;
     }
+    let message = finding.message.as_str();
+    write!(out, ": {message}")?;
+    out.end_line()
 }
 
-fn push_placed(text: &mut String, name: &str, finding: &Finding) -> Result<(), AllocError>
-    ensures { OnOk result (string_bytes text.new
-        ≡ string_bytes text.old ++ ended (placed name.now (finding_value finding.now) ∷ [])) }
-{
-    let file = Part("", Value::Untrusted(name.as_bytes()));
-    push_parts(
-        text,
-        &[file, place(finding.line), Part(": ", Value::Nothing)],
-    )?;
-    text.push_str(&finding.message)?;
-    text.push('\n')
-}
-
-fn result_text(
+/// The number is that of all expectations.
+fn report_on(
     alloc: Global,
     name: &str,
     number: usize,
     found: &[Finding],
-) -> Result<String, AllocError>
-    ensures { IfOk result (λ text. string_bytes text
-        ≡ ended (result_lines name.now number (map finding_value found.now))) }
-{
-    let mut text = String::new(alloc);
+) -> Result<Report, fmt::Error> {
+    let mut out = Report::new(alloc);
     if found.is_empty() {
-        push_line_of(&mut text, &holding(number))?;
+        write_holding(&mut out, number)?;
     }
     for finding in found {
-        push_placed(&mut text, name, finding)?;
+        write_failure(&mut out, name, finding)?;
     }
-    Ok(text)
+    Ok(out)
 }
 
 /// Fails if there are no expectations.
@@ -383,14 +217,13 @@ pub fn check(
     name: &str,
     text: &[u8],
     file: &[u8],
-) -> Result<(String, Findings), Fault>
-    ensures ok { IfOk result (λ checked. IsReport name.now text.now file.now (string_bytes checked.0)
-        (map finding_value checked.1.items)) }
+) -> Result<(Report, Findings), Fault>
+    ensures ok { IfOk result (λ checked. AreFailuresOf text.now file.now (map found_of checked.1.items)) }
     ensures fault { IfErr result (IsEntryFault name.now entry.Expectation (specified_in text.now)) }
 {
     let expectations = parsed(alloc, name, text)?;
     let read = FileRead::new(alloc, "*", file)?;
     let found = failures(alloc, &expectations, &read)?;
-    let report = result_text(alloc, name, expectations.len(), &found)?;
+    let report = report_on(alloc, name, expectations.len(), &found)?;
     Ok((report, found))
 }

@@ -1,19 +1,20 @@
 -- The audit, or other findings, as one line of JSON.
-use Rattle.std.specs.Prelude.{ℕ, Bool, true, List, [], ◌∷◌, ◌++◌, Option, Some, None, codes, if◌then◌else◌}
-use Rattle.std.specs.Prelude.{◌==◌, length, map, option_map, zip}
+use Rattle.std.specs.Prelude.{◌≡◌, ℕ, Bool, true, List, [], ◌∷◌, ◌++◌, Option, Some, None, codes}
+use Rattle.std.specs.Prelude.{if◌then◌else◌, ◌==◌, length, map, string_bytes}
 use Rattle.serde_json.specs.{Data.Data, View.items_of, Written.compact_text}
 use Rattle.serde_json.specs.Data.{array, boolean, member, no_members, null, number, object, string, unsigned}
-use Rattle.texting_robots.specs.Callers.{CrawlDelay, LineValue, Label, sitemaps_in}
+use Rattle.texting_robots.specs.Callers.{Allow, CrawlDelay, Disallow, LineValue, Label, Raw, Sitemap}
+use Rattle.texting_robots.specs.Callers.{UserAgent, sitemaps_in}
 use Rattle.printable_text.specs.{Lines.lf, Text.level_word, Sanitize.sanitized}
 use Rattle.audit_core.specs.{declared.group.Group.Group, Audit.AgentValue, Audit.AuditValue, Texts.may_fetch}
-use Rattle.audit_core.specs.{Audit.VerdictValue}
+use Rattle.audit_core.specs.{Audit.VerdictValue, declared.findings.Finding.Finding}
 use Rattle.rfc9309_laws.specs.{Conformance.has_syntax, Conformance.has_verdicts}
 use Rattle.rfc9309_laws.specs.declared.conformance.Conformance.{Conformance}
 use Rattle.rfc9309_laws.specs.declared.conformance.Conformance.TheVariants.{OtherLine, Syntax}
 use Rattle.audit_core.specs.declared.group.Group.TheVariants.{Everyone, Named, Nobody, Star}
-use Rattle.audit_core.specs.Rows.{comment_of, has_value, kind_text, line_value_text, membership_word}
-use Rattle.audit_core.specs.Findings.{FindingValue, found_value, warning_finding}
-use Rattle.robots_warnings.specs.{File.lines_of, Message.WarningValue}
+use Rattle.audit_core.specs.Rows.{comment_of, kind_text, membership_word}
+use Rattle.audit_core.specs.Findings.{found_of, warning_found}
+use Rattle.robots_warnings.specs.{File.lines_of}
 
 -- untrusted bytes, sanitized
 abbrev pub sanitized_json : List ℕ → Data
@@ -58,7 +59,7 @@ agent_json agent = object
     (member (codes "group") (string (group_word agent.group))
     (member (codes "group_line") (number_json agent.group_line)
     (member (codes "may_fetch")
-    (word_json (option_map (λ word. word.text) (may_fetch agent.rejected agent.reach)))
+    (word_json (may_fetch agent.rejected agent.reach))
     (member (codes "rejected") (number_json agent.rejected)
     (member (codes "rules") (number (unsigned agent.rules))
     (member (codes "verdicts") (list_json verdict_json agent.verdicts) no_members))))))))
@@ -66,7 +67,11 @@ agent_json agent = object
 -- a delay in microseconds; for other lines the sanitized value; null if there is no value
 abbrev pub value_json : LineValue → Data
 value_json (CrawlDelay delay) = number_json delay
-value_json line = if has_value line then string (line_value_text line) else null
+value_json (UserAgent value) = text_json value
+value_json (Allow value) = text_json value
+value_json (Disallow value) = text_json value
+value_json (Sitemap value) = text_json value
+value_json (Raw value) = text_json value
 
 -- the comment of a directive, its name, its membership, its number and its value
 abbrev pub line_json : Label → Data
@@ -81,15 +86,12 @@ abbrev pub rows_json : (has_rows : Bool) → List Label → Data
 rows_json has_rows labels = list_json line_json (if has_rows then labels else [])
 
 -- a finding: its level, the number of its line, its name and its message
-abbrev pub finding_json : FindingValue → Data
+abbrev pub finding_json : Finding → Data
 finding_json finding = object
     (member (codes "level") (string (level_word finding.level))
     (member (codes "line") (number_json finding.line)
-    (member (codes "name") (string finding.name)
-    (member (codes "text") (string finding.message) no_members))))
-
-abbrev pub warning_json : WarningValue → Data
-warning_json warning = finding_json (found_value (warning_finding warning))
+    (member (codes "name") (string finding.name.now)
+    (member (codes "text") (string (string_bytes finding.message)) no_members))))
 
 -- true if this is known of the file, or else null
 abbrev pub known_json : Bool → Data
@@ -103,28 +105,32 @@ fault_json _ = null
 
 -- what the file means for each crawler, its syntax and verdicts, the lines if there are rows, the line at
 -- fault, the sitemaps, the warnings
-abbrev pub audit_json : Bool → AuditValue → Data
-audit_json has_rows audit = object
+abbrev pub audit_json : Bool → AuditValue → (warnings : List Finding) → Data
+audit_json has_rows audit warnings = object
     (member (codes "agents") (list_json agent_json audit.agents)
     (member (codes "has_rfc_9309_syntax") (known_json (has_syntax audit.syntax))
     (member (codes "has_rfc_9309_verdicts") (known_json (has_verdicts audit.syntax))
     (member (codes "lines") (rows_json has_rows audit.labels)
     (member (codes "rfc_9309_line") (fault_json audit.syntax)
     (member (codes "sitemaps") (list_json sanitized_json (sitemaps_in (lines_of audit.labels)))
-    (member (codes "warnings") (list_json warning_json audit.warnings) no_members)))))))
+    (member (codes "warnings") (list_json finding_json warnings) no_members)))))))
 
+-- sanitized as a whole, so that it is one line, which steers no terminal
 abbrev pub json_line : Data → List ℕ
-json_line value = compact_text value ++ lf ∷ []
+json_line value = sanitized (compact_text value) ++ lf ∷ []
 
-abbrev pub json_text : Bool → AuditValue → List ℕ
-json_text has_rows audit = json_line (audit_json has_rows audit)
+-- the warnings have messages, of which nothing is said here
+pub record IsJson (has_rows : Bool) (audit : AuditValue) (text : List ℕ) : Type 0 where
+  pub warnings : List Finding
+  pub are : map found_of warnings ≡ map warning_found audit.warnings
+  pub text_is : text ≡ json_line (audit_json has_rows audit warnings)
 
 -- the name of a file, what was found in it, and the name of an older version, or null if that is empty
-abbrev pub findings_json : (file old : List ℕ) → List FindingValue → Data
+abbrev pub findings_json : (file old : List ℕ) → List Finding → Data
 findings_json file old findings = object
     (member (codes "file") (sanitized_json file)
     (member (codes "findings") (list_json finding_json findings)
     (member (codes "old") (text_json old) no_members)))
 
-abbrev pub findings_text : (file old : List ℕ) → List FindingValue → List ℕ
+abbrev pub findings_text : (file old : List ℕ) → List Finding → List ℕ
 findings_text file old findings = json_line (findings_json file old findings)

@@ -1,8 +1,8 @@
 -- The findings as a log of SARIF 2.1.0 (OASIS Standard, Static Analysis Results Interchange Format), in one
 -- line.
-use Rattle.std.specs.Prelude.{ℕ, Bool, false, List, [], ◌∷◌, ◌++◌, ◌==◌, ◌&&◌, ◌||◌, Option, Some, None, not}
+use Rattle.std.specs.Prelude.{◌≡◌, ℕ, Bool, false, List, [], ◌∷◌, ◌++◌, ◌==◌, ◌&&◌, ◌||◌, Option, Some, None, not}
 use Rattle.std.specs.Prelude.{bytes_eq, codes, count_by, encode_utf8_all, flat_map, if◌then◌else◌, option_map}
-use Rattle.std.specs.Prelude.{unwrap_or}
+use Rattle.std.specs.Prelude.{map, string_bytes, unwrap_or}
 use Rattle.std.specs.{Int.is_in_range, List.list_any, Str.byte, Str.chars}
 use Rattle.percent_encoding.specs.{Percent.percent_encode_byte}
 use Rattle.serde_json.specs.Data.{Data, array, item, member, no_items, no_members, number, object, string}
@@ -11,7 +11,8 @@ use Rattle.printable_text.specs.{declared.level.Level.Level, Text.level_word, Te
 use Rattle.printable_text.specs.declared.level.Level.TheVariants.{Error, Note, Warning}
 use Rattle.robots_warnings.specs.{declared.table.Cause.Cause}
 use Rattle.robots_warnings.specs.Table.{all_causes, example_of, level_of, name_of, text_of}
-use Rattle.audit_core.specs.{Findings.FindingValue}
+use Rattle.audit_core.specs.{Audit.AuditValue, Findings.findings as findings_of, Findings.found_of}
+use Rattle.audit_core.specs.declared.findings.{Finding.Finding}
 use Rattle.audit_json.specs.Json.{json_line, list_json}
 
 -- a letter, a digit, or one of `-._~/`
@@ -181,12 +182,12 @@ abbrev pub location_json : List ℕ → Option ℕ → Data
 location_json uri line = with_one (codes "physicalLocation") (place_json uri line)
 
 -- a result (section 3.27)
-abbrev pub result_json : List ℕ → FindingValue → Data
+abbrev pub result_json : List ℕ → Finding → Data
 result_json uri finding = object
     (member (codes "level") (string (level_word finding.level))
     (member (codes "locations") (array (item (location_json uri finding.line) no_items))
-    (member (codes "message") (message_json finding.message)
-    (member (codes "ruleId") (string finding.name) no_members))))
+    (member (codes "message") (message_json (string_bytes finding.message))
+    (member (codes "ruleId") (string finding.name.now) no_members))))
 
 -- the program (section 3.18)
 abbrev pub tool_json : Data
@@ -196,17 +197,20 @@ tool_json = with_one (codes "driver") (object
     (member (codes "version") (string (codes "1.0.0")) no_members))))
 
 -- a run (section 3.14)
-abbrev pub run_json : List ℕ → List FindingValue → Data
+abbrev pub run_json : List ℕ → List Finding → Data
 run_json uri findings = object
     (member (codes "results") (list_json (result_json uri) findings)
     (member (codes "tool") tool_json no_members))
 
 -- the log (section 3.13)
-abbrev pub log_json : List ℕ → List FindingValue → Data
+abbrev pub log_json : List ℕ → List Finding → Data
 log_json uri findings = object
     (member (codes "$schema") (string (codes "https://json.schemastore.org/sarif-2.1.0.json"))
     (member (codes "runs") (array (item (run_json uri findings) no_items))
     (member (codes "version") (string (codes "2.1.0")) no_members)))
 
-abbrev pub sarif_text : List ℕ → List FindingValue → List ℕ
-sarif_text file findings = json_line (log_json (uri_of file) findings)
+-- of an audit of the file with this name
+pub record IsLog (file : List ℕ) (audit : AuditValue) (text : List ℕ) : Type 0 where
+  pub findings : List Finding
+  pub are : map found_of findings ≡ findings_of audit
+  pub text_is : text ≡ json_line (log_json (uri_of file) findings)

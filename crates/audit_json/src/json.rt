@@ -2,24 +2,23 @@
 ghost use Rattle.std.specs.Prelude.{◌≡◌, false, IfOk, map, option_map, string_bytes};
 ghost use Rattle.serde_json.specs.{View.view, Written.has_float};
 ghost use Rattle.texting_robots.specs.Callers.{by_value, label_by_value, sitemaps_in};
-ghost use Rattle.audit_json.specs.Json.{agent_json, audit_json, finding_json, findings_json};
-ghost use Rattle.audit_json.specs.Json.{findings_text, group_word, json_line, json_text};
-ghost use Rattle.audit_json.specs.Json.{fault_json, known_json, line_json, list_json, number_json, rows_json, sanitized_json};
-ghost use Rattle.audit_json.specs.Json.{text_json, value_json, warning_json, word_json};
-ghost use Rattle.audit_core.specs.{Findings.finding_value, Rows.membership_word};
+ghost use Rattle.audit_json.specs.Json.{IsJson, agent_json, audit_json, fault_json, findings_json};
+ghost use Rattle.audit_json.specs.Json.{findings_text, group_word, json_line, known_json, line_json};
+ghost use Rattle.audit_json.specs.Json.{list_json, number_json, rows_json, sanitized_json, text_json};
+ghost use Rattle.audit_json.specs.Json.{value_json, word_json};
 ghost use Rattle.robots_warnings.specs.File.{lines_of};
 
 use audit_core::audit::{AgentAudit, Audit, Verdict};
-use audit_core::findings::Finding;
+use audit_core::findings::{Finding, warnings_found};
 use audit_core::group::Group;
-use audit_core::rows::{comment_of, has_value, kind_text, membership_word, push_value};
+use audit_core::rows::{comment_of, kind_text, membership_word};
 use audit_core::sitemaps::sitemaps_of;
 use audit_core::texts::may_fetch;
 use printable_text::sanitize::push_sanitized;
 use rfc9309_laws::conformance::Conformance;
-use robots_warnings::warning::{Warning, push_warning_text};
 use serde_json::{Value, json};
 use std::alloc::{AllocError, Global};
+use std::fmt;
 use texting_robots::labels::LabeledLine;
 use texting_robots::parser::Line;
 
@@ -127,17 +126,17 @@ impl<'a> Json for AgentAudit<'a> {
     }
 }
 
+/// A delay, or the bytes of another value.
 fn value_json(alloc: Global, line: Line<'_>) -> Result<Value, AllocError>
     ensures { IfOk result (λ value. view value ≡ value_json (by_value line.entry)) }
 {
     match line {
         Line::CrawlDelay(delay) => Ok(delay_json(delay)),
-        _ if has_value(line) => {
-            let mut text = String::new(alloc);
-            push_value(&mut text, line)?;
-            Ok(Value::String(text))
-        }
-        _ => Ok(Value::Null),
+        Line::UserAgent(value)
+        | Line::Allow(value)
+        | Line::Disallow(value)
+        | Line::Sitemap(value)
+        | Line::Raw(value) => text_json(alloc, value),
     }
 }
 
@@ -164,10 +163,9 @@ impl<'a> Json for &'a [u8] {
 }
 
 impl Json for Finding {
-    ghost use Rattle.audit_core.specs.Findings.{finding_value};
     ghost use Rattle.audit_json.specs.Json.{finding_json};
 
-    ghost json = { λ finding. finding_json (finding_value finding) };
+    ghost json = { finding_json };
 
     fn json(&self, alloc: Global) -> Result<Value, AllocError> {
         json!(in alloc; {
@@ -176,24 +174,6 @@ impl Json for Finding {
             "name": self.name,
             "text": self.message.as_str(),
         })
-    }
-}
-
-impl<'a> Json for Warning<'a> {
-    ghost use Rattle.audit_json.specs.Json.{warning_json};
-
-    ghost json = { warning_json };
-
-    fn json(&self, alloc: Global) -> Result<Value, AllocError> {
-        let mut message = String::new(alloc);
-        push_warning_text(&mut message, self)?;
-        let finding = Finding {
-            level: self.cause.level(),
-            line: self.line,
-            name: self.cause.name(),
-            message,
-        };
-        finding.json(alloc)
     }
 }
 
@@ -238,8 +218,14 @@ fn fault_json(syntax: Conformance) -> Value
     }
 }
 
-fn audit_json(alloc: Global, has_rows: bool, audit: &Audit<'_>) -> Result<Value, AllocError>
-    ensures { IfOk result (λ value. view value ≡ audit_json has_rows audit.now) }
+/// `found` are the warnings.
+fn audit_json(
+    alloc: Global,
+    has_rows: bool,
+    audit: &Audit<'_>,
+    found: &[Finding],
+) -> Result<Value, AllocError>
+    ensures { IfOk result (λ value. view value ≡ audit_json has_rows audit.now found.now) }
 {
     let syntax = known_json(audit.syntax.has_syntax());
     let verdicts = known_json(audit.syntax.has_verdicts());
@@ -251,7 +237,7 @@ fn audit_json(alloc: Global, has_rows: bool, audit: &Audit<'_>) -> Result<Value,
         "lines": rows_json(alloc, has_rows, &audit.labels)?,
         "rfc_9309_line": line,
         "sitemaps": sitemaps_json(alloc, &audit.labels)?,
-        "warnings": list_json(alloc, &audit.warnings)?,
+        "warnings": list_json(alloc, found)?,
     })
 }
 
@@ -260,22 +246,19 @@ pub(crate) fn json_line(alloc: Global, value: &Value) -> Result<String, AllocErr
     requires { has_float (view value.now) ≡ false }
     ensures { IfOk result (λ text. string_bytes text ≡ json_line (view value.now)) }
 {
-    let mut text = value.to_string(alloc)?;
+    let json = value.to_string(alloc)?;
+    let mut text = String::new(alloc);
+    push_sanitized(&mut text, json.as_bytes())?;
     text.push('\n')?;
     Ok(text)
 }
 
 /// The audit as one line of JSON.
-pub fn json_text(alloc: Global, has_rows: bool, audit: &Audit<'_>) -> Result<String, AllocError>
-    ensures { IfOk result (λ text. string_bytes text ≡ json_text has_rows audit.now) }
+pub fn json_text(alloc: Global, has_rows: bool, audit: &Audit<'_>) -> Result<String, fmt::Error>
+    ensures { IfOk result (λ text. IsJson has_rows audit.now (string_bytes text)) }
 {
-    json_line(alloc, &audit_json(alloc, has_rows, audit)?)
-}
-
-fn list_of_findings(alloc: Global, findings: &[Finding]) -> Result<Value, AllocError>
-    ensures { IfOk result (λ value. view value ≡ list_json finding_json (map finding_value findings.now)) }
-{
-    list_json(alloc, findings)
+    let found = warnings_found(alloc, &audit.warnings)?;
+    Ok(json_line(alloc, &audit_json(alloc, has_rows, audit, &found)?)?)
 }
 
 /// The name of a file, what was found in it, and the name of an older version, or null if that is empty.
@@ -285,12 +268,11 @@ fn findings_json(
     old: &str,
     findings: &[Finding],
 ) -> Result<Value, AllocError>
-    ensures { IfOk result (λ value.
-        view value ≡ findings_json file.now old.now (map finding_value findings.now)) }
+    ensures { IfOk result (λ value. view value ≡ findings_json file.now old.now findings.now) }
 {
     json!(in alloc; {
         "file": sanitized_json(alloc, file.as_bytes())?,
-        "findings": list_of_findings(alloc, findings)?,
+        "findings": list_json(alloc, findings)?,
         "old": text_json(alloc, old.as_bytes())?,
     })
 }
@@ -302,8 +284,7 @@ pub fn findings_text(
     old: &str,
     findings: &[Finding],
 ) -> Result<String, AllocError>
-    ensures { IfOk result (λ text.
-        string_bytes text ≡ findings_text file.now old.now (map finding_value findings.now)) }
+    ensures { IfOk result (λ text. string_bytes text ≡ findings_text file.now old.now findings.now) }
 {
     json_line(alloc, &findings_json(alloc, file, old, findings)?)
 }

@@ -1,12 +1,10 @@
 //! Findings as a log of SARIF 2.1.0, in one line.
 ghost use Rattle.std.specs.Prelude.{◌≡◌, ◌++◌, IfOk, OnOk, encode_utf8_all, map, string_bytes};
 ghost use Rattle.serde_json.specs.View.{view};
-ghost use Rattle.audit_core.specs.Findings.{findings};
-ghost use Rattle.audit_core.specs.Findings.{finding_value};
 ghost use Rattle.audit_json.specs.Internal.{rule_value};
 ghost use Rattle.audit_json.specs.Json.{list_json};
 ghost use Rattle.audit_json.specs.Sarif.{all_rules, begins_with_slash, description_of, has_name, has_name_at, help_text, is_uri_byte, worst_level, literal_char, literal_text, log_json};
-ghost use Rattle.audit_json.specs.Sarif.{message_json, one_slash, place_json, result_json, rule_json, rule_unless_later, rules_of, sarif_text, tool_json, uri_byte, uri_of};
+ghost use Rattle.audit_json.specs.Sarif.{IsLog, message_json, one_slash, place_json, result_json, rule_json, rule_unless_later, rules_of, tool_json, uri_byte, uri_of};
 
 use crate::json::json_line;
 use audit_core::audit::Audit;
@@ -17,6 +15,7 @@ use printable_text::level::Level;
 use robots_warnings::table::{Cause, causes};
 use serde_json::{Value, json};
 use std::alloc::{AllocError, Global};
+use std::fmt;
 
 /// What findings with this name are about.
 #[derive(Drop)]
@@ -243,7 +242,7 @@ fn place_json(alloc: Global, uri: &str, line: Option<usize>) -> Result<Value, Al
 }
 
 fn result_json(alloc: Global, uri: &str, finding: &Finding) -> Result<Value, AllocError>
-    ensures { IfOk result (λ value. view value ≡ result_json uri.now (finding_value finding.now)) }
+    ensures { IfOk result (λ value. view value ≡ result_json uri.now finding.now) }
 {
     json!(in alloc; {
         "level": finding.level.word(),
@@ -254,7 +253,7 @@ fn result_json(alloc: Global, uri: &str, finding: &Finding) -> Result<Value, All
 }
 
 fn results_json(alloc: Global, uri: &str, findings: &[Finding]) -> Result<Value, AllocError>
-    ensures { IfOk result (λ value. view value ≡ list_json (result_json uri.now) (map finding_value findings.now)) }
+    ensures { IfOk result (λ value. view value ≡ list_json (result_json uri.now) findings.now) }
 {
     let mut list = Vec::with_capacity(alloc, findings.len())?;
     for finding in findings {
@@ -276,7 +275,7 @@ fn tool_json(alloc: Global) -> Result<Value, AllocError>
 }
 
 fn log_json(alloc: Global, uri: &str, findings: &[Finding]) -> Result<Value, AllocError>
-    ensures { IfOk result (λ value. view value ≡ log_json uri.now (map finding_value findings.now)) }
+    ensures { IfOk result (λ value. view value ≡ log_json uri.now findings.now) }
 {
     json!(in alloc; {
         "$schema": "https://json.schemastore.org/sarif-2.1.0.json",
@@ -286,10 +285,10 @@ fn log_json(alloc: Global, uri: &str, findings: &[Finding]) -> Result<Value, All
 }
 
 /// The log of the findings of an audit of the file with this name, as one line of JSON.
-pub fn sarif_text(alloc: Global, file: &str, audit: &Audit<'_>) -> Result<String, AllocError>
-    ensures { IfOk result (λ text. string_bytes text ≡ sarif_text file.now (findings audit.now)) }
+pub fn sarif_text(alloc: Global, file: &str, audit: &Audit<'_>) -> Result<String, fmt::Error>
+    ensures { IfOk result (λ text. IsLog file.now audit.now (string_bytes text)) }
 {
     let findings = findings_of(alloc, audit)?;
     let uri = uri_of(alloc, file.as_bytes())?;
-    json_line(alloc, &log_json(alloc, &uri, &findings)?)
+    Ok(json_line(alloc, &log_json(alloc, &uri, &findings)?)?)
 }

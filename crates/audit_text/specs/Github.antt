@@ -5,13 +5,11 @@
 -- In messages `%`, CR and LF are escaped, in properties also `:` and `,`: a text ends neither its property
 -- nor its line.
 use Rattle.std.specs.Prelude.{ℕ, Bool, true, false, List, [], ◌∷◌, ◌++◌, ◌==◌, ◌&&◌, ◌||◌, not, Option, Some}
-use Rattle.std.specs.Prelude.{None, codes, decimal, flat_map, if◌then◌else◌, map}
+use Rattle.std.specs.Prelude.{None, codes, decimal, flat_map, if◌then◌else◌, map, string_bytes}
 use Rattle.std.specs.{List.list_all, Str.byte}
-use Rattle.std.proofs.{Common.refl}
 use Rattle.printable_text.specs.{Lines.ended, Sanitize.sanitized, declared.level.Level.Level}
-use Rattle.printable_text.specs.Text.{Label, label}
 use Rattle.printable_text.specs.declared.level.Level.TheVariants.{Error, Note, Warning}
-use Rattle.audit_core.specs.{Findings.FindingValue}
+use Rattle.audit_core.specs.{declared.findings.Finding.Finding}
 
 -- a byte of a property or of a message
 abbrev pub escaped_byte : (is_property : Bool) → ℕ → List ℕ
@@ -27,28 +25,29 @@ abbrev pub property_text : List ℕ → List ℕ
 property_text = escaped true
 
 -- up to the name of the file; GitHub's word for a note is `notice`
-abbrev pub command_label : Level → Label
-command_label Error = label (codes "::error file=") refl
-command_label Warning = label (codes "::warning file=") refl
-command_label Note = label (codes "::notice file=") refl
+abbrev pub command_label : Level → List ℕ
+command_label Error = codes "::error file="
+command_label Warning = codes "::warning file="
+command_label Note = codes "::notice file="
 
 abbrev pub line_property : Option ℕ → List ℕ
 line_property None = []
 line_property (Some line) = codes ",line=" ++ property_text (decimal line)
 
 -- `file` is the sanitized name of the file
-abbrev pub command : List ℕ → FindingValue → List ℕ
-command file finding =
-    (command_label finding.level).text
-    ++ (property_text file ++ (line_property finding.line ++ (codes ",title=" ++ (property_text finding.name
-    ++ (codes "::" ++ escaped false finding.message)))))
+abbrev pub command_of : List ℕ → Finding → List ℕ
+command_of file finding =
+    let message = escaped false (string_bytes finding.message) in
+    command_label finding.level
+    ++ (property_text file ++ (line_property finding.line
+    ++ (codes ",title=" ++ (property_text finding.name.now ++ (codes "::" ++ message)))))
 
-abbrev pub github_text : List ℕ → List FindingValue → List ℕ
+-- the same, sanitized as a whole, so that it is one line, and no other command begins within it
+abbrev pub command : List ℕ → Finding → List ℕ
+command file finding = sanitized (command_of file finding)
+
+abbrev pub github_text : List ℕ → List Finding → List ℕ
 github_text file findings = ended (map (command (sanitized file)) findings)
-
--- neither CR nor LF, so that the text is part of a single line
-abbrev pub is_in_line : List ℕ → Bool
-is_in_line text = list_all (λ b. not (b == 13 || b == 10)) text
 
 -- neither CR, LF nor a byte that ends a property
 abbrev pub is_in_property : List ℕ → Bool

@@ -1,9 +1,8 @@
 //! Findings as annotations of a workflow on GitHub: one workflow command per line.
-ghost use Rattle.std.specs.Prelude.{◌≡◌, ◌++◌, ◌∷◌, [], IfOk, OnOk, map};
+ghost use Rattle.std.specs.Prelude.{◌≡◌, ◌++◌, ◌∷◌, [], IfOk, OnOk, map, string_bytes};
 ghost use Rattle.printable_text.specs.Lines.{ended};
-ghost use Rattle.audit_text.specs.Github.{command, command_label, escaped, escaped_byte, github_text};
-ghost use Rattle.audit_text.specs.Github.{line_property, property_text};
-ghost use Rattle.audit_core.specs.Findings.{finding_value};
+ghost use Rattle.audit_text.specs.Github.{command, command_label, command_of, escaped, escaped_byte};
+ghost use Rattle.audit_text.specs.Github.{github_text, line_property, property_text};
 
 use audit_core::findings::Finding;
 use itoa::Buffer;
@@ -41,7 +40,7 @@ fn push_property(out: &mut Vec<u8>, label: &[u8], value: &[u8]) -> Result<(), Al
 }
 
 fn command_label(level: Level) -> &'static [u8]
-    ensures { result.now ≡ (command_label level).text }
+    ensures { result.now ≡ command_label level }
 {
     match level {
         Level::Error => b"::error file=",
@@ -60,34 +59,40 @@ fn push_line_property(out: &mut Vec<u8>, line: Option<usize>) -> Result<(), Allo
 }
 
 /// `file` is the sanitized name of the file.
-fn push_command(out: &mut Vec<u8>, file: &str, finding: &Finding) -> Result<(), AllocError>
-    ensures { OnOk result (out.new.items ≡ out.old.items ++ ended (command file.now (finding_value finding.now) ∷ [])) }
+fn command_of(alloc: Global, file: &str, finding: &Finding) -> Result<Vec<u8>, AllocError>
+    ensures { IfOk result (λ command. command.items ≡ command_of file.now finding.now) }
 {
-    push_property(out, command_label(finding.level), file.as_bytes())?;
-    push_line_property(out, finding.line)?;
-    push_property(out, b",title=", finding.name.as_bytes())?;
-    out.extend_from_slice(b"::")?;
-    push_escaped(out, false, finding.message.as_bytes())?;
-    out.extend_from_slice(b"\n")
+    let mut command = Vec::new(alloc);
+    push_property(&mut command, command_label(finding.level), file.as_bytes())?;
+    push_line_property(&mut command, finding.line)?;
+    push_property(&mut command, b",title=", finding.name.as_bytes())?;
+    command.extend_from_slice(b"::")?;
+    push_escaped(&mut command, false, finding.message.as_bytes())?;
+    Ok(command)
 }
 
-fn push_commands(out: &mut Vec<u8>, file: &str, findings: &[Finding]) -> Result<(), AllocError>
-    ensures { OnOk result (out.new.items
-        ≡ out.old.items ++ ended (map (command file.now) (map finding_value findings.now))) }
+fn push_command(
+    alloc: Global,
+    out: &mut String,
+    file: &str,
+    finding: &Finding,
+) -> Result<(), AllocError>
+    ensures { OnOk result (string_bytes out.new
+        ≡ string_bytes out.old ++ ended (command file.now finding.now ∷ [])) }
 {
-    for finding in findings {
-        push_command(out, file, finding)?;
-    }
-    Ok(())
+    let command = command_of(alloc, file, finding)?;
+    push_sanitized(out, &command)?;
+    out.push('\n')
 }
 
 /// One line for each finding in the file with this name.
-pub fn github_text(alloc: Global, file: &str, findings: &[Finding]) -> Result<Vec<u8>, AllocError>
-    ensures { IfOk result (λ text. text.items ≡ github_text file.now (map finding_value findings.now)) }
+pub fn github_text(alloc: Global, file: &str, findings: &[Finding]) -> Result<String, AllocError>
+    ensures { IfOk result (λ text. string_bytes text ≡ github_text file.now findings.now) }
 {
-    let mut name = String::new(alloc);
+    let (mut name, mut out) = (String::new(alloc), String::new(alloc));
     push_sanitized(&mut name, file.as_bytes())?;
-    let mut out = Vec::new(alloc);
-    push_commands(&mut out, &name, findings)?;
+    for finding in findings {
+        push_command(alloc, &mut out, &name, finding)?;
+    }
     Ok(out)
 }

@@ -1,22 +1,21 @@
--- Writing trees, and reading them back.
+-- Writing pieces of a page, and reading them back.
 use Rattle.std.specs.Prelude.{if◌then◌else◌}
 use Rattle.std.proofs.Common.{ℕ, ◌/◌, ◌<◌, ◌==◌, false, List, [], ◌∷◌, ◌++◌, ap, arith, refl}
-use Rattle.std.proofs.Common.{flat_map, ◌≡◌, ◌∙◌, Bool, append_assoc, not, true, ◌&&◌, Some, codes}
+use Rattle.std.proofs.Common.{flat_map, ◌≡◌, ◌∙◌, Bool, append_assoc, not, true, ◌&&◌, codes}
 use Rattle.std.proofs.Common.{inl, inr, map-id, subst, sym}
 use Rattle.std.specs.{Bool.IsTrue, List.list_all}
 use Rattle.std.proofs.lemmas.Bool.{Decides.nat_tests, and_parts, cases_Bool, eqb-true, not-true}
-use Rattle.std.proofs.lemmas.{Grind.flat_map-append, Slice.Eq.bytes_eq-Decides}
+use Rattle.std.proofs.lemmas.{Slice.Eq.bytes_eq-Decides}
 use Rattle.html_writer.specs.Html.{escaped, escaped_byte, escaped_bytes, AreAttributes, Attribute, Html, text}
-use Rattle.html_writer.specs.Html.{IsContent, element, is_title, style, void, with_text, written, ◌⊕◌, IsHtml}
-use Rattle.html_writer.specs.Html.{IsText, attribute, attribute_bytes, document, has_attribute, is_among}
+use Rattle.html_writer.specs.Html.{IsContent, element, is_title, style, void, with_text, written, ◌⊕◌}
+use Rattle.html_writer.specs.Html.{IsText, attribute, attribute_bytes, has_attribute, is_among}
 use Rattle.html_writer.specs.Html.{is_character, is_css, is_letter, is_name, is_name_byte, is_ordinary}
 use Rattle.html_writer.specs.Html.{is_style, is_text, is_written_as_is, void_names}
 use Rattle.std.proofs.lemmas.List.{append-nil, Concat.flat_map_single}
 use Rattle.html_writer.specs.Reader.{Kind, Opened, Reader, Tag, after_attribute_value, any_content}
-use Rattle.html_writer.specs.Reader.{attribute_name, attribute_value, data_state, finished}
+use Rattle.html_writer.specs.Reader.{attribute_name, attribute_value, data_state}
 use Rattle.html_writer.specs.Reader.{end_tag_name, has_elements, has_references, kind_in, kind_of, new_tag}
-use Rattle.html_writer.specs.Reader.{only_text, raw_text, read, read_document, reader, run, tag_name}
-use Rattle.html_writer.specs.Html as html
+use Rattle.html_writer.specs.Reader.{only_text, raw_text, reader, run, tag_name}
 
 -- ---- Escaping.
 
@@ -37,11 +36,7 @@ each_same (byte ∷ bytes) are =
 pub escaped_same : (bytes : List ℕ) → list_all is_written_as_is bytes ≡ true → escaped bytes ≡ bytes
 escaped_same bytes are = escaped-is bytes ∙ each_same bytes are
 
-pub escaped-append : (one two : List ℕ) → escaped (one ++ two) ≡ escaped one ++ escaped two
-escaped-append one two =
-    rw (escaped-is (one ++ two), escaped-is one, escaped-is two) (flat_map-append escaped_byte one two)
-
--- ---- Trees one after the other, what is written for them, and when they can be read back.
+-- ---- Trees one after the other, and when they can be read back.
 
 pub with_text-nil : (html : Html) → with_text [] html ≡ html
 with_text-nil (text bytes) = refl
@@ -65,72 +60,12 @@ followed_assoc (void before name attributes after) two three =
     ap (void before name attributes) (followed_assoc after two three)
 followed_assoc (style before css after) two three = ap (style before css) (followed_assoc after two three)
 
-pub followed-nil : (html : Html) → html ⊕ text [] ≡ html
-followed-nil (text bytes) = ap text (append-nil bytes)
-followed-nil (element before name attributes children after) =
-    ap (element before name attributes children) (followed-nil after)
-followed-nil (void before name attributes after) = ap (void before name attributes) (followed-nil after)
-followed-nil (style before css after) = ap (style before css) (followed-nil after)
-
-pub written-with_text : (bytes : List ℕ) (tree : Html)
-    → written (with_text bytes tree) ≡ escaped bytes ++ written tree
-written-with_text bytes (text more) = escaped-append bytes more
-written-with_text bytes tree = rw escaped-append (simp append_assoc)
-
-pub written-followed : (one two : Html) → written (one ⊕ two) ≡ written one ++ written two
-written-followed (text bytes) two = written-with_text bytes two
-written-followed (element before name attributes children after) two =
-    rw (written-followed after two) (simp append_assoc)
-written-followed (void before name attributes after) two = rw (written-followed after two) (simp append_assoc)
-written-followed (style before css after) two = rw (written-followed after two) (simp append_assoc)
-
--- for `using` at a function that writes several pieces: they are joined to what is written for a tree
-pub ruleset joined = (append_assoc, append-nil, written-followed, written-with_text)
-
-module _ (P : List ℕ → Type 0) (both : (one two : List ℕ) → P one → P two → P (one ++ two)) (elements : Bool)
-  where
-    pub text_content : (bytes : List ℕ) (tree : Html) → P bytes → IsContent P elements tree
-        → IsContent P elements (with_text bytes tree)
-    text_content bytes (text more) are is = both bytes more are is
-    text_content bytes (element before name attributes children after) are
-        (allowed, is, rest, more, list, child, later) =
-        (allowed, both bytes before are is, rest, more, list, child, later)
-    text_content bytes (void before name attributes after) are (allowed, is, rest, more, list, later) =
-        (allowed, both bytes before are is, rest, more, list, later)
-    text_content bytes (style before css after) are (allowed, is, rest, plain, later) =
-        (allowed, both bytes before are is, rest, plain, later)
-
-    pub followed_content : (one two : Html) → IsContent P elements one → IsContent P elements two
-        → IsContent P elements (one ⊕ two)
-    followed_content (text bytes) two is too = text_content bytes two is too
-    followed_content (element before name attributes children after) two
-        (allowed, is, rest, more, list, child, later) too =
-        (allowed, is, rest, more, list, child, followed_content after two later too)
-    followed_content (void before name attributes after) two (allowed, is, rest, more, list, later) too =
-        (allowed, is, rest, more, list, followed_content after two later too)
-    followed_content (style before css after) two (allowed, is, rest, plain, later) too =
-        (allowed, is, rest, plain, followed_content after two later too)
-
 module _ (P Q : List ℕ → Type 0) (weaker : (bytes : List ℕ) → P bytes → Q bytes) where
   pub attributes_weaker : (before attributes : List Attribute) → AreAttributes P before attributes
       → AreAttributes Q before attributes
   attributes_weaker before [] are = tt
   attributes_weaker before (a ∷ attributes) (named, new, is, rest) =
       (named, new, weaker a.value is, attributes_weaker (before ++ a ∷ []) attributes rest)
-
-  pub content_weaker : (elements : Bool) (tree : Html) → IsContent P elements tree
-      → IsContent Q elements tree
-  content_weaker elements (text bytes) is = weaker bytes is
-  content_weaker elements (element before name attributes children after)
-      (allowed, is, named, ordinary, are, child, later) =
-      let inside = content_weaker (not (is_title name)) children child in
-      let list = attributes_weaker [] attributes are in
-      (allowed, weaker before is, named, ordinary, list, inside, content_weaker elements after later)
-  content_weaker elements (void before name attributes after) (allowed, is, named, among, are, later) =
-      let list = attributes_weaker [] attributes are in
-      (allowed, weaker before is, named, among, list, content_weaker elements after later)
-  content_weaker elements (style before css after) (allowed, is, are, plain, later) =
-      (allowed, weaker before is, are, weaker css plain, content_weaker elements after later)
 
 -- ---- What is written is read back, piece by piece.
 
@@ -378,13 +313,3 @@ content_read opened content (style before css rest) has (allowed, is_before, are
     simp (followed_assoc, append-nil, with_text-nil) at
     (read_on (text_read opened content before has is_before)
     (read_on (style_read opened outer css allowed are) (content_read opened (outer ⊕ item) rest has later)))
-
-pub tree_read : (tree : Html) → IsHtml tree → read (written tree) ≡ Some tree
-tree_read tree is =
-    let whole = (content_read [] (text []) tree refl is).leads [] in
-    ap (λ (r : Reader). finished r.state r.opened r.content) (rw (append-nil (written tree)) at whole)
-    ∙ ap Some (with_text-nil tree)
-
-pub page_read : (tree : Html) → IsHtml tree → read_document (document tree) ≡ Some tree
-unfolding html.doctype
-page_read tree is = tree_read tree is

@@ -99,9 +99,6 @@ written (style before css after) = escaped before ++ (style_bytes css ++ written
 unfoldable pub doctype : List ℕ
 doctype = codes "<!DOCTYPE html>"
 
-abbrev pub document : Html → List ℕ
-document html = doctype ++ written html
-
 abbrev pub is_letter : ℕ → Bool
 is_letter byte = is_in_range 97 122 byte
 
@@ -175,6 +172,3 @@ IsContent P elements (style before css after) =
 
 abbrev pub IsText : List ℕ → Type 0
 IsText bytes = IsTrue (is_text bytes)
-
-abbrev pub IsHtml : Html → Type 0
-IsHtml html = IsContent IsText true html

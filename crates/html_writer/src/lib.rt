@@ -1,6 +1,5 @@
-//! Trees of HTML: writing them, and a proof that reading what is written yields the same tree.
+//! HTML, written piece by piece, and a proof that reading what is written yields the same tree.
 #![tactic(auto)]
 
 pub mod html;
-pub mod laws;
 pub mod write;

@@ -57,10 +57,3 @@ module _ (escape : ℕ → List ℕ) (stay : agree_below (stays_printable escape
   escaped_printable text is =
       subst (λ t. IsPrintable (flat_map escape t)) (encodes-chars text is.utf8)
       (text_escaped (chars text) (scalars-chars text is.utf8) is.all)
-
-  pub in_quotes : (text : List ℕ) → IsPrintable text → IsPrintable (34 ∷ (flat_map escape text ++ 34 ∷ []))
-  in_quotes text is =
-      let quote = ascii_printable true (34 ∷ []) refl in
-      let inside = escaped_printable text is in
-      append_printable true (34 ∷ []) (flat_map escape text ++ 34 ∷ []) quote
-      (append_printable true (flat_map escape text) (34 ∷ []) inside quote)

@@ -1,21 +1,25 @@
 -- What is written to a report keeps it safe.
-use Rattle.std.proofs.Common.{◌≡◌, ℕ, Bool, true, false, List, [], ◌∷◌, ◌++◌, append-nil}
-use Rattle.std.proofs.Common.{append_assoc, ap, drop, refl, subst, sym, take, ◌∙◌}
-use Rattle.std.specs.{List.AllByRecursion as Each, List.list_all, Str.IsCharBoundary, Str.IsUtf8, Str.chars}
-use Rattle.std.proofs.lemmas.{Bool.and_parts, List.Folds.list_all-append, List.take-append-drop}
-use Rattle.std.proofs.lemmas.Str.{IsUtf8-drop, IsUtf8-take, chars-append}
-use Rattle.printable_text.specs.{declared.level.Level.Level}
-use Rattle.printable_text.specs.Lines.{ended}
+use Rattle.std.specs.Prelude.{nat_eq, nat_lt}
+use Rattle.std.proofs.Common.{◌≡◌, ◌∙◌, ℕ, Bool, true, false, List, [], ◌∷◌, ◌++◌, append-nil, append_assoc, ap}
+use Rattle.std.proofs.Common.{ap₂, arith, drop, flat_map, inl, inr, refl, subst, sym, take}
+use Rattle.std.specs.{Char.encode_utf8, Char.is_whitespace, List.AllByRecursion as Each, List.list_all}
+use Rattle.std.specs.Str.{IsCharBoundary, IsUtf8, chars, encode_utf8_all}
+use Rattle.std.proofs.lemmas.Bool.{and_parts, cases_Bool, Decides.nat_tests}
+use Rattle.std.proofs.lemmas.List.{Concat.flat_map-append, Folds.list_all-append, take-append-drop}
+use Rattle.std.proofs.lemmas.Str.{IsUtf8-drop, IsUtf8-take, chars-append, chars-encodes}
+use Rattle.bstr.specs.{Trim.kept_start, Utf8.decoded, Utf8.good, Utf8.spans_from}
+use Rattle.bstr.proofs.lemmas.{EncodeLemmas.decoded-encode, PieceLemmas.pieces-step}
+use Rattle.texting_robots.proofs.Shared.{each_append}
+use Rattle.printable_text.specs.{Lines.ended, declared.level.Level.Level}
+use Rattle.printable_text.specs.declared.level.Level.TheVariants.{Error, Note, Warning}
 use Rattle.printable_text.specs.Sanitize.{IsPrintable, IsPrintableIn, has_command, is_printable}
-use Rattle.printable_text.specs.Sanitize.{is_printable_byte, safe_in, without_commands}
+use Rattle.printable_text.specs.Sanitize.{is_printable_byte, safe_in, sanitized, without_commands, without_hash}
 use Rattle.printable_text.specs.Text.{IsColored, IsColoredTo, IsPlainLine, IsReport, IsShownReport}
 use Rattle.printable_text.specs.Text.{begins_plainly, level_word, shown_word}
-use Rattle.printable_text.proofs.SanitizeLemmas.{append_printable, ascii_printable, ended-append}
-use Rattle.printable_text.proofs.SanitizeLemmas.{ended_printable, line_printable, safe_in_printable}
-use Rattle.printable_text.proofs.SanitizeLemmas.{without_printable}
-use Rattle.printable_text.proofs.CommandLemmas.{without_quiet}
-use Rattle.printable_text.proofs.SanitizeLemmas.{nil_printable}
-use Rattle.printable_text.proofs.PartLemmas.{colored_append, colored_same, colored_word, level_printable}
+use Rattle.printable_text.proofs.SanitizeLemmas.{append_printable, ascii_printable, brace_kept, ended-append}
+use Rattle.printable_text.proofs.SanitizeLemmas.{ended_printable, line_printable, nil_printable}
+use Rattle.printable_text.proofs.SanitizeLemmas.{safe_in_printable, sanitized_in_printable, without_printable}
+use Rattle.printable_text.proofs.CommandLemmas.{sanitized_quiet, without_quiet}
 
 pub safe_added : (old new bytes : List ℕ) → IsPrintableIn false old → new ≡ old ++ safe_in false bytes
     → IsPrintableIn false new
@@ -38,15 +42,10 @@ report_nil = record { lines = []; each = tt; text_is = refl }
 pub cleared_report : (new : List ℕ) → new ≡ [] → IsReport new
 cleared_report new is = subst IsReport (sym is) report_nil
 
-each_last : (lines : List (List ℕ)) (line : List ℕ) → Each IsPlainLine lines → IsPlainLine line
-    → Each IsPlainLine (lines ++ line ∷ [])
-each_last [] line are is = (is, tt)
-each_last (first ∷ lines) line are is = (are.0, each_last lines line are.1 is)
-
 line_added : (old line : List ℕ) → IsReport old → IsPlainLine line → IsReport (old ++ ended (line ∷ []))
 line_added old line is plain = record {
   lines = is.lines ++ line ∷ [];
-  each = each_last is.lines line is.each plain;
+  each = each_append IsPlainLine is.lines (line ∷ []) is.each (plain, tt);
   text_is =
       ap (λ (t : List ℕ). t ++ ended (line ∷ [])) is.text_is ∙ sym (ended-append is.lines (line ∷ []));
 }
@@ -61,12 +60,22 @@ plain_added old line mid new is printable inside begins first added =
     subst IsReport (sym whole)
     (line_added old line is (record { printable = printable; begins = begins; inside = inside }))
 
+-- an ASCII character that is neither white space nor `:`
+pub begins_with : (b : ℕ) (text : List ℕ) → nat_lt b 128 ≡ true → is_whitespace b ≡ false → nat_eq 58 b ≡ false
+    → begins_plainly (b ∷ text) ≡ true
+unfolding kept_start spans_from encode_utf8
+begins_with b text low visible other =
+    let first : encode_utf8 b ≡ b ∷ [] = rw low refl in
+    let read : decoded (b ∷ text) ≡ good b 1 = rw first at (decoded-encode b text (grind (arith, nat_tests))) in
+    rw (pieces-step (b ∷ text) (omega arith), read, visible, other) refl
+
 pub escaped_added : (old front line mid new : List ℕ) → IsReport old → IsPrintableIn false line
     → has_command line ≡ false → front ≡ old ++ 92 ∷ [] → mid ≡ front ++ line → new ≡ mid ++ 10 ∷ []
     → IsReport new
 escaped_added old front line mid new is printable inside zeroth first added =
     plain_added old (92 ∷ line) mid new is
-    (append_printable false (92 ∷ []) line (ascii_printable false (92 ∷ []) refl) printable) inside refl
+    (append_printable false (92 ∷ []) line (ascii_printable false (92 ∷ []) refl) printable) inside
+    (begins_with 92 line refl refl refl)
     (first ∙ ap (λ (t : List ℕ). t ++ line) zeroth ∙ append_assoc old (92 ∷ []) line) added
 
 pub escaped_line : (old line new : List ℕ) → IsPrintableIn false line → old ≡ []
@@ -79,6 +88,29 @@ pub escaped_quiet : (old line new : List ℕ) → old ≡ [] → new ≡ old ++ 
 escaped_quiet old line new none added =
     subst (λ (t : List ℕ). has_command t ≡ false) (sym (rw none at added)) (without_quiet line)
 
+-- ---- A JSON object begins with `{`, also sanitized.
+
+brace_first : (text : List ℕ) → IsUtf8 text → (rest : List ℕ) × (without_commands (123 ∷ text) ≡ 123 ∷ rest)
+unfolding without_commands encode_utf8
+brace_first text is =
+    let read : chars (123 ∷ text) ≡ 123 ∷ chars text =
+    chars-append (123 ∷ []) text (ascii_printable false (123 ∷ []) refl).utf8
+    ∙ ap (λ cs. cs ++ chars text) (chars-encodes (123 ∷ []) refl) in
+    elim (cases_Bool (has_command text)) [
+      | inl has ↦ (encode_utf8_all (flat_map without_hash (chars text)), rw (has, read) refl)
+      | inr lacks ↦ (text, rw lacks refl)
+    ]
+
+pub brace_plain : (text : List ℕ) → IsPlainLine (sanitized (123 ∷ text))
+brace_plain text =
+    let (rest, is) = brace_first (safe_in false text) (safe_in_printable false text).utf8 in
+    let whole : sanitized (123 ∷ text) ≡ 123 ∷ rest = ap without_commands (brace_kept false text) ∙ is in
+    record {
+      printable = sanitized_in_printable false (123 ∷ text);
+      begins = rw whole (begins_with 123 rest refl refl refl);
+      inside = sanitized_quiet false (123 ∷ text);
+    }
+
 pub report_printable : (text : List ℕ) → IsReport text → IsPrintable text
 report_printable text is =
     subst IsPrintable (sym is.text_is) (ended_printable is.lines (each is.lines is.each))
@@ -87,7 +119,41 @@ report_printable text is =
     each [] are = tt
     each (line ∷ lines) are = (line_printable line are.0.printable, each lines are.1)
 
--- ---- Colors.
+-- ---- Colors: lines are those without colors, in which color codes are inserted.
+
+level_printable : (level : Level) → IsPrintableIn false (level_word level)
+level_printable Error = ascii_printable false (level_word Error) refl
+level_printable Warning = ascii_printable false (level_word Warning) refl
+level_printable Note = ascii_printable false (level_word Note) refl
+
+colored_same : (text : List ℕ) → IsPrintable text → IsColored text text
+colored_same text is = record {
+  parts = (text, text) ∷ [];
+  each = (inl (is, refl), tt);
+  text_is = sym (append-nil text);
+  plain_is = sym (append-nil text);
+}
+
+colored_append : (plain text more next : List ℕ) → IsColored plain text → IsColored more next
+    → IsColored (plain ++ more) (text ++ next)
+colored_append plain text more next is too = record {
+  parts = is.parts ++ too.parts;
+  each = each_append _ is.parts too.parts is.each too.each;
+  text_is =
+      ap₂ (λ (one two : List ℕ). one ++ two) is.text_is too.text_is
+      ∙ sym (flat_map-append (λ part. part.0) is.parts too.parts);
+  plain_is =
+      ap₂ (λ (one two : List ℕ). one ++ two) is.plain_is too.plain_is
+      ∙ sym (flat_map-append (λ part. part.1) is.parts too.parts);
+}
+
+colored_word : (level : Level) → IsColored (level_word level) (shown_word true level)
+colored_word level = record {
+  parts = (shown_word true level, level_word level) ∷ [];
+  each = (inr (level, refl, refl), tt);
+  text_is = sym (append-nil (shown_word true level));
+  plain_is = sym (append-nil (level_word level));
+}
 
 printable_parts : (front rest : List ℕ) → IsUtf8 front → IsUtf8 rest → IsPrintable (front ++ rest)
     → IsPrintable front × IsPrintable rest

@@ -1,10 +1,10 @@
 -- Sanitized bytes, and appended lines.
 use Rattle.std.proofs.Common.{◌≡◌, ℕ, ◌≤◌, List, [], ◌∷◌, ◌++◌, sym, ap, ◌∙◌, append_assoc, arith, drop, take}
 use Rattle.std.proofs.Common.{length, zero, suc, ◌<◌, ◌/◌, ◌%◌, ◌==◌, nat_lt, Bool, true, false, Option, Some}
-use Rattle.std.proofs.Common.{None, codes, decimal, flat_map, get_or, inl, inr, length-append, refl, subst}
+use Rattle.std.proofs.Common.{None, codes, flat_map, get_or, inl, inr, length-append, refl, subst}
 use Rattle.std.specs.{Io.StartsWith, Bool.IsTrue, Char.IsScalar, Char.encode_utf8, Str.chars, Str.IsAscii}
 use Rattle.std.specs.{Str.all_scalars, Str.encode_utf8_all, List.AllByRecursion as Each, List.list_all}
-use Rattle.std.specs.Fmt.{digit_glyph, digits, digits_onto}
+use Rattle.std.specs.Fmt.{digit_glyph}
 use Rattle.std.proofs.lemmas.List.{Concat.flat_map-append, Folds.list_all-append, Sums.list_all-from_AllPass}
 use Rattle.std.proofs.lemmas.List.{length-take, take-append-drop, take-append-le, append-nil, get_or_default}
 use Rattle.printable_text.specs.Lines.{ended, lf}
@@ -57,25 +57,6 @@ chars_pass test high (char ∷ cs) are =
     let both = and_parts (test char) (list_all test cs) are in
     rw (list_all-append, char_passes test high char both.0) (chars_pass test high cs both.1)
 
--- a number is a digit, after which there may be others
-pub decimal_by : (P Q : List ℕ → Type 0) → P [] → ((text : List ℕ) → Q text → P text)
-    → ((digit : ℕ) (text : List ℕ) → digit < 10 → P text → Q (digit_glyph false digit ∷ text))
-    → (n : ℕ) → Q (decimal n)
-unfolding digits
-decimal_by P Q none weaker more n = onto 64 n [] (omega arith) none
-  where
-    onto : (k n : ℕ) (text : List ℕ) → 0 < k → P text → Q (digits_onto k 10 false n text)
-    onto zero n text some is = absurd (omega (arith, some))
-    onto (suc zero) n text some is =
-        let first = more (n % 10) text (omega arith) is in
-        elim (cases_Bool (n / 10 == 0)) [ inl last ↦ rw last first | inr other ↦ rw other first ]
-    onto (suc (suc k)) n text some is =
-        let first = more (n % 10) text (omega arith) is in
-        elim (cases_Bool (n / 10 == 0)) [
-          | inl last ↦ rw last first
-          | inr other ↦ rw other (onto (suc k) (n / 10) _ (omega arith) (weaker _ first))
-        ]
-
 module _ (has_lines : Bool) where
   pub nil_printable : IsPrintableIn has_lines []
   nil_printable = record { utf8 = IsUtf8-nil; all = rw chars-nil refl }
@@ -114,15 +95,8 @@ module _ (has_lines : Bool) where
   flat_printable f are [] = nil_printable
   flat_printable f are (x ∷ xs) = append_printable (f x) (flat_map f xs) (are x) (flat_printable f are xs)
 
-  glyph : (upper : Bool) (digit : ℕ) → digit < 16
-      → is_printable_byte has_lines (digit_glyph upper digit) ≡ true
-  glyph upper digit below = grind (arith, nat_tests)
-
-  pub decimal_printable : (n : ℕ) → IsPrintableIn has_lines (decimal n)
-  decimal_printable n =
-      let are = λ (text : List ℕ). IsTrue (list_all (is_printable_byte has_lines) text) in
-      ascii_printable (decimal n) (decimal_by are are refl (λ text is. is)
-      (λ digit text below is. rw (glyph false digit (omega arith)) is) n)
+  glyph : (digit : ℕ) → digit < 16 → is_printable_byte has_lines (digit_glyph true digit) ≡ true
+  glyph digit below = grind (arith, nat_tests)
 
   safe_nil : safe_in has_lines [] ≡ []
   safe_nil = rw pieces-nil refl
@@ -131,6 +105,14 @@ module _ (has_lines : Bool) where
       ≡ safe_chunk has_lines (decoded bytes).char (take (decoded bytes).size bytes)
       ++ safe_in has_lines (drop (decoded bytes).size bytes)
   safe_step bytes some = ap (λ ps. safe_chunks has_lines ps bytes) (pieces-step bytes some)
+
+  pub brace_kept : (text : List ℕ) → safe_in has_lines (123 ∷ text) ≡ 123 ∷ safe_in has_lines text
+  unfolding encode_utf8
+  brace_kept text =
+      let read : decoded (123 ∷ text) ≡ good 123 1 = decoded-encode 123 text refl in
+      let with_chunk = λ (chunk : Decoded). safe_chunk has_lines chunk.char (take chunk.size (123 ∷ text))
+      ++ safe_in has_lines (drop chunk.size (123 ∷ text)) in
+      safe_step (123 ∷ text) (omega arith) ∙ ap with_chunk read
 
   -- loop step: one more UTF-8 unit was appended, and the sanitized rest follows
   pub chunk_added : (rest old mid new : List ℕ) → 0 < length rest
@@ -169,7 +151,7 @@ module _ (has_lines : Bool) where
 
   escaped_printable : (byte : ℕ) → IsPrintableIn has_lines (escape_byte byte)
   escaped_printable byte = ascii_printable (escape_byte byte) (elim (cases_Bool (is_escaped byte)) [
-    | inl is ↦ rw (is, glyph true (byte / 16 % 16) (omega arith), glyph true (byte % 16) (omega arith)) refl
+    | inl is ↦ rw (is, glyph (byte / 16 % 16) (omega arith), glyph (byte % 16) (omega arith)) refl
     | inr isnt ↦
         let plain : is_printable_byte has_lines byte ≡ true = grind (arith, nat_tests) in
         rw (isnt, plain) refl

@@ -1,5 +1,3 @@
 pub mod Lines
 pub mod Sanitize
-pub mod Delay
-pub mod Raw
 pub mod Text

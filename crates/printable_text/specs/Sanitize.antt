@@ -39,21 +39,6 @@ has_command (b ∷ text) = starts_with nat_eq (b ∷ text) command_start || has_
 abbrev pub is_other : ℕ → Bool
 is_other b = not (nat_eq 35 b)
 
--- the text begins with a byte that isn't in the start of a command
-abbrev pub begins_apart : List ℕ → Bool
-begins_apart [] = false
-begins_apart (b ∷ text) = not (nat_eq 35 b || nat_eq 91 b)
-
--- the text doesn't end with `#`
-abbrev pub ends_apart : List ℕ → Bool
-ends_apart [] = true
-ends_apart (b ∷ []) = is_other b
-ends_apart (b ∷ c ∷ text) = ends_apart (c ∷ text)
-
--- any text without the start of a command can be appended, and the whole doesn't contain it
-abbrev pub is_front : List ℕ → Bool
-is_front text = not (has_command text) && ends_apart text
-
 -- in a text that contains the start of a command, `#` is escaped
 abbrev pub without_hash : ℕ → List ℕ
 without_hash char = if char == byte "#" then codes "%23" else char ∷ []

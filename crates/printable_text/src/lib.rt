@@ -1,12 +1,10 @@
-//! Text that is safe to print: sanitizing untrusted bytes, and lines of reports as lists of parts, which one
-//! function writes. A line that a specification makes of parts is printable, and no workflow on GitHub takes
-//! it for a command.
+//! Text that is safe to print: sanitizing untrusted bytes, and reports, whose lines are printable, and none of
+//! which a workflow on GitHub takes for a command, whatever is written to them.
 #![tactic(auto)]
 
 mod color;
 pub mod delay;
 pub mod level;
 pub mod lines;
-pub mod parts;
 pub mod report;
 pub mod sanitize;

@@ -7,6 +7,7 @@ ghost use Rattle.printable_text.specs.Text.{IsReport, IsShownReport, begins_plai
 use crate::color::colored;
 use crate::level::Level;
 use crate::sanitize::{are_printable_bytes, has_command, push_chunks, push_without_commands};
+use bstr::ByteSlice;
 use std::alloc::Global;
 use std::fmt;
 use std::fmt::Write;
@@ -87,11 +88,7 @@ impl fmt::Write for Line {
 fn begins_plainly(line: &[u8]) -> bool
     ensures { result ≡ begins_plainly line.now }
 {
-    let mut rest = line;
-    while let [b' ', later @ ..] = rest {
-        rest = later;
-    }
-    !matches!(rest, [b':', ..])
+    !line.trim_start().starts_with(b":")
 }
 
 /// A line that would begin a command begins with a backslash instead.

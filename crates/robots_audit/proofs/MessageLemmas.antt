@@ -1,23 +1,25 @@
--- Messages and reports are printable.
+-- Every report is safe, and messages on standard error have colors only if they are requested.
 use Rattle.std.specs.Prelude.{IfOk}
 use Rattle.std.proofs.Common.{◌≡◌, ℕ, ◌+◌, ◌<◌, ◌||◌, List, Some, Result, Ok, Err, drop, length, refl, Bool}
 use Rattle.std.proofs.Common.{slice_index_or, true, [], inl, inr, Option, None, string_bytes, ◌∙◌, ap}
-use Rattle.std.proofs.Common.{codes, subst, sym, map}
-use Rattle.std.proofs.{lemmas.List.drop_more, lemmas.Simd.map-map}
+use Rattle.std.proofs.Common.{codes, subst, sym}
+use Rattle.std.proofs.{lemmas.List.drop_more}
+use Rattle.serde_json.specs.{Data.Data}
 use Rattle.printable_text.specs.{declared.level.Level.Level, Sanitize.IsPrintable}
-use Rattle.printable_text.specs.Text.{reaches, IsShownReport}
+use Rattle.printable_text.specs.Text.{IsReport, IsShownReport, reaches}
 use Rattle.robots_warnings.specs.{Table.level_of, Message.WarningValue}
-use Rattle.robots_audit.specs.Answer.{is_warned, Answers, AnswersOptions, HasUrls, IsAsked, IsOutput}
-use Rattle.robots_audit.specs.Answer.{listed_in, reported}
+use Rattle.robots_audit.specs.Answer.{Answers, AnswersAudit, AnswersOptions, AreAnnotations, HasUrls, IsAsked}
+use Rattle.robots_audit.specs.Answer.{IsListedIn, IsOutput, IsSafe, IsSafeAnswer, is_warned}
+use Rattle.robots_audit.specs.{Command.value_of}
 use Rattle.clap.specs.{declared.parser.matches.ArgMatches.ArgMatches}
 use Rattle.printable_text.proofs.ReportLemmas.{report_printable, shown_colored, shown_nil}
-use Rattle.audit_core.specs.Request.{RequestValue, requested_by, shown_name, requested_colors, has_rows}
-use Rattle.audit_core.specs.{Audit.AuditValue, declared.answer.Answer.Answer, Findings.Found}
-use Rattle.audit_core.specs.{declared.request.Format.Format, Findings.all_found, Findings.found_value}
+use Rattle.audit_core.specs.Request.{RequestValue, requested_by, requested_colors}
+use Rattle.audit_core.specs.{Answer.IsText, Audit.AuditValue, declared.answer.Answer.Answer, Findings.Found}
+use Rattle.audit_core.specs.{declared.findings.Finding.Finding, declared.request.Format.Format}
 use Rattle.audit_core.specs.declared.request.Format.TheVariants.{Text, Github, Html, Json, Sarif}
-use Rattle.robots_audit.specs.{Answer.AnswersAudit, Command.value_of}
 use Rattle.audit_text.proofs.{GithubLemmas.github_printable}
-use Rattle.audit_json.proofs.JsonLemmas.{findings_printable, json_printable, sarif_printable}
+use Rattle.audit_json.specs.{Json.json_line}
+use Rattle.audit_json.proofs.JsonLemmas.{audit_report, findings_report, log_report}
 
 pub warned_next : (least : Level) (warnings : List WarningValue) (at : ℕ) (warning : WarningValue)
     → at < length warnings → is_warned (Some least) (drop at warnings)
@@ -30,7 +32,7 @@ pub if_ok : {X E : Type 0} {P Q : X → Type 0} (result : Result X E) → ((x : 
 if_ok (Ok x) follows is = follows x is
 if_ok (Err fault) follows is = tt
 
--- ---- Messages on standard error have colors only if they are requested.
+-- ---- Messages on standard error.
 
 silent : (has_colors : Bool) (answer : Answer) → string_bytes answer.outcome.warnings ≡ []
     → IsShownReport has_colors (string_bytes answer.outcome.warnings)
@@ -72,31 +74,53 @@ answer_for_terminal by_default matches answer (inr (off, is)) = by _ _ _ is
     by None None (Some name) is = silent _ answer is.compared.listed.silent
     by None None None is = audited_for_terminal by_default matches answer is
 
-pub answer_printable : (by_default : Bool) (matches : ArgMatches) (answer : Answer)
-    → Answers by_default matches answer → IsShownReport true (string_bytes answer.outcome.warnings)
-answer_printable by_default matches answer is =
-    shown_colored _ (string_bytes answer.outcome.warnings) (answer_for_terminal by_default matches answer is)
+-- ---- Every report is safe.
 
--- ---- A report is printable in each format.
+pub text_safe : (answer : Answer) → IsText answer → IsSafeAnswer answer
+text_safe answer is = record { report = inl is.report; warnings = silent true answer is.quiet }
 
-pub output_printable : (format : Format) (requested : RequestValue) (audit : AuditValue) (output : List ℕ)
-    → IsOutput format requested audit output → IsPrintable output
-output_printable Text requested audit output is = report_printable output is
-output_printable Json requested audit output is =
-    subst IsPrintable (sym is) (json_printable (has_rows requested) (reported requested audit))
-output_printable Html requested audit output is = is.1.printable
-output_printable Github requested audit output is =
-    subst IsPrintable (sym is)
-    (github_printable (shown_name requested.file) (all_found (reported requested audit)))
-output_printable Sarif requested audit output is =
-    subst IsPrintable (sym is) (sarif_printable (shown_name requested.file) (reported requested audit))
+annotated : (file text : List ℕ) (found : List Found) → AreAnnotations file found text → IsSafe text
+annotated file text found is = inr (inr (file, is.findings, is.text_is))
 
--- those on findings, if they are printable as text
-pub listed_printable : {X : Type 0} (value : X → Found) (format : Format) (file old text : List ℕ)
-    (all : List X) → IsPrintable text
-    → IsPrintable (listed_in format file old text (map (λ one. found_value (value one)) all))
-listed_printable value Json file old text all is =
-    rw (← map-map found_value value all) (findings_printable file old (map value all))
-listed_printable value Github file old text all is =
-    rw (← map-map found_value value all) (github_printable file (map value all))
-listed_printable value _ file old text all is = is
+lined : (text : List ℕ) (value : Data) → text ≡ json_line value → IsReport (json_line value) → IsSafe text
+lined text value is safe = inl (subst IsReport (sym is) safe)
+
+output_safe : (format : Format) (requested : RequestValue) (audit : AuditValue) (text : List ℕ)
+    → IsOutput format requested audit text → IsSafe text
+output_safe Text requested audit text is = inl is
+output_safe Json requested audit text is = lined text _ is.text_is (audit_report _ _ is.warnings)
+output_safe Html requested audit text is = inr (inl is)
+output_safe Github requested audit text is = annotated _ text _ is
+output_safe Sarif requested audit text is = lined text _ is.text_is (log_report _ is.findings)
+
+listed_safe : (format : Format) (file old : List ℕ) (found : List Finding) (text : List ℕ)
+    → IsListedIn format file old found text → IsSafe text
+listed_safe Json file old found text is = lined text _ is (findings_report file old found)
+listed_safe Github file old found text is = inr (inr (file, found, is))
+listed_safe Text file old found text is = inl is
+listed_safe Html file old found text is = absurd is
+listed_safe Sarif file old found text is = absurd is
+
+report_safe : (by_default : Bool) (matches : ArgMatches) (answer : Answer) → Answers by_default matches answer
+    → IsSafe answer.report.items
+report_safe by_default matches answer (inl (on, is)) = inl is.report
+report_safe by_default matches answer (inr (off, is)) = by _ _ _ is
+  where
+    by : (explain expect compare : Option (List ℕ))
+        → AnswersOptions explain expect compare by_default matches answer → IsSafe answer.report.items
+    by (Some name) expect compare (known, is) = inl is.report
+    by None (Some name) compare is = listed_safe _ _ _ _ _ is.checked.listed.report
+    by None None (Some name) is = listed_safe _ _ _ _ _ is.compared.listed.report
+    by None None None is = output_safe _ _ _ _ is.audited.report
+
+pub answer_safe : (by_default : Bool) (matches : ArgMatches) (answer : Answer)
+    → Answers by_default matches answer → IsSafeAnswer answer
+answer_safe by_default matches answer is = record {
+  report = report_safe by_default matches answer is;
+  warnings = shown_colored _ _ (answer_for_terminal by_default matches answer is);
+}
+
+pub safe_printable : (text : List ℕ) → IsSafe text → IsPrintable text
+safe_printable text (inl is) = report_printable text is
+safe_printable text (inr (inl is)) = is.1.printable
+safe_printable text (inr (inr (file, all, is))) = subst IsPrintable (sym is) (github_printable file all)

@@ -1,26 +1,27 @@
 -- What the program answers: to an audit, and to its arguments.
-use Rattle.std.specs.Prelude.{◌≡◌, ◌⊎◌, ℕ, Bool, true, false, List, [], None, Option, Some, codes}
-use Rattle.std.specs.Prelude.{◌==◌, length, map, not, ◌&&◌, string_bytes, ⊤}
+use Rattle.std.specs.Prelude.{◌≡◌, ◌⊎◌, ℕ, Bool, true, false, List, [], None, Option, Some, codes, ⊥, ⊤}
+use Rattle.std.specs.Prelude.{◌==◌, length, map, not, ◌&&◌, string_bytes}
 use Rattle.std.specs.{List.list_any}
 use Rattle.clap.specs.{declared.parser.matches.ArgMatches.ArgMatches}
 use Rattle.html_writer.specs.{Page.IsSomePage}
 use Rattle.printable_text.specs.{declared.level.Level.Level}
-use Rattle.printable_text.specs.Text.{IsReport, IsShownReport, reaches, written}
+use Rattle.printable_text.specs.Text.{IsReport, IsShownReport, reaches}
 use Rattle.robots_warnings.specs.{Table.is_name, Table.level_of, Message.WarningValue}
 use Rattle.audit_core.specs.Audit.{AuditValue, IsAuditOf, all_allowed, rejects_some, shown}
 use Rattle.audit_core.specs.Request.{RequestValue, has_rows, requested_by, shown_name}
 use Rattle.audit_core.specs.{Answer.IsText, declared.answer.Outcome.Outcome, declared.request.Request.Request}
-use Rattle.audit_core.specs.{Findings.findings, declared.answer.Answer.Answer, declared.request.Format.Format}
-use Rattle.audit_core.specs.{Content.content_flaw, Findings.FindingValue, declared.fault.Fault.Fault}
+use Rattle.audit_core.specs.{declared.answer.Answer.Answer, declared.request.Format.Format}
+use Rattle.audit_core.specs.{Content.content_flaw, declared.fault.Fault.Fault}
+use Rattle.audit_core.specs.{declared.findings.Finding.Finding}
+use Rattle.audit_core.specs.Findings.{Found, findings, found_of}
 use Rattle.audit_core.specs.declared.fault.Fault.TheVariants.{File, Format as OfAudits, Memory, Words}
 use Rattle.audit_core.specs.declared.request.Format.TheVariants.{Github, Html, Json, Sarif, Text}
 use Rattle.robots_audit.specs.Command.{HasFile, IsFormatOf, IsOn, IsRequestOf, value_of}
 use Rattle.audit_compare.specs.Compare.{ComparisonValue, IsComparison, all_differences, differs_nowhere}
-use Rattle.audit_compare.specs.Compare.{finding_of, rejects_some as rejects_one}
-use Rattle.audit_compare.specs.Compare.{report_lines as comparison_lines}
-use Rattle.audit_expect.specs.{Expectations.IsReport, UrlList.HasUrlsIn}
+use Rattle.audit_compare.specs.Compare.{rejects_some as rejects_one}
+use Rattle.audit_expect.specs.{Expectations.AreFailuresOf, UrlList.HasUrlsIn}
 use Rattle.audit_text.specs.{Github.github_text}
-use Rattle.audit_json.specs.{Json.findings_text, Json.json_text, Sarif.sarif_text}
+use Rattle.audit_json.specs.{Json.IsJson, Json.findings_text, Sarif.IsLog}
 
 -- a page has all URLs, since its tables have a row or a column for each
 abbrev pub has_all_urls : Format → Bool
@@ -34,15 +35,20 @@ leaves_out_allowed requested = requested.is_denied_only && not (has_all_urls req
 abbrev pub reported : RequestValue → AuditValue → AuditValue
 reported requested audit = shown (leaves_out_allowed requested) audit
 
+-- what was found in the file with this name, as annotations
+pub record AreAnnotations (file : List ℕ) (found : List Found) (text : List ℕ) : Type 0 where
+  pub findings : List Finding
+  pub are : map found_of findings ≡ found
+  pub text_is : text ≡ github_text file findings
+
 -- the report in this format
 abbrev pub IsOutput : Format → RequestValue → AuditValue → List ℕ → Type 0
 IsOutput Text requested audit text = IsReport text
-IsOutput Json requested audit text = text ≡ json_text (has_rows requested) (reported requested audit)
+IsOutput Json requested audit text = IsJson (has_rows requested) (reported requested audit) text
 IsOutput Html requested audit text = IsSomePage text
 IsOutput Github requested audit text =
-    text ≡ github_text (shown_name requested.file) (findings (reported requested audit))
-IsOutput Sarif requested audit text =
-    text ≡ sarif_text (shown_name requested.file) (findings (reported requested audit))
+    AreAnnotations (shown_name requested.file) (findings (reported requested audit)) text
+IsOutput Sarif requested audit text = IsLog (shown_name requested.file) (reported requested audit) text
 
 abbrev pub is_warned : Option Level → List WarningValue → Bool
 is_warned None warnings = false
@@ -64,12 +70,13 @@ pub record IsAudited (requested : RequestValue) (file : List ℕ) (answer : Answ
 
 -- ---- a comparison, and expectations
 
--- the report in this format on findings in the file with this name, on which `text` is the report as text; an
--- empty name means that there is no old file
-abbrev pub listed_in : Format → (file old text : List ℕ) → List FindingValue → List ℕ
-listed_in Json file old text found = findings_text file old found
-listed_in Github file old text found = github_text file found
-listed_in format file old text found = text
+-- the report in this format on what was found in the file with this name; an empty name means that there is
+-- no old file
+abbrev pub IsListedIn : Format → (file old : List ℕ) → List Finding → List ℕ → Type 0
+IsListedIn Json file old found text = text ≡ findings_text file old found
+IsListedIn Github file old found text = text ≡ github_text file found
+IsListedIn Text file old found text = IsReport text
+IsListedIn format file old found text = ⊥
 
 -- pages and logs are those of audits
 abbrev pub is_for_audits : Format → Bool
@@ -82,10 +89,9 @@ abbrev pub IsFormatFault : Format → Fault → Type 0
 IsFormatFault format fault = (fault ≡ Memory) ⊎ ((is_for_audits format ≡ true) × (fault ≡ OfAudits))
 
 -- the answer is this report, and whether a file is rejected and all is well; there are no warnings
-pub record IsListed (format : Format) (file old text : List ℕ) (found : List FindingValue)
+pub record IsListed (format : Format) (file old : List ℕ) (found : List Finding)
     (is_rejected has_passed : Bool) (answer : Answer) : Type 0 where
-  pub can_be : is_for_audits format ≡ false
-  pub report : answer.report.items ≡ listed_in format file old text found
+  pub report : IsListedIn format file old found answer.report.items
   pub rejected : answer.outcome.is_rejected ≡ is_rejected
   pub passed : answer.outcome.has_passed ≡ has_passed
   pub unwarned : answer.outcome.is_warned ≡ false
@@ -96,16 +102,16 @@ pub record IsCompared (requested : RequestValue) (older_name older newer_name ne
     (answer : Answer) : Type 0 where
   pub comparison : ComparisonValue
   pub of : IsComparison requested.agents requested.urls older_name older newer_name newer comparison
-  pub listed : IsListed requested.format (shown_name requested.file) older_name
-      (written (comparison_lines comparison)) (map finding_of (all_differences comparison))
-      (rejects_one comparison) (differs_nowhere comparison) answer
+  pub found : List Finding
+  pub found_are : map found_of found ≡ all_differences comparison
+  pub listed : IsListed requested.format (shown_name requested.file) older_name found (rejects_one comparison)
+      (differs_nowhere comparison) answer
 
 -- a rejected file is a failure
 pub record IsExpected (format : Format) (name text file : List ℕ) (answer : Answer) : Type 0 where
-  pub report : List ℕ
-  pub found : List FindingValue
-  pub of : IsReport name text file report found
-  pub listed : IsListed format name [] report found false (length found == 0) answer
+  pub found : List Finding
+  pub of : AreFailuresOf text file (map found_of found)
+  pub listed : IsListed format name [] found false (length found == 0) answer
 
 abbrev pub given_name : Option (List ℕ) → List ℕ
 given_name None = codes "-"
@@ -177,3 +183,16 @@ HasWords fault = fault ≡ Memory
 abbrev pub IsFileUnreadable : List ℕ → Fault → Type 0
 IsFileUnreadable name (File text) = string_bytes text ≡ name
 IsFileUnreadable name fault = fault ≡ Memory
+
+-- ---- what no request and no file can change
+
+-- a report, none of whose lines steers a terminal or is a command of a workflow; or a page, which steers
+-- none, and in which no text is markup; or annotations, each of which is a single command
+abbrev pub IsSafe : List ℕ → Type 0
+IsSafe text =
+    IsReport text
+    ⊎ (IsSomePage text ⊎ ((file : List ℕ) × (all : List Finding) × (text ≡ github_text file all)))
+
+pub record IsSafeAnswer (answer : Answer) : Type 0 where
+  pub report : IsSafe answer.report.items
+  pub warnings : IsShownReport true (string_bytes answer.outcome.warnings)

@@ -11,14 +11,14 @@
 //! With `--list-warnings` or `--explain` it writes what warnings there are, or what one means, and reads nothing.
 #![tactic(auto)]
 
-ghost use Rattle.std.specs.Prelude.{◌≡◌, ◌≢◌, IfErr, IfOk, IsErr, None, option_map, string_bytes, true};
+ghost use Rattle.std.specs.Prelude.{◌≡◌, ◌≢◌, IfErr, IfOk, IsErr, None, option_map, string_bytes};
 ghost use Rattle.std.specs.Process.{exit_status};
-ghost use Rattle.printable_text.specs.Text.{IsReport, IsShownReport};
+ghost use Rattle.printable_text.specs.Text.{IsReport};
 ghost use Rattle.audit_core.specs.Fault.{status_after};
 ghost use Rattle.clap.specs.Values.{kind_of};
 ghost use Rattle.audit_core.specs.{Content.content_flaw, Request.requested_by};
 ghost use Rattle.robots_audit.specs.Answer.{Answers, AnswersAudit, AnswersComparison, AnswersExpectations};
-ghost use Rattle.robots_audit.specs.Answer.{HasUrls, HasWords};
+ghost use Rattle.robots_audit.specs.Answer.{HasUrls, HasWords, IsSafeAnswer};
 
 mod command;
 mod laws;
@@ -164,8 +164,9 @@ fn answered(rt: &HostRuntime, matches: &ArgMatches<'_>, has_colors: bool) -> Res
 }
 
 /// The answer if the arguments request help or the version; else the error for arguments that `clap` rejects.
+#[tactic(auto, using(crate::proofs::MessageLemmas::text_safe))]
 fn reported(rt: &HostRuntime, error: clap::Error) -> Result<Answer, Fault>
-    ensures warnings { IfOk result (λ answer. IsShownReport true (string_bytes answer.outcome.warnings)) }
+    ensures safe { IfOk result IsSafeAnswer }
     ensures rejected { (kind_of error ≢ WordsKind.DisplayHelp) → (kind_of error ≢ WordsKind.DisplayVersion) → IsErr result }
     ensures words { IfErr result HasWords }
 {
@@ -179,9 +180,10 @@ fn reported(rt: &HostRuntime, error: clap::Error) -> Result<Answer, Fault>
     }
 }
 
-/// The warnings are printable apart from color codes, whatever the arguments, the files and their names are.
+/// The report is safe, and the warnings are printable apart from color codes, whatever the arguments, the
+/// files and their names are.
 fn answer(rt: &HostRuntime) -> Result<Answer, Fault>
-    ensures { IfOk result (λ answer. IsShownReport true (string_bytes answer.outcome.warnings)) }
+    ensures { IfOk result IsSafeAnswer }
 {
     let words = words(rt)?;
     match command(rt.alloc())?.try_get_matches_from(&words) {
@@ -201,28 +203,18 @@ fn fault_message(alloc: Global, fault: &Fault) -> Result<String, fmt::Error>
     Ok(out.into_string())
 }
 
-/// For standard error: the warnings of a run, or the message for its error, or for a failed allocation.
-fn message(alloc: Global, outcome: Result<Outcome, Fault>) -> Result<String, &'static str>
-    requires { IfOk outcome (λ outcome. IsShownReport true (string_bytes outcome.warnings)) }
-    ensures message { IfOk result (λ text. IsShownReport true (string_bytes text)) }
-{
-    match outcome {
-        Ok(outcome) => Ok(outcome.warnings),
-        Err(fault) => match fault_message(alloc, &fault) {
-            Ok(text) => Ok(text),
-            Err(_) => Err("robots_audit: out of memory\n"),
-        },
-    }
-}
-
-/// Prints the text for standard error, and returns the exit status.
+/// Prints the warnings of a run, or the message for its error or for a failed allocation, and returns the exit
+/// status.
 fn ended(rt: &HostRuntime, outcome: Result<Outcome, Fault>) -> ExitCode
     ensures { exit_status result ≡ status_after outcome }
 {
     let status = status_after(&outcome);
-    let _ = match message(rt.alloc(), outcome) {
-        Ok(text) => rt.eprint(&text),
-        Err(text) => rt.eprint(text),
+    let _ = match outcome {
+        Ok(outcome) => rt.eprint(&outcome.warnings),
+        Err(fault) => match fault_message(rt.alloc(), &fault) {
+            Ok(text) => rt.eprint(&text),
+            Err(_) => rt.eprint("robots_audit: out of memory\n"),
+        },
     };
     ExitCode::from(status)
 }

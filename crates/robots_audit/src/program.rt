@@ -5,7 +5,7 @@ ghost use Rattle.robots_audit.specs.Answer.{IsListed, IsOutput, given_name, has_
 ghost use Rattle.printable_text.specs.Text.{IsShownReport};
 ghost use Rattle.audit_compare.specs.Compare.{IsComparison};
 ghost use Rattle.audit_core.specs.declared.fault.Entry.TheVariants.{Expectation};
-ghost use Rattle.audit_core.specs.{Findings.finding_value, Request.requested_by};
+ghost use Rattle.audit_core.specs.{Request.requested_by};
 ghost use Rattle.audit_expect.specs.Expect.{IsEntryFault, expectations_in};
 
 use audit_compare::compare::{
@@ -82,7 +82,7 @@ fn output(alloc: Global, request: &Request<'_>, audit: Audit<'_>) -> Result<Vec<
         Format::Html => Ok(page_text(alloc, request, &reported)?),
         Format::Github => {
             let found = findings_of(alloc, &reported)?;
-            Ok(github_text(alloc, request.shown_name(), &found)?)
+            Ok(github_text(alloc, request.shown_name(), &found)?.into_bytes())
         }
         Format::Sarif => { Ok(sarif_text(alloc, request.shown_name(), &reported)?.into_bytes()) }
     }
@@ -130,26 +130,26 @@ fn compared_for<'a>(
     compare(alloc, &request.agents, &request.urls, older, newer)
 }
 
-/// The answer in this format to a report as text and findings in the file with this name; an empty `old` is no
+/// The answer in this format: a report as text, or findings in the file with this name; an empty `old` is no
 /// file.
 fn listed(
     alloc: Global,
     format: Format,
     file: &str,
     old: &str,
-    reported: (String, Findings),
+    reported: (Report, Findings),
     is_rejected: bool,
     has_passed: bool,
 ) -> Result<Answer, Fault>
-    ensures ok { IfOk result (IsListed format file.now old.now (string_bytes reported.0)
-        (map finding_value reported.1.items) is_rejected has_passed) }
+    ensures ok { IfOk result (IsListed format file.now old.now reported.1.items is_rejected
+        has_passed) }
     ensures fault { IfErr result (IsFormatFault format) }
 {
     let (text, found) = reported;
     let report = match format {
-        Format::Text => text.into_bytes(),
+        Format::Text => text.into_string().into_bytes(),
         Format::Json => findings_text(alloc, file, old, &found)?.into_bytes(),
-        Format::Github => github_text(alloc, file, &found)?,
+        Format::Github => github_text(alloc, file, &found)?.into_bytes(),
         Format::Html | Format::Sarif => return Err(Fault::Format),
     };
     let outcome = Outcome {

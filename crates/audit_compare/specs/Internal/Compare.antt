@@ -8,9 +8,8 @@ use Rattle.audit_compare.specs.{declared.compare.Side.TheInside.Inside as Inside
 use Rattle.audit_compare.specs.declared.compared.Compared.{TheInside.Inside as InsideCompared}
 use Rattle.audit_compare.specs.declared.compared.{UrlChange.TheInside.Inside as InsideChange}
 use Rattle.audit_compare.specs.declared.rule_sets.{RuleSet.RuleSet}
-use Rattle.audit_core.specs.{declared.findings.Finding.Finding, Findings.finding_value}
-use Rattle.audit_compare.specs.Compare.{ComparedValue, ComparisonValue, Difference, SideValue, UrlChangeValue}
-use Rattle.audit_compare.specs.Compare.{finding_of, has_rule, is_listed}
+use Rattle.audit_compare.specs.Compare.{ComparedValue, ComparisonValue, SideValue, UrlChangeValue, has_rule}
+use Rattle.audit_compare.specs.Compare.{is_listed}
 
 abbrev pub contains_rule : RuleSet → Rule → Bool
 contains_rule set rule =
@@ -28,9 +27,6 @@ pub record HasTexts (texts : List (List ℕ)) (set : BTreeSet Key) : Type 0 wher
 pub record AddsText (old new : BTreeSet Key) (text : List ℕ) (is_new : Bool) : Type 0 where
   pub was : (texts : List (List ℕ)) → HasTexts texts old → is_new ≡ not (is_listed texts text)
   pub has : (texts : List (List ℕ)) → HasTexts texts old → HasTexts (texts ++ text ∷ []) new
-
-abbrev pub Adds : (old new : List Finding) → List Difference → Type 0
-Adds old new differences = map finding_value new ≡ map finding_value old ++ map finding_of differences
 
 abbrev pub change_of : InsideChange → UrlChangeValue
 change_of change = record { url = change.url.now; older = change.older; newer = change.newer }

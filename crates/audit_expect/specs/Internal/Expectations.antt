@@ -2,13 +2,12 @@
 use Rattle.std.specs.Prelude.{◌≡◌, ◌==◌, ℕ, ◌<◌, true, false, Err, List, Ok, length, option_map, slice_index}
 use Rattle.std.specs.Prelude.{string_bytes, map, ◌⊎◌, Bool, ◌∷◌, Option, Some, None, Contains, slice_index_or}
 use Rattle.audit_core.specs.{declared.fault.Entry.Entry, declared.fault.Fault.Fault, Fault.MalformedLine}
-use Rattle.audit_core.specs.{Findings.FindingValue, Internal.IsReading}
+use Rattle.audit_core.specs.{Internal.IsReading}
 use Rattle.audit_core.specs.declared.fault.Fault.TheVariants.{Empty, Malformed, Memory}
 use Rattle.audit_expect.specs.{declared.expect.Expectation.Expectation, declared.checks.Checked.Checked}
 use Rattle.audit_expect.specs.{declared.expectations.AgentReading.AgentReading}
 use Rattle.audit_expect.specs.Expect.{ExpectationValue, LineOf, is_in}
-use Rattle.std.specs.{List.AllByRecursion as Each}
-use Rattle.audit_expect.specs.Expectations.{CheckedValue, IsChecked, failures}
+use Rattle.audit_expect.specs.Expectations.{CheckedValue}
 use Rattle.texting_robots.specs.Callers.{IsBetter, IsDecidingRule, Label, Matches, PlacedRule}
 use Rattle.texting_robots.specs.{declared.decision.Decision.Decision, Internal.Line.line_of}
 use Rattle.robots_warnings.specs.Conflicts.{is_empty_disallow, stated_rules}
@@ -58,14 +57,6 @@ checked_value checked = record {
 pub record IsReadFor (agent file : List ℕ) (found : AgentReading) : Type 0 where
   pub agent_is : found.agent.now ≡ agent
   pub reading : IsReading agent file found.reading
-
--- the expectations that fail on the file
-pub record AreFailuresOn (file : List ℕ) (expectations : List ExpectationValue) (found : List FindingValue)
-    : Type 0 where
-  pub checked : List CheckedValue
-  pub all : map (λ (one : CheckedValue). one.expectation) checked ≡ expectations
-  pub judged : Each (IsChecked file) checked
-  pub whole : found ≡ failures checked
 
 abbrev pub is_empty : List ℕ → Bool
 is_empty body = is_empty_disallow (line_of body) body

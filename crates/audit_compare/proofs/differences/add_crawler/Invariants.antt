@@ -1,5 +1,6 @@
 use Rattle.std.proofs.Common.{take}
-use Rattle.audit_compare.specs.{Compare.crawler_changes, Internal.Compare.Adds}
+use Rattle.audit_core.specs.Findings.{Adds}
+use Rattle.audit_compare.specs.Compare.{crawler_changes}
 use Rattle.audit_compare.proofs.differences.add_crawler.Given as goal
 
 abbrev pub invariant-loop-section : goal.invariant-loop-section
