@@ -67,7 +67,8 @@ unfolding kept_start spans_from encode_utf8
 begins_with b text low visible other =
     let first : encode_utf8 b ≡ b ∷ [] = rw low refl in
     let read : decoded (b ∷ text) ≡ good b 1 = rw first at (decoded-encode b text (grind (arith, nat_tests))) in
-    rw (pieces-step (b ∷ text) (omega arith), read, visible, other) refl
+    let unmarked : nat_eq 0xEF b ≡ false = grind (arith, nat_tests) in
+    rw (unmarked, pieces-step (b ∷ text) (omega arith), read, visible, other) refl
 
 pub escaped_added : (old front line mid new : List ℕ) → IsReport old → IsPrintableIn false line
     → has_command line ≡ false → front ≡ old ++ 92 ∷ [] → mid ≡ front ++ line → new ≡ mid ++ 10 ∷ []

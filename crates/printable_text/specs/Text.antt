@@ -1,6 +1,6 @@
 -- Lines of reports, levels and colors.
 use Rattle.std.specs.Prelude.{ℕ, Bool, true, false, List, codes, ◌≡◌, not, nat_eq, IsTrue, [], ◌∷◌, ◌⊎◌, ◌++◌}
-use Rattle.std.specs.Prelude.{flat_map}
+use Rattle.std.specs.Prelude.{drop, flat_map, if◌then◌else◌, length}
 use Rattle.std.specs.{Char.is_whitespace, List.AllByRecursion as Each, List.starts_with}
 use Rattle.bstr.specs.{Trim.trim_start_by}
 use Rattle.printable_text.specs.{declared.level.Level.Level, Lines.ended}
@@ -24,9 +24,16 @@ reaches Note Error = false
 -- ---- Lines that no workflow on GitHub takes for a command. A command begins with `::`, possibly after white
 -- space at the start of a line, or with `##[` anywhere in a line.
 
+-- U+FEFF, which a reader may leave out at the start of a stream
+abbrev pub mark : List ℕ
+mark = 0xEF ∷ 0xBB ∷ 0xBF ∷ []
+
+abbrev pub without_mark : List ℕ → List ℕ
+without_mark text = if starts_with nat_eq text mark then drop (length mark) text else text
+
 -- the first character that isn't white space isn't `:`
 abbrev pub begins_plainly : List ℕ → Bool
-begins_plainly text = not (starts_with nat_eq (trim_start_by is_whitespace text) (codes ":"))
+begins_plainly text = not (starts_with nat_eq (trim_start_by is_whitespace (without_mark text)) (codes ":"))
 
 -- a single line without control or bidirectional-formatting characters, which isn't a command
 pub record IsPlainLine (line : List ℕ) : Type 0 where

@@ -2,7 +2,7 @@
 //! written to it.
 ghost use Rattle.std.specs.Prelude.{◌≡◌, IfOk, OnOk, false, string_bytes};
 ghost use Rattle.printable_text.specs.Sanitize.{IsPrintableIn, has_command};
-ghost use Rattle.printable_text.specs.Text.{IsReport, IsShownReport, begins_plainly};
+ghost use Rattle.printable_text.specs.Text.{IsReport, IsShownReport, begins_plainly, without_mark};
 
 use crate::color::colored;
 use crate::level::Level;
@@ -85,10 +85,16 @@ impl fmt::Write for Line {
     }
 }
 
+fn without_mark<'a>(line: &'a [u8]) -> &'a [u8]
+    ensures { result.now ≡ without_mark line.now }
+{
+    line.strip_prefix(b"\xEF\xBB\xBF").unwrap_or(line)
+}
+
 fn begins_plainly(line: &[u8]) -> bool
     ensures { result ≡ begins_plainly line.now }
 {
-    !line.trim_start().starts_with(b":")
+    !without_mark(line).trim_start().starts_with(b":")
 }
 
 /// A line that would begin a command begins with a backslash instead.
