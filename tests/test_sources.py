@@ -13,6 +13,7 @@ FAILED = r"(?:\b(?:\w+::)*(?:AllocError|AllocFailed|OutOfMemory|Overflow|Memory|
 
 # Where else the sources construct such an error, and why.
 CONSTRUCTED = {
+    ("audit_core/src/fault.rt", "Fault::Memory"): "`write!` into a report fails only if an allocation does",
     ("texting_robots/src/segments.rt", "AllocError"): "an index has more than 32 bits, as none has in a file of at most `FILE_LIMIT` bytes",
     ("robots_examples/src/tests.rt", "CacheError::Memory"): "an error whose message is printed",
     ("texting_robots_tests/src/files.rt", "-2"): "a verdict by line 2",
