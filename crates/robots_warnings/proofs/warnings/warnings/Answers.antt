@@ -11,5 +11,5 @@ returns c =
     added _ _ _ _ _ _ _ _ _ _ _ c.new-found.ensures.items
     c.in_ok-warn_in_general.ensures
     c.in_ok-warn_of_lines.ensures
-    c.in_ok-warn_of_positions.ensures c.in_ok-warn_past_limit.ensures
+    (rw c.deref.ensures.value at c.in_ok-warn_of_positions.ensures) c.in_ok-warn_past_limit.ensures
     c.in_ok-warn_of_groups.ensures
