@@ -94,9 +94,10 @@ escaped_bracketless (byte ∷ bytes) =
 
 value_safe : (bytes : List ℕ) → IsPrintable bytes → IsSafe (escaped bytes)
 value_safe bytes is =
-    rw (escaped-is bytes)
-    (escaped_printable escaped_byte refl (λ byte high. grind (arith, nat_tests)) bytes is,
-    escaped_bracketless bytes)
+    rw (escaped-is bytes) (
+      escaped_printable escaped_byte refl (λ byte high. grind (arith, nat_tests)) bytes is,
+      escaped_bracketless bytes,
+    )
 
 both_safe : {one two : List ℕ} → IsSafe one → IsSafe two → IsSafe (one ++ two)
 both_safe {one} {two} is too =
