@@ -16,7 +16,7 @@ def hash_of(style):
 
 def embedded(source, style):
     """The source with this style and its hash."""
-    assert style.isascii() and not set(style) & set('"\\<&\0\r'), "this character would need an escape"
+    assert style.isascii() and not set(style) & set('"\\<&[\0\r'), "this character would need an escape"
     source = re.sub(r'(const CSS: &str = "\\\n)[^"]*', lambda it: it[1] + style, source)
     return re.sub(r"sha256-[^']*", hash_of(style), source)
 

@@ -175,9 +175,16 @@ SMALL = """<!DOCTYPE html><html lang="en"><head><meta charset="utf-8"/>
 
 def test_page_on_a_small_file():
     """Apart from the style, a page has no line ends."""
-    warning = f"Error: {level_and_text('missing-slash')[1]} [missing-slash]"
+    warning = f"Error: {level_and_text('missing-slash')[1]} &lsqb;missing-slash]"
     wanted = SMALL.replace("\n", "").format(policy=constant("POLICY"), style=STYLE, warning=warning, version=VERSION)
     assert page("--agent=Ferris", "--date", "27 & 28 November", "-", "/a&b", file=b"User-agent: *\nDisallow: search # <b>\n") == wanted
+
+
+def test_page_has_no_start_of_a_command():
+    """GitHub takes `##[` for one, whether it is in one text or between two."""
+    file = b"User-agent: *\nDisallow: /##[error]a\nDisallow: /##\xff[a # ##[error]b\nSitemap: https://example.com/##[error]c\n##[error]d\n"
+    written = page("--agent=Ferris", "--date", "##[error]e", "-", "/##[error]f", "/#", "[", file=file)
+    assert "##[" not in written and "<dd>%23%23&lsqb;error]e</dd>" in written
 
 
 CRAWLERS = """

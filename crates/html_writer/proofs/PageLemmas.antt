@@ -1,5 +1,5 @@
 -- A page that is written piece by piece: each piece is read as it was written, and is printable.
-use Rattle.std.specs.Prelude.{not, ◌&&◌}
+use Rattle.std.specs.Prelude.{nat_eq, not, ◌&&◌, ◌||◌}
 use Rattle.std.proofs.Common.{ℕ, ◌+◌, ◌<◌, ◌++◌, Bool, true, false, List, [], ◌∷◌, ◌≡◌, arith, codes}
 use Rattle.std.proofs.Common.{flat_map}
 use Rattle.std.proofs.Common.{append-nil, append_assoc, ap, ap₂, get_or, length, map, refl, reverse, drop}
@@ -7,17 +7,18 @@ use Rattle.std.proofs.Common.{slice_index_or, subst, sym, take, ◌∙◌}
 use Rattle.std.specs.{Bool.IsTrue, List.AllByRecursion as Each, List.list_all, List.list_any, Str.bytes_eq}
 use Rattle.std.specs.{Str.chars}
 use Rattle.std.proofs.lemmas.{Bool.and_parts, Bool.not-true, Str.encodes-chars}
-use Rattle.std.proofs.lemmas.{Grind.flat_map-append}
+use Rattle.std.proofs.lemmas.{Grind.flat_map-append, List.Folds.list_all-append}
 use Rattle.std.proofs.lemmas.List.{map-append, reverse-append, take_more}
 use Rattle.std.proofs.lemmas.Bool.Decides.{nat_tests}
 use Rattle.std.proofs.lemmas.List.Sums.{AllPass-from_list_all, list_all-from_AllPass}
-use Rattle.printable_text.specs.Sanitize.{IsPrintable, IsPrintableIn, is_printable, is_printable_byte}
-use Rattle.printable_text.proofs.SanitizeLemmas.{append_printable, ascii_printable, chars_pass, nil_printable}
-use Rattle.printable_text.proofs.{EscapeLemmas.escaped_printable, SanitizeLemmas.line_printable}
+use Rattle.printable_text.specs.Sanitize.{IsPrintable, IsPrintableIn, has_command, is_printable, is_printable_byte}
+use Rattle.printable_text.specs.Sanitize.{sanitized}
+use Rattle.printable_text.proofs.SanitizeLemmas.{append_printable, ascii_printable, chars_pass, line_printable}
+use Rattle.printable_text.proofs.{EscapeLemmas.escaped_printable, SanitizeLemmas.sanitized_in_printable}
 use Rattle.html_writer.specs.Html.{AreAttributes, Attribute, IsContent, IsText, doctype, is_css}
 use Rattle.html_writer.specs.Html.{style, style_bytes, written, attribute_bytes, end_tag}
 use Rattle.html_writer.specs.Html.{escaped, escaped_byte, attribute, has_attribute, is_character, is_letter}
-use Rattle.html_writer.specs.Html.{is_name}
+use Rattle.html_writer.specs.Html.{is_name, is_no_bracket}
 use Rattle.html_writer.specs.Html.{is_name_byte, is_ordinary, is_title, is_style, start_tag, tag_close}
 use Rattle.html_writer.specs.Html.{tag_open, text}
 use Rattle.html_writer.specs.Html.{void, void_close, void_names, void_tag, is_among}
@@ -25,12 +26,12 @@ use Rattle.html_writer.specs.Reader.{Opened, Reader, State, finished, data_state
 use Rattle.html_writer.specs.Reader.{has_references}
 use Rattle.html_writer.specs.Reader.{kind_of, new_tag, reader, run}
 use Rattle.html_writer.specs.Page.{AddsAttributes, AddsTag, HasVoid, IsOpen, Opens, are_names}
-use Rattle.html_writer.specs.Page.{closed}
+use Rattle.html_writer.specs.Page.{IsSafe, closed, is_safe_byte}
 use Rattle.std.specs.{Borrow.Bor}
 use Rattle.html_writer.specs.Page.{AddsStart, AddsVoid, IsSomePage, names_in, names_of, title}
 use Rattle.html_writer.specs.Page.{closed_in, followed_by, is_tag, is_void, name_in, so_far}
 use Rattle.html_writer.proofs.WritingLemmas.{Reads, attributes_weaker, content_read, style_read, end_read}
-use Rattle.html_writer.proofs.WritingLemmas.{escaped-is, kind_inside, start_read, text_read}
+use Rattle.html_writer.proofs.WritingLemmas.{each_form, escaped-is, kind_inside, start_read, text_read}
 use Rattle.html_writer.proofs.WritingLemmas.{void_read}
 
 -- ---- Printable pieces.
@@ -46,73 +47,119 @@ printable_text bytes is =
     subst IsText (encodes-chars bytes is.utf8)
     (chars_pass is_character (λ byte high. grind (arith, nat_tests)) (chars bytes) are)
 
-letter_printable : (byte : ℕ) → is_letter byte ≡ true → is_printable_byte true byte ≡ true
-letter_printable byte is = grind (arith, nat_tests)
+safe_both : (bytes : List ℕ) → list_all is_safe_byte bytes ≡ true
+    → (list_all (is_printable_byte true) bytes ≡ true) × (list_all is_no_bracket bytes ≡ true)
+safe_both [] are = (refl, refl)
+safe_both (byte ∷ bytes) are =
+    let both = and_parts (is_safe_byte byte) (list_all is_safe_byte bytes) are in
+    let here = and_parts (is_printable_byte true byte) (is_no_bracket byte) both.0 in
+    let later = safe_both bytes both.1 in
+    (rw here.0 later.0, rw here.1 later.1)
 
-name_byte_printable : (byte : ℕ) → is_name_byte byte ≡ true → is_printable_byte true byte ≡ true
-name_byte_printable byte is = grind (arith, nat_tests)
+ascii_safe : (bytes : List ℕ) → list_all is_safe_byte bytes ≡ true → IsSafe bytes
+ascii_safe bytes are =
+    let both = safe_both bytes are in
+    (ascii_printable true bytes both.0, both.1)
 
-name_bytes_printable : (bytes : List ℕ) → IsTrue (list_all is_name_byte bytes)
-    → IsTrue (list_all (is_printable_byte true) bytes)
-name_bytes_printable [] are = refl
-name_bytes_printable (byte ∷ bytes) are =
+letter_safe : (byte : ℕ) → is_letter byte ≡ true → is_safe_byte byte ≡ true
+letter_safe byte is = grind (arith, nat_tests)
+
+name_byte_safe : (byte : ℕ) → is_name_byte byte ≡ true → is_safe_byte byte ≡ true
+name_byte_safe byte is = grind (arith, nat_tests)
+
+name_bytes_safe : (bytes : List ℕ) → IsTrue (list_all is_name_byte bytes)
+    → IsTrue (list_all is_safe_byte bytes)
+name_bytes_safe [] are = refl
+name_bytes_safe (byte ∷ bytes) are =
     let both = and_parts (is_name_byte byte) (list_all is_name_byte bytes) are in
-    rw (name_byte_printable byte both.0) (name_bytes_printable bytes both.1)
+    rw (name_byte_safe byte both.0) (name_bytes_safe bytes both.1)
 
-name_printable : (name : List ℕ) → IsTrue (is_name name) → IsPrintable name
-name_printable [] named = nil_printable true
-name_printable (byte ∷ bytes) named =
+name_safe : (name : List ℕ) → IsTrue (is_name name) → IsSafe name
+name_safe [] named = ascii_safe [] refl
+name_safe (byte ∷ bytes) named =
     let both = and_parts (is_letter byte) (list_all is_name_byte bytes) named in
-    ascii_printable true (byte ∷ bytes)
-    (rw (letter_printable byte both.0) (name_bytes_printable bytes both.1))
+    ascii_safe (byte ∷ bytes) (rw (letter_safe byte both.0) (name_bytes_safe bytes both.1))
 
-value_printable : (bytes : List ℕ) → IsPrintable bytes → IsPrintable (escaped bytes)
-value_printable bytes is =
-    rw (escaped-is bytes)
-    (escaped_printable escaped_byte refl (λ byte high. grind (arith, nat_tests)) bytes is)
+escaped_bracketless : (bytes : List ℕ) → list_all is_no_bracket (flat_map escaped_byte bytes) ≡ true
+escaped_bracketless [] = refl
+escaped_bracketless (byte ∷ bytes) =
+    rw (list_all-append, one) (escaped_bracketless bytes)
+  where
+    one : list_all is_no_bracket (escaped_byte byte) ≡ true
+    one =
+        each_form (λ b. list_all is_no_bracket (escaped_byte b) ≡ true) byte refl refl refl refl refl
+        (λ not_38 not_60 not_62 not_34 not_91.
+        let plain : is_no_bracket byte ≡ true = ap not not_91 in
+        rw (not_38, not_60, not_62, not_34, not_91, plain) refl)
 
-both_printable : {one two : List ℕ} → IsPrintable one → IsPrintable two → IsPrintable (one ++ two)
-both_printable {one} {two} is too = append_printable true one two is too
+value_safe : (bytes : List ℕ) → IsPrintable bytes → IsSafe (escaped bytes)
+value_safe bytes is =
+    rw (escaped-is bytes) (
+      escaped_printable escaped_byte refl (λ byte high. grind (arith, nat_tests)) bytes is,
+      escaped_bracketless bytes,
+    )
 
-style_printable : (css : List ℕ) → IsPrintable css → IsPrintable (style_bytes css)
+both_safe : {one two : List ℕ} → IsSafe one → IsSafe two → IsSafe (one ++ two)
+both_safe {one} {two} is too =
+    (append_printable true one two is.0 too.0, rw (list_all-append, is.1) too.1)
+
+fails : (a b c later : Bool) → c ≡ false → later ≡ false → ((a && (b && (c && true))) || later) ≡ false
+fails a b c later none quiet = rw (none, quiet) (both a b)
+  where
+    both : (a b : Bool) → ((a && (b && false)) || false) ≡ false
+    both true true = refl
+    both true false = refl
+    both false b = refl
+
+-- a text without `[` has no start of a command
+bracketless_quiet : (bytes : List ℕ) → list_all is_no_bracket bytes ≡ true → has_command bytes ≡ false
+bracketless_quiet [] are = refl
+bracketless_quiet (a ∷ []) are = fails (nat_eq 35 a) true false false refl refl
+bracketless_quiet (a ∷ b ∷ []) are =
+    let later = (and_parts (is_no_bracket a) (list_all is_no_bracket (b ∷ [])) are).1 in
+    fails (nat_eq 35 a) (nat_eq 35 b) false (has_command (b ∷ [])) refl (bracketless_quiet (b ∷ []) later)
+bracketless_quiet (a ∷ b ∷ c ∷ rest) are =
+    let later = (and_parts (is_no_bracket a) (list_all is_no_bracket (b ∷ c ∷ rest)) are).1 in
+    let last = (and_parts (is_no_bracket b) (list_all is_no_bracket (c ∷ rest)) later).1 in
+    let isnt = (and_parts (is_no_bracket c) (list_all is_no_bracket rest) last).0 in
+    fails (nat_eq 35 a) (nat_eq 35 b) (nat_eq 91 c) (has_command (b ∷ c ∷ rest)) (grind (arith, nat_tests))
+    (bracketless_quiet (b ∷ c ∷ rest) later)
+
+style_safe : (css : List ℕ) → IsSafe css → IsSafe (style_bytes css)
 unfolding style_bytes
-style_printable css is =
-    both_printable (ascii_printable true (codes "<style>") refl)
-    (both_printable is (ascii_printable true (codes "</style>") refl))
+style_safe css is =
+    both_safe (ascii_safe (codes "<style>") refl) (both_safe is (ascii_safe (codes "</style>") refl))
 
-open_printable : (name : List ℕ) → IsPrintable name → IsPrintable (tag_open name)
+open_safe : (name : List ℕ) → IsSafe name → IsSafe (tag_open name)
 unfolding tag_open
-open_printable name is = both_printable (ascii_printable true (codes "<") refl) is
+open_safe name is = both_safe (ascii_safe (codes "<") refl) is
 
-end_printable : (name : List ℕ) → IsPrintable name → IsPrintable (end_tag name)
+end_safe : (name : List ℕ) → IsSafe name → IsSafe (end_tag name)
 unfolding end_tag
-end_printable name is =
-    both_printable (ascii_printable true (codes "</") refl)
-    (both_printable is (ascii_printable true (codes ">") refl))
+end_safe name is =
+    both_safe (ascii_safe (codes "</") refl) (both_safe is (ascii_safe (codes ">") refl))
 
-close_printable : IsPrintable tag_close
+close_safe : IsSafe tag_close
 unfolding tag_close
-close_printable = ascii_printable true (codes ">") refl
+close_safe = ascii_safe (codes ">") refl
 
-void_close_printable : IsPrintable void_close
+void_close_safe : IsSafe void_close
 unfolding void_close
-void_close_printable = ascii_printable true (codes "/>") refl
+void_close_safe = ascii_safe (codes "/>") refl
 
-attribute_printable : (a : Attribute) → IsPrintable a.name → IsPrintable (escaped a.value)
-    → IsPrintable (attribute_bytes a)
+attribute_safe : (a : Attribute) → IsSafe a.name → IsSafe (escaped a.value) → IsSafe (attribute_bytes a)
 unfolding attribute_bytes
-attribute_printable a name value =
-    both_printable (ascii_printable true (codes " ") refl)
-    (both_printable name
-    (both_printable (ascii_printable true (codes "=\"") refl)
-    (both_printable value (ascii_printable true (codes "\"") refl))))
+attribute_safe a name value =
+    both_safe (ascii_safe (codes " ") refl)
+    (both_safe name
+    (both_safe (ascii_safe (codes "=\"") refl) (both_safe value (ascii_safe (codes "\"") refl))))
 
-attributes_printable : (before attributes : List Attribute) → AreAttributes IsPrintable before attributes
-    → IsPrintable (flat_map attribute_bytes attributes)
-attributes_printable before [] are = nil_printable true
-attributes_printable before (a ∷ attributes) (named, new, is, rest) =
-    both_printable (attribute_printable a (name_printable a.name named) (value_printable a.value is))
-    (attributes_printable (before ++ a ∷ []) attributes rest)
+attributes_safe : (before attributes : List Attribute) → AreAttributes IsPrintable before attributes
+    → IsSafe (flat_map attribute_bytes attributes)
+attributes_safe before [] are = ascii_safe [] refl
+attributes_safe before (a ∷ attributes) (named, new, is, rest) =
+    both_safe (attribute_safe a (name_safe a.name named) (value_safe a.value is))
+    (attributes_safe (before ++ a ∷ []) attributes rest)
 
 -- ---- Names of attributes.
 
@@ -165,7 +212,7 @@ kind_plain (o ∷ opened) are =
     (kind.0, kind.1 ∙ plain.1)
 
 nil_open : IsOpen [] []
-nil_open = record { printable = nil_printable true; state = refl; names_are = refl; are_tags = refl }
+nil_open = record { safe = ascii_safe [] refl; state = refl; names_are = refl; are_tags = refl }
 
 pub nothing_open : (opened : List (Bor (List ℕ))) (bytes : List ℕ) → opened ≡ [] → bytes ≡ []
     → IsOpen (names_of opened) bytes
@@ -182,11 +229,11 @@ module _ (names : List (List ℕ)) (old new : List ℕ) (is : IsOpen names old) 
 
   -- the elements that are open stay so
   kept_open : (last : Reader) → so_far new ≡ last → last.state ≡ data_state
-      → last.opened ≡ (so_far old).opened → IsPrintable new → IsOpen names new
-  kept_open last same state opened printable =
+      → last.opened ≡ (so_far old).opened → IsSafe new → IsOpen names new
+  kept_open last same state opened safe =
       let both : (so_far new).opened ≡ (so_far old).opened = ap (λ (r : Reader). r.opened) same ∙ opened in
       record {
-        printable = printable;
+        safe = safe;
         state = ap (λ (r : Reader). r.state) same ∙ state;
         names_are = is.names_are ∙ ap (λ (o : List Opened). map name_in o) (sym both);
         are_tags =
@@ -204,8 +251,8 @@ module _ (names : List (List ℕ)) (old new : List ℕ) (is : IsOpen names old) 
   text_open line plain added =
       let same = text_is line plain added in
       record {
-        printable = subst IsPrintable (sym added)
-            (both_printable is.printable (value_printable line (line_printable line plain)));
+        safe = subst IsSafe (sym added)
+            (both_safe is.safe (value_safe line (line_printable line plain)));
         state = ap (λ (r : Reader). r.state) same;
         names_are = is.names_are ∙ ap (λ (r : Reader). map name_in r.opened) (sym same);
         are_tags =
@@ -224,11 +271,11 @@ module _ (names : List (List ℕ)) (old new : List ℕ) (is : IsOpen names old) 
       → IsOpen names new
   title_open line plain added =
       kept_open (followed_by (title line) (so_far old)) (title_is line plain added) refl refl
-      (subst IsPrintable (sym added) (both_printable is.printable
-      (both_printable (both_printable (open_printable (codes "title") (name_printable (codes "title") refl))
-      close_printable) (both_printable (value_printable line (line_printable line plain))
-      (both_printable (end_printable (codes "title") (name_printable (codes "title") refl))
-      (nil_printable true))))))
+      (subst IsSafe (sym added) (both_safe is.safe
+      (both_safe (both_safe (open_safe (codes "title") (name_safe (codes "title") refl))
+      close_safe) (both_safe (value_safe line (line_printable line plain))
+      (both_safe (end_safe (codes "title") (name_safe (codes "title") refl))
+      (ascii_safe [] refl))))))
 
   pub style_is : (css : List ℕ) → is_css css ≡ true → new ≡ old ++ style_bytes css
       → so_far new ≡ followed_by (style [] css (text [])) (so_far old)
@@ -236,12 +283,12 @@ module _ (names : List (List ℕ)) (old new : List ℕ) (is : IsOpen names old) 
       piece_read old new (style_bytes css) (followed_by (style [] css (text [])) (so_far old)) is.state
       (style_read (so_far old).opened (so_far old).content css may are) added
 
-  pub style_open : (css : List ℕ) → is_css css ≡ true → list_all (is_printable_byte true) css ≡ true
+  pub style_open : (css : List ℕ) → is_css css ≡ true → list_all is_safe_byte css ≡ true
       → new ≡ old ++ style_bytes css → IsOpen names new
   style_open css are plain added =
       kept_open (followed_by (style [] css (text [])) (so_far old)) (style_is css are added) refl refl
-      (subst IsPrintable (sym added)
-      (both_printable is.printable (style_printable css (ascii_printable true css plain))))
+      (subst IsSafe (sym added)
+      (both_safe is.safe (style_safe css (ascii_safe css plain))))
 
   module _ (name : List ℕ) (labels : List (List ℕ)) (mid : List ℕ) (labeled : are_names [] labels ≡ true)
       (adds : AddsTag name labels old mid) where
@@ -265,13 +312,13 @@ module _ (names : List (List ℕ)) (old new : List ℕ) (is : IsOpen names old) 
         ∙ ap (λ (t : List ℕ). old ++ t)
         (append_assoc (tag_open name) (flat_map attribute_bytes attributes) end)
 
-    tag_printable : IsTrue (is_name name) → (end : List ℕ) → IsPrintable end → new ≡ mid ++ end
-        → IsPrintable new
-    tag_printable named end ends added =
-        subst IsPrintable (sym (whole end added))
-        (both_printable is.printable
-        (both_printable (open_printable name (name_printable name named))
-        (both_printable (attributes_printable [] attributes printable_attributes) ends)))
+    tag_safe : IsTrue (is_name name) → (end : List ℕ) → IsSafe end → new ≡ mid ++ end
+        → IsSafe new
+    tag_safe named end ends added =
+        subst IsSafe (sym (whole end added))
+        (both_safe is.safe
+        (both_safe (open_safe name (name_safe name named))
+        (both_safe (attributes_safe [] attributes printable_attributes) ends)))
 
     abbrev opened_now : Reader
     opened_now =
@@ -296,7 +343,7 @@ module _ (names : List (List ℕ)) (old new : List ℕ) (is : IsOpen names old) 
         let same = start_same tag added in
         let named = and_parts (is_name name) (is_ordinary name && not (is_title name)) tag in
         record {
-          printable = tag_printable named.0 tag_close close_printable added;
+          safe = tag_safe named.0 tag_close close_safe added;
           state = ap (λ (r : Reader). r.state) same;
           names_are =
               reverse-append names (name ∷ []) ∙ ap (λ (l : List (List ℕ)). name ∷ l) is.names_are
@@ -325,7 +372,7 @@ module _ (names : List (List ℕ)) (old new : List ℕ) (is : IsOpen names old) 
         let same = void_same is_one added in
         let both = and_parts (is_name name) (is_among void_names name) is_one in
         record {
-          printable = tag_printable both.0 void_close void_close_printable added;
+          safe = tag_safe both.0 void_close void_close_safe added;
           state = ap (λ (r : Reader). r.state) same;
           names_are = is.names_are ∙ ap (λ (r : Reader). map name_in r.opened) (sym same);
           are_tags =
@@ -365,8 +412,8 @@ module _ (names : List (List ℕ)) (name : List ℕ) (old new : List ℕ) (is : 
       (added ∙ ap (λ (n : List ℕ). old ++ end_tag n) head) in (
         result ∙ ap (λ (l : List Opened). closed_in l (so_far old).content) (sym same),
         record {
-          printable = subst IsPrintable (sym (added ∙ ap (λ (n : List ℕ). old ++ end_tag n) head))
-              (both_printable is.printable (end_printable o.tag.name (name_printable o.tag.name named.0)));
+          safe = subst IsSafe (sym (added ∙ ap (λ (n : List ℕ). old ++ end_tag n) head))
+              (both_safe is.safe (end_safe o.tag.name (name_safe o.tag.name named.0)));
           state = ap (λ (r : Reader). r.state) result;
           names_are = same_tail name o.tag.name (reverse names) (map name_in outer) last
               ∙ ap (λ (r : Reader). map name_in r.opened) (sym result);
@@ -382,6 +429,23 @@ module _ (names : List (List ℕ)) (name : List ℕ) (old new : List ℕ) (is : 
   end_open = (ends (so_far old).opened refl last_is is.are_tags).1
 
 -- ---- The same, as the functions that write a page need it.
+
+cleared_line : (front line bytes : List ℕ) → front ≡ [] → line ≡ front ++ sanitized bytes
+    → line ≡ sanitized bytes
+cleared_line front line bytes none added = added ∙ ap (λ (t : List ℕ). t ++ sanitized bytes) none
+
+pub sanitized_line : (front line bytes : List ℕ) → front ≡ [] → line ≡ front ++ sanitized bytes
+    → IsPrintableIn false line
+sanitized_line front line bytes none added =
+    subst (IsPrintableIn false) (sym (cleared_line front line bytes none added))
+    (sanitized_in_printable false bytes)
+
+pub text_written : (names : List (List ℕ)) (old new front line bytes : List ℕ) → IsOpen names old
+    → front ≡ [] → line ≡ front ++ sanitized bytes → new ≡ old ++ escaped line
+    → so_far new ≡ followed_by (text (sanitized bytes)) (so_far old)
+text_written names old new front line bytes is none line_is added =
+    text_is names old new is line (sanitized_line front line bytes none line_is) added
+    ∙ ap (λ (t : List ℕ). followed_by (text t) (so_far old)) (cleared_line front line bytes none line_is)
 
 pub element_begun : (names labels : List (List ℕ)) (name old new : List ℕ) → IsOpen names old
     → is_tag name ≡ true → are_names [] labels ≡ true → AddsStart name labels old new
@@ -502,10 +566,12 @@ unfolding doctype
 page_finished before bytes front page is none first added =
     let opened = none_opened (so_far bytes).opened
     (sym (ap (λ (b : List (Bor (List ℕ))). reverse (names_of b)) none) ∙ is.names_are) in
+    let whole = both_safe (ascii_safe doctype refl) is.safe in
     subst IsSomePage (sym (added ∙ ap (λ (t : List ℕ). t ++ bytes) first)) (
       (so_far bytes).content,
       record {
-        printable = both_printable (ascii_printable true doctype refl) is.printable;
+        printable = whole.0;
+        quiet = bracketless_quiet (doctype ++ bytes) whole.1;
         read = ap₂ (λ (state : State) (opened : List Opened). finished state opened (so_far bytes).content)
             is.state opened;
       },

@@ -16,6 +16,7 @@ use Rattle.html_writer.specs.Reader.{Kind, Opened, Reader, Tag, after_attribute_
 use Rattle.html_writer.specs.Reader.{attribute_name, attribute_value, data_state}
 use Rattle.html_writer.specs.Reader.{end_tag_name, has_elements, has_references, kind_in, kind_of, new_tag}
 use Rattle.html_writer.specs.Reader.{only_text, raw_text, reader, run, tag_name}
+use Rattle.html_writer.specs.Html as html
 
 -- ---- Escaping.
 
@@ -67,6 +68,13 @@ module _ (P Q : List ℕ → Type 0) (weaker : (bytes : List ℕ) → P bytes �
   attributes_weaker before (a ∷ attributes) (named, new, is, rest) =
       (named, new, weaker a.value is, attributes_weaker (before ++ a ∷ []) attributes rest)
 
+followed-nil : (html : Html) → html ⊕ text [] ≡ html
+followed-nil (text bytes) = ap text (append-nil bytes)
+followed-nil (element before name attributes children after) =
+    ap (element before name attributes children) (followed-nil after)
+followed-nil (void before name attributes after) = ap (void before name attributes) (followed-nil after)
+followed-nil (style before css after) = ap (style before css) (followed-nil after)
+
 -- ---- What is written is read back, piece by piece.
 
 -- the bytes lead from one reader to the other, whatever follows them
@@ -114,11 +122,13 @@ name_read start front after (byte ∷ name) named first next =
     rw (append_assoc front (byte ∷ []) name) at (read_on (first byte both.0)
     (unchanged is_name_byte (λ done. after (byte ∷ done)) (λ done. next (byte ∷ done)) name both.1))
 
-each_form : (P : ℕ → Type 0) (byte : ℕ) → P 38 → P 60 → P 62 → P 34
-    → ((byte == 38) ≡ false → (byte == 60) ≡ false → (byte == 62) ≡ false → (byte == 34) ≡ false → P byte)
+pub each_form : (P : ℕ → Type 0) (byte : ℕ) → P 38 → P 60 → P 62 → P 34 → P 91
+    → ((byte == 38) ≡ false → (byte == 60) ≡ false → (byte == 62) ≡ false → (byte == 34) ≡ false
+    → (byte == 91) ≡ false → P byte)
     → P byte
-each_form P byte amp lt gt quot other =
-    or 38 amp (λ not_38. or 60 lt (λ not_60. or 62 gt (λ not_62. or 34 quot (other not_38 not_60 not_62))))
+each_form P byte amp lt gt quot bracket other =
+    or 38 amp (λ not_38. or 60 lt (λ not_60. or 62 gt (λ not_62. or 34 quot (λ not_34.
+    or 91 bracket (other not_38 not_60 not_62 not_34)))))
   where
     or : (n : ℕ) → P n → ((byte == n) ≡ false → P byte) → P byte
     or n is isnt = elim (cases_Bool (byte == n)) [
@@ -147,7 +157,8 @@ module _ (opened : List Opened) where
           each_form (λ b. Reads (reading content) (escaped_byte b) (reading (content ⊕ text (b ∷ [])))) byte
           (record { leads = λ more. rw has }) (record { leads = λ more. rw has })
           (record { leads = λ more. rw has }) (record { leads = λ more. rw has })
-          (λ not_38 not_60 not_62 not_34. rw (not_38, not_60, not_62, not_34)
+          (record { leads = λ more. rw has })
+          (λ not_38 not_60 not_62 not_34 not_91. rw (not_38, not_60, not_62, not_34, not_91)
           (record { leads = λ more. rw (not_60, has, not_38, is) }))
 
   value_read : (content : Html) (tag : Tag) (name value : List ℕ) → IsTrue (is_text value)
@@ -158,8 +169,8 @@ module _ (opened : List Opened) where
       rw (escaped-is value) (collected escaped_byte is_character after
       (λ done byte is. each_form (λ b. Reads (after done) (escaped_byte b) (after (done ++ b ∷ []))) byte
       (record { leads = λ more. refl }) (record { leads = λ more. refl }) (record { leads = λ more. refl })
-      (record { leads = λ more. refl })
-      (λ not_38 not_60 not_62 not_34. rw (not_38, not_60, not_62, not_34)
+      (record { leads = λ more. refl }) (record { leads = λ more. refl })
+      (λ not_38 not_60 not_62 not_34 not_91. rw (not_38, not_60, not_62, not_34, not_91)
       (record { leads = λ more. rw (not_34, not_38, is) }))) [] value are)
 
   attribute_read : (content : Html) (label name value : List ℕ) (before : List Attribute)

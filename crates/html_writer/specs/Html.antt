@@ -42,17 +42,22 @@ abbrev pub ◌⊕◌ : Html → Html → Html
 abbrev pub tag : List ℕ → List Attribute → Html → Html
 tag name attributes children = element [] name attributes children (text [])
 
--- a character reference for `&`, `<`, `>` and `"`; any other byte is unchanged
+-- any byte but `[`, with which the start of a command on GitHub, `##[`, ends
+abbrev pub is_no_bracket : ℕ → Bool
+is_no_bracket byte = not (byte == 91)
+
+-- a character reference for `&`, `<`, `>`, `"` and `[`; any other byte is unchanged
 abbrev pub escaped_byte : ℕ → List ℕ
 escaped_byte byte =
     if byte == 38 then codes "&amp;"
     else if byte == 60 then codes "&lt;"
     else if byte == 62 then codes "&gt;"
     else if byte == 34 then codes "&quot;"
+    else if byte == 91 then codes "&lsqb;"
     else byte ∷ []
 
 abbrev pub is_written_as_is : ℕ → Bool
-is_written_as_is byte = not (byte == 38 || (byte == 60 || (byte == 62 || byte == 34)))
+is_written_as_is byte = not (byte == 38 || (byte == 60 || (byte == 62 || (byte == 34 || byte == 91))))
 
 -- The pieces of what is written are `unfoldable`: a proof about a function that writes a page names the
 -- pieces, and doesn't compute their bytes unless it asks for them.

@@ -1,11 +1,11 @@
 -- A page that is written piece by piece: what reading it so far yields.
-use Rattle.std.specs.Prelude.{◌≡◌, ℕ, Bool, true, not, ◌&&◌, IsTrue, List, [], ◌∷◌, ◌++◌, flat_map, map}
+use Rattle.std.specs.Prelude.{◌≡◌, ℕ, Bool, true, false, not, ◌&&◌, IsTrue, List, [], ◌∷◌, ◌++◌, flat_map, map}
 use Rattle.std.specs.Prelude.{reverse}
 use Rattle.std.specs.Prelude.{Some, codes}
 use Rattle.std.specs.{Borrow.Bor, List.AllByRecursion as Each, List.list_all, List.list_any, Str.bytes_eq}
-use Rattle.printable_text.specs.Sanitize.{IsPrintable}
+use Rattle.printable_text.specs.Sanitize.{IsPrintable, has_command, is_printable_byte}
 use Rattle.html_writer.specs.Html.{Attribute, Html, attribute_bytes, element, tag, is_among, is_name}
-use Rattle.html_writer.specs.Html.{is_ordinary}
+use Rattle.html_writer.specs.Html.{is_no_bracket, is_ordinary}
 use Rattle.html_writer.specs.Html.{is_title, tag_close, tag_open, text, void, void_close}
 use Rattle.html_writer.specs.Html.{void_names, ◌⊕◌}
 use Rattle.html_writer.specs.Reader.{Opened, Reader, data_state, new_tag, read_document, reader, run}
@@ -35,10 +35,17 @@ names_in attributes = map (λ a. a.0.now) attributes
 abbrev pub name_in : Opened → List ℕ
 name_in opened = opened.tag.name
 
--- what was written is printable, ends neither in a tag nor in a character reference, and has these open
+abbrev pub is_safe_byte : ℕ → Bool
+is_safe_byte byte = is_printable_byte true byte && is_no_bracket byte
+
+-- printable, and without `[`, so that no start of a command is in it, whatever follows
+abbrev pub IsSafe : List ℕ → Type 0
+IsSafe bytes = IsPrintable bytes × IsTrue (list_all is_no_bracket bytes)
+
+-- what was written is safe, ends neither in a tag nor in a character reference, and has these open
 -- elements, from the outermost one inwards
 pub record IsOpen (names : List (List ℕ)) (bytes : List ℕ) : Type 0 where
-  pub printable : IsPrintable bytes
+  pub safe : IsSafe bytes
   pub state : (so_far bytes).state ≡ data_state
   pub names_are : reverse names ≡ map name_in (so_far bytes).opened
   pub are_tags : IsTrue (list_all is_tag (map name_in (so_far bytes).opened))
@@ -101,9 +108,10 @@ closed page = closed_in page.opened page.content
 abbrev pub title : List ℕ → Html
 title bytes = tag (codes "title") [] (text bytes)
 
--- a printable page, which is read as this tree
+-- a printable page without the start of a command, which is read as this tree
 pub record IsPage (tree : Html) (bytes : List ℕ) : Type 0 where
   pub printable : IsPrintable bytes
+  pub quiet : has_command bytes ≡ false
   pub read : read_document bytes ≡ Some tree
 
 abbrev pub IsSomePage : List ℕ → Type 0

@@ -81,6 +81,7 @@ referenced name =
     else if bytes_eq name (codes "lt") then Some 60
     else if bytes_eq name (codes "gt") then Some 62
     else if bytes_eq name (codes "quot") then Some 34
+    else if bytes_eq name (codes "lsqb") then Some 91
     else None
 
 abbrev pub text_with : Option ℕ → Step

@@ -2,12 +2,12 @@
 //! yields these elements and what they contain; so no text and no value of an attribute becomes markup.
 ghost use Rattle.std.specs.Prelude.{◌≡◌, [], IfOk, OnOk, true};
 ghost use Rattle.std.specs.{List.list_all};
-ghost use Rattle.printable_text.specs.Sanitize.{is_printable_byte};
+ghost use Rattle.printable_text.specs.Sanitize.{sanitized};
 ghost use Rattle.html_writer.specs.Html.{is_css};
 ghost use Rattle.html_writer.specs.Html as html;
 ghost use Rattle.html_writer.specs.Page.{AddsAttributes, AddsStart, AddsTag, AddsVoid, HasVoid, Opens};
 ghost use Rattle.html_writer.specs.Page.{are_names, closed};
-ghost use Rattle.html_writer.specs.Page.{followed_by, IsOpen, IsSomePage, is_tag, is_void, names_in};
+ghost use Rattle.html_writer.specs.Page.{followed_by, IsOpen, IsSomePage, is_safe_byte, is_tag, is_void, names_in};
 ghost use Rattle.html_writer.specs.Page.{names_of, so_far, title};
 
 use crate::write::{
@@ -15,9 +15,9 @@ use crate::write::{
     push_text, push_void_close,
 };
 use printable_text::report::Line;
+use printable_text::sanitize::push_sanitized;
 use std::alloc::Global;
 use std::fmt;
-use std::fmt::Write;
 use std::marker::Model;
 
 /// If an allocation fails, all that was written is lost.
@@ -27,7 +27,7 @@ pub struct Html {
     /// The names of the open elements.
     opened: Vec<&'static str>,
     /// Only there to be used again.
-    line: Line,
+    line: String,
 }
 
 impl Model for Html {
@@ -45,14 +45,14 @@ impl Model for Html {
 #[tactic(auto, using(crate::proofs::PageLemmas::adds_none))]
 fn push_attributes(
     bytes: &mut Vec<u8>,
-    line: &mut Line,
+    line: &mut String,
     attributes: &[(&'static str, &str)],
 ) -> fmt::Result
     ensures { OnOk result (AddsAttributes (names_in attributes.now) bytes.old.items bytes.new.items) }
 {
     for attribute in attributes {
         line.clear();
-        line.write_str(attribute.1)?;
+        push_sanitized(line, attribute.1.as_bytes())?;
         push_attribute(bytes, attribute.0, line.as_str())?;
     }
     Ok(())
@@ -61,7 +61,7 @@ fn push_attributes(
 /// Without the end of the tag.
 fn push_tag(
     bytes: &mut Vec<u8>,
-    line: &mut Line,
+    line: &mut String,
     name: &str,
     attributes: &[(&'static str, &str)],
 ) -> fmt::Result
@@ -73,7 +73,7 @@ fn push_tag(
 
 fn push_start(
     bytes: &mut Vec<u8>,
-    line: &mut Line,
+    line: &mut String,
     name: &str,
     attributes: &[(&'static str, &str)],
 ) -> fmt::Result
@@ -85,7 +85,7 @@ fn push_start(
 
 fn push_void(
     bytes: &mut Vec<u8>,
-    line: &mut Line,
+    line: &mut String,
     name: &str,
     attributes: &[(&'static str, &str)],
 ) -> fmt::Result
@@ -128,19 +128,8 @@ impl Html {
         Html {
             bytes: Vec::new(alloc),
             opened: Vec::new(alloc),
-            line: Line::new(alloc),
+            line: String::new(alloc),
         }
-    }
-
-    /// Appends a text.
-    #[tactic(auto, using(crate::proofs::PageLemmas::text_is, crate::proofs::PageLemmas::nothing_open))]
-    pub fn text(&mut self, text: &Line) -> fmt::Result
-        ensures { OnOk result (so_far self.new ≡ followed_by (html.text text.now) (so_far self.old)) }
-    {
-        let Ok(()) = push_text(&mut self.bytes, text.as_str().as_bytes()) else {
-            return Err(lost(&mut self.bytes, &mut self.opened));
-        };
-        Ok(())
     }
 
     /// Begins an element, which `close` ends.
@@ -188,7 +177,7 @@ impl Html {
     #[tactic(auto, using(crate::proofs::PageLemmas::style_is, crate::proofs::PageLemmas::nothing_open))]
     pub fn style(&mut self, css: &'static str) -> fmt::Result
         requires css { is_css css.now ≡ true }
-        requires printable { list_all (is_printable_byte true) css.now ≡ true }
+        requires safe { list_all is_safe_byte css.now ≡ true }
         ensures { OnOk result (so_far self.new
             ≡ followed_by (html.style [] css.now (html.text [])) (so_far self.old)) }
     {
@@ -221,11 +210,14 @@ impl Html {
 }
 
 impl fmt::Write for Html {
+    ghost write_str_gives = { λ old written new.
+        so_far new ≡ followed_by (html.text (sanitized written)) (so_far old) };
+
     #[tactic(auto, using(crate::proofs::PageLemmas::nothing_open))]
     fn write_str(&mut self, text: &str) -> fmt::Result {
         self.line.clear();
-        self.line.write_str(text)?;
-        let Ok(()) = push_text(&mut self.bytes, self.line.as_str().as_bytes()) else {
+        push_sanitized(&mut self.line, text.as_bytes())?;
+        let Ok(()) = push_text(&mut self.bytes, self.line.as_bytes()) else {
             return Err(lost(&mut self.bytes, &mut self.opened));
         };
         Ok(())

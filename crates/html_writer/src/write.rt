@@ -15,6 +15,7 @@ fn push_byte(out: &mut Vec<u8>, byte: u8) -> Result<(), AllocError>
         b'<' => out.extend_from_slice(b"&lt;"),
         b'>' => out.extend_from_slice(b"&gt;"),
         b'"' => out.extend_from_slice(b"&quot;"),
+        b'[' => out.extend_from_slice(b"&lsqb;"),
         _ => Ok(out.push(byte)?),
     }
 }
@@ -22,7 +23,7 @@ fn push_byte(out: &mut Vec<u8>, byte: u8) -> Result<(), AllocError>
 fn is_written_as_is(byte: u8) -> bool
     ensures { result ≡ is_written_as_is byte }
 {
-    !(byte == b'&' || byte == b'<' || byte == b'>' || byte == b'"')
+    !(byte == b'&' || byte == b'<' || byte == b'>' || byte == b'"' || byte == b'[')
 }
 
 fn are_written_as_is(text: &[u8]) -> bool

@@ -45,7 +45,7 @@ th, td { text-align: left; padding: .25rem .5rem; min-width: 0 }
 thead { background: var(--head) }
 thead th { font-weight: 600 }
 tbody th { font-weight: 400 }
-[colspan] { grid-column: 1 / -1 }
+td:only-child { grid-column: 1 / -1 }
 .urls tr { grid-template-columns: minmax(0, 1fr) 11rem }
 .lines tr { grid-template-columns: 4.75rem 6.5rem 7rem minmax(0, 1fr) }
 .lines th { color: var(--dim) }
@@ -123,5 +123,5 @@ tr:target { background: var(--hit) }
 
 /// It permits the page's own style only, by the SHA-256 hash that a test computes again.
 pub(crate) const POLICY: &str = "default-src 'none'; \
-    style-src 'sha256-Tn+YEkj+8i/Lm5ww9lcCo1YWE6yKCtgpBKwQYoT6XOs='; \
+    style-src 'sha256-IcmGyz+6RF9L+WzqNPx6Eoo8F2DaQNBWOTLy4b1mOzc='; \
     base-uri 'none'; form-action 'none'";

@@ -3,4 +3,4 @@ use Rattle.html_writer.proofs.html.Html.style.Goals as goal
 
 pub invariant_of-self : goal.invariant_of-self
 invariant_of-self c =
-    style_open _ _ _ c.self.invariant _ c.requires.css c.requires.printable c.in-Ok.ensures
+    style_open _ _ _ c.self.invariant _ c.requires.css c.requires.safe c.in-Ok.ensures

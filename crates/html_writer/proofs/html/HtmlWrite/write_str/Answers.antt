@@ -1,7 +1,16 @@
-use Rattle.html_writer.proofs.PageLemmas.{text_open}
+use Rattle.html_writer.proofs.PageLemmas.{sanitized_line, text_open, text_written}
 use Rattle.html_writer.proofs.html.HtmlWrite.write_str.Goals as goal
 
 pub invariant_of-self-in-Ok : goal.invariant_of-self-in-Ok
 invariant_of-self-in-Ok c =
-    text_open _ _ _ c.self.invariant _ c.as_str.ensures.printable
-    (rw c.as_bytes.ensures.value at c.in-Ok.ensures)
+    text_open _ _ _ c.self.invariant _
+    (sanitized_line _ _ _ c.clear.ensures.bytes c.in_ok-push_sanitized.ensures.added)
+    (rw c.as_bytes-2.ensures.value at c.in-Ok.ensures)
+
+pub returns : goal.returns
+returns c = record {
+  ok = λ is. rw (← c.self.view_is)
+      (text_written _ _ _ _ _ _ c.self.invariant c.clear.ensures.bytes
+      (rw c.as_bytes.ensures.value at c.in_ok-push_sanitized.ensures.added)
+      (rw c.as_bytes-2.ensures.value at c.in-Ok.ensures));
+}
