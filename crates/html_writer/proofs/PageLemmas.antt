@@ -11,10 +11,11 @@ use Rattle.std.proofs.lemmas.{Grind.flat_map-append, List.Folds.list_all-append}
 use Rattle.std.proofs.lemmas.List.{map-append, reverse-append, take_more}
 use Rattle.std.proofs.lemmas.Bool.Decides.{nat_tests}
 use Rattle.std.proofs.lemmas.List.Sums.{AllPass-from_list_all, list_all-from_AllPass}
-use Rattle.printable_text.specs.Sanitize.{IsPrintable, IsPrintableIn, has_command, is_printable, is_printable_byte}
-use Rattle.printable_text.specs.Sanitize.{sanitized}
-use Rattle.printable_text.proofs.SanitizeLemmas.{append_printable, ascii_printable, chars_pass, line_printable}
-use Rattle.printable_text.proofs.{EscapeLemmas.escaped_printable, SanitizeLemmas.sanitized_in_printable}
+use Rattle.printable_text.specs.Sanitize.{IsPrintable, IsPrintableIn, has_command, is_printable}
+use Rattle.printable_text.specs.Sanitize.{is_printable_byte, sanitized}
+use Rattle.printable_text.proofs.SanitizeLemmas.{append_printable, ascii_printable, chars_pass}
+use Rattle.printable_text.proofs.SanitizeLemmas.{line_printable, sanitized_in_printable}
+use Rattle.printable_text.proofs.{EscapeLemmas.escaped_printable}
 use Rattle.html_writer.specs.Html.{AreAttributes, Attribute, IsContent, IsText, doctype, is_css}
 use Rattle.html_writer.specs.Html.{style, style_bytes, written, attribute_bytes, end_tag}
 use Rattle.html_writer.specs.Html.{escaped, escaped_byte, attribute, has_attribute, is_character, is_letter}

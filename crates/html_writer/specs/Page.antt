@@ -1,6 +1,6 @@
 -- A page that is written piece by piece: what reading it so far yields.
-use Rattle.std.specs.Prelude.{◌≡◌, ℕ, Bool, true, false, not, ◌&&◌, IsTrue, List, [], ◌∷◌, ◌++◌, flat_map, map}
-use Rattle.std.specs.Prelude.{reverse}
+use Rattle.std.specs.Prelude.{◌≡◌, ℕ, Bool, true, false, not, ◌&&◌, IsTrue, List, [], ◌∷◌, ◌++◌, flat_map}
+use Rattle.std.specs.Prelude.{map, reverse}
 use Rattle.std.specs.Prelude.{Some, codes}
 use Rattle.std.specs.{Borrow.Bor, List.AllByRecursion as Each, List.list_all, List.list_any, Str.bytes_eq}
 use Rattle.printable_text.specs.Sanitize.{IsPrintable, has_command, is_printable_byte}

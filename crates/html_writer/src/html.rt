@@ -7,8 +7,8 @@ ghost use Rattle.html_writer.specs.Html.{is_css};
 ghost use Rattle.html_writer.specs.Html as html;
 ghost use Rattle.html_writer.specs.Page.{AddsAttributes, AddsStart, AddsTag, AddsVoid, HasVoid, Opens};
 ghost use Rattle.html_writer.specs.Page.{are_names, closed};
-ghost use Rattle.html_writer.specs.Page.{followed_by, IsOpen, IsSomePage, is_safe_byte, is_tag, is_void, names_in};
-ghost use Rattle.html_writer.specs.Page.{names_of, so_far, title};
+ghost use Rattle.html_writer.specs.Page.{followed_by, IsOpen, IsSomePage, is_safe_byte, is_tag, is_void};
+ghost use Rattle.html_writer.specs.Page.{names_in, names_of, so_far, title};
 
 use crate::write::{
     push_attribute, push_close, push_doctype, push_element, push_end, push_open, push_style,
