@@ -214,7 +214,7 @@ all_asked file labels robot old new of is =
       is.added,
     )
 
-zip_nil : (numbers : List ℕ) → zip {ℕ} {VerdictValue} numbers [] ≡ []
+zip_nil : (numbers : List ℕ) → zip {K = ℕ} {X = VerdictValue} numbers [] ≡ []
 zip_nil [] = refl
 zip_nil (number ∷ numbers) = refl
 

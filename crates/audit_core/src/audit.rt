@@ -1,5 +1,6 @@
 //! The audit of a file: its lines, what applies to each requested crawler, and the warnings.
-ghost use Rattle.std.specs.Prelude.{◌≡◌, ◌++◌, ℕ, IfErr, IfOk, List, codes, is_none, map, option_map};
+ghost use Rattle.std.specs.Prelude.{◌≡◌, ◌++◌, ℕ, IfErr, IfOk, List, codes, is_none, length, map};
+ghost use Rattle.std.specs.Prelude.{option_map};
 ghost use Rattle.std.specs.List.{AllZip};
 ghost use Rattle.texting_robots.specs.Callers.{file_lines, label_by_value, lines_read};
 ghost use Rattle.audit_core.specs.Audit.{AreOfSitemaps, IsAgentAudit, IsAuditOf, IsRuling, IsVerdictOn};
@@ -27,6 +28,7 @@ use std::alloc::Global;
 use std::marker::Model;
 use texting_robots::labels::LabeledLine;
 use texting_robots::robot::Decision;
+use texting_robots::site::SiteRule;
 use texting_robots::{Rejection, Robot};
 
 #[derive(Drop)]
@@ -142,6 +144,12 @@ pub(crate) fn ruling<'a>(
     }
 }
 
+fn count_of(rules: &[SiteRule<'_>]) -> usize
+    ensures { result ≡ length rules.now }
+{
+    rules.len()
+}
+
 /// What the file, which is read so for the crawler, means for it.
 fn agent_audit<'a>(
     alloc: Global,
@@ -163,7 +171,7 @@ fn agent_audit<'a>(
         agent,
         group: group_of(agent, &read.site),
         group_line: naming_line(agent, &read.site, &read.labels),
-        rules: rules.len(),
+        rules: count_of(&rules),
         reach,
         delay: read.site.delay(agent),
         rejected,

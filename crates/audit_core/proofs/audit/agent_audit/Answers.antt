@@ -21,7 +21,7 @@ returns-clause-ok c =
       agent_is = refl;
       group_is = c.group_of.ensures ∙ ap (λ text. group_of agent (file_lines text)) site;
       line_is = c.naming_line.ensures ∙ ap (λ text. naming_line agent (file_lines text)) site;
-      rules_are = c.len.ensures ∙ ap length c.in_ok-rules.ensures
+      rules_are = c.count_of.ensures ∙ ap length (c.deref-3.ensures.value ∙ c.in_ok-rules.ensures)
           ∙ ap (λ text. length (placed_rules agent (file_lines text))) site;
       reach_is = c.in_ok-reach.ensures ∙ ap (λ text. reach_of (file_lines text) agent) site;
       delay_is = delay_read agent file _ (rw site at c.delay.ensures);

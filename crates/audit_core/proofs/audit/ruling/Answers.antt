@@ -6,5 +6,5 @@ returns-in-Rejected-clause-ok c = λ agent file is. (rw c.in-Rejected.is at is, 
 
 pub returns-in_ok-verdicts_on-in-Accepted-clause-ok : goal.returns-in_ok-verdicts_on-in-Accepted-clause-ok
 returns-in_ok-verdicts_on-in-Accepted-clause-ok c = λ agent file is.
-    ruling_made _ file agent c.in-Accepted.robot.now _ (rw c.in-Accepted.is at is)
+    ruling_made _ file agent c.in-Accepted.robot _ (rw c.in-Accepted.is at is)
     c.in_ok-verdicts_on-in-Accepted.ensures.ok

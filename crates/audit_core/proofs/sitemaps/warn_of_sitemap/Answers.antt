@@ -4,12 +4,12 @@ use Rattle.audit_core.proofs.sitemaps.warn_of_sitemap.Goals as goal
 
 pub returns-in_default-clause-ok : goal.returns-in_default-clause-ok
 returns-in_default-clause-ok c =
-    rw (c.in_ok-asked_about.ensures c.args.labeled.now.number, c.in_default.is)
+    rw (c.in_ok-url.ensures c.args.labeled.now.number, c.in_default.is)
     (none_added c.args.robot.now.rules c.args.found.now.items)
 
 pub returns-clause-ok : goal.returns-clause-ok
 returns-clause-ok c =
-    rw (c.in_ok-asked_about.ensures c.args.labeled.now.number, c.in-Some.is) (record {
+    rw (c.in_ok-url.ensures c.args.labeled.now.number, c.in-Some.is) (record {
       verdicts = record { url = c.in-Some.url.now; decision = c.in_ok-decision.decision } ∷ [];
       are = (record { url_is = refl; decided = c.in_ok-decision.ensures.ok }, tt);
       added = c.in_ok-warn_of_verdict.ensures
