@@ -19,7 +19,8 @@ use Rattle.texting_robots.specs.declared.labels.{LabeledLine.LabeledLine}
 use Rattle.robots_warnings.specs.Internal.Names.{AddsName, Key}
 use Rattle.audit_core.specs.Internal.Agents.{AddsAgent, HasAgents, has_lowered}
 use Rattle.robots_warnings.proofs.{ClosedLemmas.any_last}
-use Rattle.robots_warnings.specs.{Closed.line_closing, File.lines_of}
+use Rattle.robots_warnings.specs.{Closed.line_closing, Facts.facts_of, File.labels_for, File.lines_of}
+use Rattle.robots_warnings.specs.{Read.IsRead, declared.read.FileRead.FileRead}
 use Rattle.audit_core.specs.Audit.{AreOfSitemaps, IsRuling, IsVerdictOn, VerdictValue, all_sitemaps}
 use Rattle.audit_core.specs.Audit.{sitemap_at, sitemap_warning, sitemaps_asked}
 use Rattle.audit_core.specs.Internal.{AddsSitemaps, warnings_of}
@@ -240,3 +241,11 @@ pub delay_read : (agent file : List ℕ) (delay : Option ℕ)
 delay_read agent file delay has =
     (delay_is_computed agent (lines_read file) delay).0
     (of_lines _ (λ lines. IsDelayFor agent lines delay) has (lines_read file) (lines_are_read file))
+
+-- the facts of a file that was read
+pub facts_read : (read : FileRead) (agent file : List ℕ) → IsRead read → read.bytes.now ≡ file
+    → map label_by_value read.labels.items ≡ labels_for agent file
+    → read.facts ≡ facts_of file (labels_for agent file)
+facts_read read agent file is bytes labels =
+    is.facts_are ∙ ap (λ bytes. facts_of bytes (map label_by_value read.labels.items)) bytes
+    ∙ ap (facts_of file) labels

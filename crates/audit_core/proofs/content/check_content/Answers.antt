@@ -1,14 +1,16 @@
-use Rattle.std.proofs.Common.{inr, sym}
+use Rattle.std.proofs.Common.{ap, codes, inr, sym, ◌∙◌}
+use Rattle.audit_core.specs.Content.{flaw_of}
+use Rattle.audit_core.proofs.AuditLemmas.{facts_read}
 use Rattle.audit_core.proofs.content.check_content.Goals as goal
 
 pub returns-in-Some-clause-fault : goal.returns-in-Some-clause-fault
 returns-in-Some-clause-fault c =
     let read = c.in_ok-read.ensures in
-    let facts = rw (read.bytes, read.labels) at read.read.facts_are in
-    inr (c.in-Some.flaw, sym (rw facts at c.in-Some.ensures), c.argument.ensures)
+    let facts = facts_read c.in_ok-read.read (codes "*") c.args.file.now read.read read.bytes read.labels in
+    inr (c.in-Some.flaw, sym (c.in-Some.ensures ∙ ap flaw_of facts), c.argument.ensures)
 
-pub returns-in-None-clause-ok : goal.returns-in-None-clause-ok
-returns-in-None-clause-ok c =
+pub returns-clause-ok : goal.returns-clause-ok
+returns-clause-ok c =
     let read = c.in_ok-read.ensures in
-    let facts = rw (read.bytes, read.labels) at read.read.facts_are in
-    sym (rw facts at c.in-None.ensures)
+    let facts = facts_read c.in_ok-read.read (codes "*") c.args.file.now read.read read.bytes read.labels in
+    sym (c.in-None.ensures ∙ ap flaw_of facts)

@@ -8,7 +8,7 @@ loop-labeled-init c = none_added c.args.robot.now.rules c.args.found.now.items
 
 pub loop-labeled-preserved : goal.loop-labeled-preserved
 loop-labeled-preserved c =
-    rw (sitemaps_more c.args.labels.now c.loop-labeled.labeled-index _ c.loop-labeled-test.true)
+    rw (sitemaps_more c.args.labels.now c.loop-labeled.labeled-index c.labeled-item.result c.loop-labeled-test.true)
     (more_added c.args.robot.now.rules _ _ _ _ _ c.loop-labeled.invariant c.in_ok-warn_of_sitemap.ensures.ok)
 
 pub returns-clause-ok : goal.returns-clause-ok

@@ -1,5 +1,7 @@
 use Rattle.std.proofs.Common.{◌≡◌, codes, false, is_some, map, rules, true}
-use Rattle.texting_robots.specs.Callers.{label_by_value, lines_read}
+use Rattle.std.specs.{List.list_any}
+use Rattle.texting_robots.specs.Callers.{by_value, file_lines, label_by_value, lines_read}
+use Rattle.texting_robots.specs.{Line.is_sitemap}
 use Rattle.robots_warnings.specs.Closed.{line_closing}
 use Rattle.audit_core.proofs.AuditLemmas.{all_asked, none_added, none_denied, without_sitemaps}
 use Rattle.audit_core.proofs.sitemaps.warn_of_sitemaps.Goals as goal
@@ -13,17 +15,18 @@ returns-in_default-clause-ok c =
 pub returns-then-not-has_sitemap-clause-ok : goal.returns-then-not-has_sitemap-clause-ok
 returns-then-not-has_sitemap-clause-ok c =
     let read = c.args.read.now in
+    let asked : list_any (λ labeled. is_sitemap (by_value labeled.line)) c.deref.result.now ≡ false = search rules in
     let none = without_sitemaps (lines_read read.bytes.now) read.labels.items
-    (rw c.deref.ensures.value at (search rules)) in
+    (rw c.deref.ensures.value at asked) in
     let star = rw c.in-Accepted.is at c.requires.star in
     all_asked read.bytes.now (map label_by_value read.labels.items) c.in-Accepted.robot.now _ _ star
     (rw none (none_added c.in-Accepted.robot.now.rules c.args.found.now.items))
 
-pub returns-then-is_closed-clause-ok : goal.returns-then-is_closed-clause-ok
-returns-then-is_closed-clause-ok c =
+pub returns-then-branch-clause-ok : goal.returns-then-branch-clause-ok
+returns-then-branch-clause-ok c =
     let read = c.args.read.now in
-    let closed : is_some (line_closing (lines_read read.bytes.now) (codes "*")) ≡ true =
-    rw c.requires.read.site_is at (search rules) in
+    let closed_here : is_some (line_closing (file_lines read.site) (codes "*")) ≡ true = search rules in
+    let closed = rw c.requires.read.site_is at closed_here in
     let star = rw c.in-Accepted.is at c.requires.star in
     all_asked read.bytes.now (map label_by_value read.labels.items) c.in-Accepted.robot.now _ _ star
     (rw closed (none_added c.in-Accepted.robot.now.rules c.args.found.now.items))
@@ -31,8 +34,8 @@ returns-then-is_closed-clause-ok c =
 pub returns-clause-ok : goal.returns-clause-ok
 returns-clause-ok c =
     let read = c.args.read.now in
-    let not_closed : is_some (line_closing (lines_read read.bytes.now) (codes "*")) ≡ false =
-    rw c.requires.read.site_is at (search rules) in
+    let not_closed_here : is_some (line_closing (file_lines read.site) (codes "*")) ≡ false = search rules in
+    let not_closed = rw c.requires.read.site_is at not_closed_here in
     let star = rw c.in-Accepted.is at c.requires.star in
     all_asked read.bytes.now (map label_by_value read.labels.items) c.in-Accepted.robot.now _ _ star
     (rw (not_closed, ← c.deref-2.ensures.value) c.warn_of_each.ensures.ok)
