@@ -5,7 +5,7 @@ ghost use Rattle.std.specs.List.{AllZip};
 ghost use Rattle.texting_robots.specs.Callers.{file_lines, label_by_value, lines_read};
 ghost use Rattle.audit_core.specs.Audit.{AreOfSitemaps, IsAgentAudit, IsAuditOf, IsRuling, IsVerdictOn};
 ghost use Rattle.audit_core.specs.Audit.{agents_requested, all_allowed, allows_all, labeling_agent};
-ghost use Rattle.audit_core.specs.Audit.{rejects_some};
+ghost use Rattle.audit_core.specs.Audit.{labels_requested, rejects_some};
 ghost use Rattle.audit_core.specs.{Request.requested_by, Needless.needless_warning, Internal.IsReading};
 ghost use Rattle.robots_warnings.specs.{Message.WarningValue, Read.IsRead, Warnings.warnings};
 
@@ -272,16 +272,17 @@ fn all_warnings<'a>(
     Ok(found)
 }
 
-/// Audits a file for the crawlers and URLs of the request.
-pub fn audit_of<'a>(
+/// The audit of a file that was read so for the request.
+fn audit_read<'a>(
     alloc: Global,
     request: &Request<'a>,
-    file: &'a [u8],
+    read: FileRead<'a>,
 ) -> Result<Audit<'a>, Fault>
-    ensures ok { IfOk result (λ audit. IsAuditOf (requested_by request.now) file.now audit) }
+    requires read { IsRead read }
+    requires labels { map label_by_value read.labels.items ≡ labels_requested (requested_by request.now) read.bytes.now }
+    ensures ok { IfOk result (λ audit. IsAuditOf (requested_by request.now) read.entry.bytes.now audit) }
     ensures fault { IfErr result (λ fault. fault ≡ Fault.Memory) }
 {
-    let read = FileRead::new(alloc, labeling_agent(request.agent), file)?;
     let names = agents_requested(alloc, &request.agents, &read.labels)?;
     let star = read_for(alloc, "*", &read)?;
     let agents = agent_audits(alloc, &names, &star, &read, &request.urls)?;
@@ -292,7 +293,7 @@ pub fn audit_of<'a>(
         &read.site,
     )?;
     let mut warnings = all_warnings(alloc, request, &names, &star, &read, &needless)?;
-    let syntax = conformance_of(alloc, file, &read.site)?;
+    let syntax = conformance_of(alloc, read.bytes, &read.site)?;
     choose(&request.only, &request.ignored, &mut warnings);
     Ok(Audit {
         labels: read.labels,
@@ -300,6 +301,19 @@ pub fn audit_of<'a>(
         warnings,
         syntax,
     })
+}
+
+/// Audits a file for the crawlers and URLs of the request.
+pub fn audit_of<'a>(
+    alloc: Global,
+    request: &Request<'a>,
+    file: &'a [u8],
+) -> Result<Audit<'a>, Fault>
+    ensures ok { IfOk result (λ audit. IsAuditOf (requested_by request.now) file.now audit) }
+    ensures fault { IfErr result (λ fault. fault ≡ Fault.Memory) }
+{
+    let read = FileRead::new(alloc, labeling_agent(request.agent), file)?;
+    audit_read(alloc, request, read)
 }
 
 fn allows_all(verdicts: &[Verdict<'_>]) -> bool

@@ -159,5 +159,5 @@ pub(crate) fn warn_of_sitemaps(
     if is_closed(alloc, &read.site, "*")? {
         return Ok(());
     }
-    warn_of_each(alloc, found, robot, &read.labels)
+    Ok(warn_of_each(alloc, found, robot, &read.labels)?)
 }

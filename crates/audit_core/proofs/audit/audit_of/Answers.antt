@@ -1,35 +1,16 @@
-use Rattle.std.proofs.Common.{ap, ◌∙◌}
-use Rattle.robots_warnings.specs.declared.facts.{FileFacts.FileFacts}
+use Rattle.std.proofs.Common.{IfOk, ap, subst, sym, ◌∙◌}
+use Rattle.audit_core.specs.Audit.{IsAuditOf, labels_requested}
+use Rattle.audit_core.specs.Request.{requested_by}
+use Rattle.robots_warnings.specs.File.{labels_for}
 use Rattle.audit_core.proofs.audit.audit_of.Goals as goal
+
+pub audit_read-requires-clause-labels : goal.audit_read-requires-clause-labels
+audit_read-requires-clause-labels c =
+    c.in_ok-read.ensures.labels
+    ∙ ap (λ agent. labels_for agent c.args.file.now) c.labeling_agent.ensures
+    ∙ ap (labels_requested (requested_by c.args.request.now)) (sym c.in_ok-read.ensures.bytes)
 
 pub returns-clause-ok : goal.returns-clause-ok
 returns-clause-ok c =
-    let read = c.in_ok-read.ensures.read in
-    let bytes = c.in_ok-read.ensures.bytes in
-    let labels = rw c.labeling_agent.ensures at c.in_ok-read.ensures.labels in
-    let names = rw (c.deref.ensures.value, c.deref-2.ensures.value, read.lines_are, bytes)
-    at c.in_ok-names.ensures in
-    let (sitemaps, are, found) = c.in_ok-warnings.ensures.ok in
-    let all = rw (
-      c.deref-5.ensures.value,
-      names,
-      c.deref-6.ensures.value,
-      read.facts_are,
-      labels,
-      read.site_is,
-      bytes,
-    ) at found in
-    record {
-      needless = c.in_ok-needless.needless.items;
-      needless_are = rw (read.site_is, bytes) at c.in_ok-needless.ensures.found;
-      unrequested = c.in_ok-needless.ensures.unrequested;
-      too_large = λ large. c.in_ok-needless.ensures.too_large
-          (ap (λ (facts : FileFacts). facts.is_too_large) read.facts_are ∙ (rw (← bytes) at large));
-      sitemaps = sitemaps;
-      sitemaps_are = rw (bytes, labels) at are;
-      labels_are = labels;
-      agents_are = rw (c.deref-3.ensures.value, names, c.deref-4.ensures.value, bytes)
-          at c.in_ok-agents.ensures.ok;
-      warnings_are = rw (c.deref-7.ensures.value, c.deref-8.ensures.value, all) at c.choose.ensures;
-      syntax_is = c.in_ok-syntax.ensures;
-    }
+    subst (λ file. IfOk c.audit_read.result (λ audit. IsAuditOf (requested_by c.args.request.now) file audit))
+    c.in_ok-read.ensures.bytes c.audit_read.ensures.ok

@@ -19,8 +19,8 @@ returns-then-not-has_sitemap-clause-ok c =
     let none = without_sitemaps (lines_read read.bytes.now) read.labels.items
     (rw c.deref.ensures.value at asked) in
     let star = rw c.in-Accepted.is at c.requires.star in
-    all_asked read.bytes.now (map label_by_value read.labels.items) c.in-Accepted.robot.now _ _ star
-    (rw none (none_added c.in-Accepted.robot.now.rules c.args.found.now.items))
+    all_asked read.bytes.now (map label_by_value read.labels.items) c.in-Accepted.robot _ _ star
+    (rw none (none_added c.in-Accepted.robot.rules c.args.found.now.items))
 
 pub returns-then-branch-clause-ok : goal.returns-then-branch-clause-ok
 returns-then-branch-clause-ok c =
@@ -28,8 +28,8 @@ returns-then-branch-clause-ok c =
     let closed_here : is_some (line_closing (file_lines read.site) (codes "*")) ≡ true = search rules in
     let closed = rw c.requires.read.site_is at closed_here in
     let star = rw c.in-Accepted.is at c.requires.star in
-    all_asked read.bytes.now (map label_by_value read.labels.items) c.in-Accepted.robot.now _ _ star
-    (rw closed (none_added c.in-Accepted.robot.now.rules c.args.found.now.items))
+    all_asked read.bytes.now (map label_by_value read.labels.items) c.in-Accepted.robot _ _ star
+    (rw closed (none_added c.in-Accepted.robot.rules c.args.found.now.items))
 
 pub returns-clause-ok : goal.returns-clause-ok
 returns-clause-ok c =
@@ -37,5 +37,5 @@ returns-clause-ok c =
     let not_closed_here : is_some (line_closing (file_lines read.site) (codes "*")) ≡ false = search rules in
     let not_closed = rw c.requires.read.site_is at not_closed_here in
     let star = rw c.in-Accepted.is at c.requires.star in
-    all_asked read.bytes.now (map label_by_value read.labels.items) c.in-Accepted.robot.now _ _ star
-    (rw (not_closed, ← c.deref-2.ensures.value) c.warn_of_each.ensures.ok)
+    all_asked read.bytes.now (map label_by_value read.labels.items) c.in-Accepted.robot _ _ star
+    (rw (not_closed, ← c.deref-2.ensures.value) c.in_ok-warn_of_each.ensures.ok)
