@@ -3,11 +3,11 @@ use Rattle.std.proofs.Common.{◌≡◌, ◌⊎◌, ℕ, zero, suc, ◌+◌, ◌
 use Rattle.std.proofs.Common.{map}
 use Rattle.std.proofs.Common.{slice_index, take, drop, sym, refl, ap, ◌∙◌, arith, Some, ◌==◌, ◌||◌, inl, inr}
 use Rattle.std.specs.{List.list_any, Char.to_ascii_lowercase}
-use Rattle.std.proofs.lemmas.{Grind.common_steps, Bool.cases_Bool, Bool.eqb-true, Bool.ne_eqb}
+use Rattle.std.proofs.lemmas.{Grind.common_steps, Bool.eqb-true, Bool.ne_eqb}
 use Rattle.texting_robots.specs.Cut.{Pair, cr, lf}
 use Rattle.texting_robots.specs.{Group.is_agent, Group.is_agent_named, Line.LineValue, Line.UserAgent}
 use Rattle.texting_robots.specs.Internal.Agents.{NoneBegins, is_named_later, may_begin, may_end}
-use Rattle.texting_robots.specs.Internal.Cut.{before_byte, before_end, body_len, end_len, read_as, read_byte}
+use Rattle.texting_robots.specs.Internal.Cut.{before_byte, body_len, end_len, read_as, read_byte}
 use Rattle.texting_robots.specs.Internal.Line.{line_of, lines_of}
 use Rattle.texting_robots.specs.Internal.Statement.{kind_by, kind_with, skip_blanks, space, tab}
 use Rattle.texting_robots.proofs.CutLemmas.{byte_cases, cut_cons, pair_of}
@@ -24,31 +24,18 @@ letter_is letter is = grind (arith, common_steps)
 
 pub no_agent : (line : LineValue) (name : List ℕ) → is_agent line ≡ false
     → is_agent_named name line ≡ false
-no_agent (UserAgent value) name other = cc
-no_agent _ name other = refl
+no_agent line name other = grind arith
 
 begins_no : (b : ℕ) → may_begin b ≡ false
     → ((b == space) ≡ false) × ((b == tab) ≡ false) × ((b == 85) ≡ false) × ((b == 117) ≡ false)
-begins_no b other = parts (b == space) (b == tab) (b == 85) (b == 117) other
-  where
-    parts : (s t u v : Bool) → (s || t || u || v) ≡ false
-        → (s ≡ false) × (t ≡ false) × (u ≡ false) × (v ≡ false)
-    parts true t u v is = cc
-    parts false true u v is = cc
-    parts false false true v is = cc
-    parts false false false true is = cc
-    parts false false false false is = (refl, refl, refl, refl)
+begins_no b other = grind arith
 
 no_letter : (b : ℕ) → ((b == 85) ≡ false) × ((b == 117) ≡ false)
     → ¬ (to_ascii_lowercase b ≡ 117)
 no_letter b other is = grind (arith, common_steps)
 
 other_kind : (body : List ℕ) → IsOther body → ¬ (kind_by (skip_blanks body) ≡ Some kind.UserAgent)
-other_kind [] other is = cc
-other_kind (b ∷ body) other is =
-    let plain = begins_no b other in
-    let text : skip_blanks (b ∷ body) ≡ b ∷ body = rw (plain.0, plain.1) refl in
-    no_letter b (plain.2, plain.3) (letter_is (to_ascii_lowercase b) (rw text at is))
+other_kind body other = grind (arith, begins_no, letter_is, no_letter)
 
 names_none : (name body : List ℕ) → IsOther body → is_agent_named name (line_of body) ≡ false
 names_none name body other = elim (agent_or_other _ _ (kind_is body)) [
@@ -67,40 +54,23 @@ names_after name pairs =
 -- and the pair may begin a user-agent line
 module _ (name : List ℕ) (body ending : List ℕ) (more : List Pair) where
   first_none : IsOther body → names_in name (pair_of body ending ∷ more) ≡ names_in name more
-  first_none other = ap (λ x. x || names_in name more) (names_none name body other)
+  first_none other = grind (arith, names_none)
 
   after_byte : (b : ℕ) → ((b ≡ lf) ⊎ (b ≡ cr) → IsOther body)
       → names_after name (before_byte b (pair_of body ending ∷ more)) ≡ names_in name more
-  after_byte b other = elim (byte_cases b) [
-    | inl feed ↦ rw feed (first_none (other (inl feed)))
-    | inr (inl return) ↦ rw return (after_return body (other (inr return)))
-    | inr (inr plain) ↦ rw (ne_eqb b lf plain.1, ne_eqb b cr plain.0) refl
-  ]
-    where
-      after_return : (body : List ℕ) → IsOther body
-          → names_after name (before_end (pair_of body ending ∷ more)) ≡ names_in name more
-      after_return [] other = refl
-      after_return (x ∷ body) other =
-          ap (λ y. y || names_in name more) (names_none name (x ∷ body) other)
+  after_byte b other = grind (arith, byte_cases, first_none, names_none, ne_eqb, pair_of)
 
 read_other : (n : Bool) (b : ℕ) → may_begin b ≡ false → may_begin (read_byte n b) ≡ false
-read_other false b other = other
-read_other true b other = elim (cases_Bool (b == 0)) [ inl nul ↦ rw nul refl | inr byte ↦ rw byte other ]
+read_other n b other = grind arith
 
 ends_is : (b : ℕ) → (b ≡ lf) ⊎ (b ≡ cr) → may_end b ≡ true
-ends_is b (inl feed) = rw feed refl
-ends_is b (inr return) = rw return refl
+ends_is b h = grind arith
 
 ends_read : (n : Bool) (b : ℕ) → (read_byte n b ≡ lf) ⊎ (read_byte n b ≡ cr) → may_end b ≡ true
-ends_read false b end = ends_is b end
-ends_read true b end = elim (cases_Bool (b == 0)) [
-  | inl nul ↦ rw (eqb-true b 0 nul) refl
-  | inr byte ↦ ends_is b (rw byte at end)
-]
+ends_read n b end = grind (arith, ends_is, eqb-true)
 
 front_other : (k b : ℕ) (text : List ℕ) → may_begin b ≡ false → IsOther (take k (b ∷ text))
-front_other zero b text other = tt
-front_other (suc k) b text other = other
+front_other k b text other = grind arith
 
 one_more : (name : List ℕ) (n : Bool) (b c : ℕ) (text : List ℕ)
     → (may_end b ≡ true → may_begin c ≡ false)
@@ -146,12 +116,7 @@ other_first name n (b ∷ text) some other = sym (first_or_later name n (b ∷ t
 pub advances : (n : Bool) (rest : List ℕ) → 0 < length rest
     → (let k = body_len (read_as n rest) in 0 < k + end_len (read_as n (drop k rest)))
 advances n [] some = absurd (omega (arith, some))
-advances n (b ∷ rest) some = elim (byte_cases (read_byte n b)) [
-  | inl feed ↦ rw (feed, feed) (omega arith)
-  | inr (inl return) ↦ rw (return, return) (omega arith)
-  | inr (inr plain) ↦
-      rw (ne_eqb (read_byte n b) lf plain.1, ne_eqb (read_byte n b) cr plain.0) (omega arith)
-]
+advances n (b ∷ rest) some = grind (arith, byte_cases, ne_eqb)
 
 pub none_named : (name : List ℕ) → list_any (is_agent_named name) (lines_of []) ≡ false
-none_named name = ap (λ bodies. list_any (is_agent_named name) (map line_of bodies)) bodies_nil
+none_named name = grind (arith, bodies_nil)

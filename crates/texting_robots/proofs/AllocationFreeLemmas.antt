@@ -2,9 +2,9 @@
 use Rattle.std.specs.Prelude.{reverse}
 use Rattle.std.proofs.Common.{◌≡◌, ℕ, ◌<◌, ◌&&◌, ◌||◌, ◌==◌, Bool, true, false, not, List, [], ◌∷◌, ◌++◌, All}
 use Rattle.std.proofs.Common.{IfSome, None, Ok, Option, Some, codes, decimal, drop, get_or, length, sym, refl}
-use Rattle.std.proofs.Common.{ap, ◌∙◌, subst, inl, inr, ⊎_elim, arith, append_assoc, append-nil, ◌^◌, ◌-◌}
+use Rattle.std.proofs.Common.{ap, ◌∙◌, subst, inl, inr, ⊎_elim, arith, append_assoc, append-nil, ◌-◌}
 use Rattle.std.proofs.Common.{◌≢◌, length-append, take-append-drop, take_at, drop_at, is_some, nat_lt, ◌+◌}
-use Rattle.std.proofs.Common.{option_map, slice_index, unwrap_or, ◌≤◌, Err, take, suc, is_err}
+use Rattle.std.proofs.Common.{option_map, slice_index, unwrap_or, ◌≤◌, Err, take, suc}
 use Rattle.std.specs.List.{list_all, prefix_len, suffix_len}
 use Rattle.std.specs.Char.{is_ascii_digit, is_ascii_lowercase, is_digit, to_ascii_lowercase}
 use Rattle.std.proofs.lemmas.Bool.{agree_below, cases_Bool, cond-false, cond-true, eqb-true, false≢true}
@@ -63,8 +63,7 @@ module _ (delimiter : ℕ) (part : List ℕ) (set : AsciiSet)
   pub labeled_left : (text rest : List ℕ) → IsDelimited (delimiter ∷ []) set text
       → StopsAt (is_kept part) rest
       → after_delimited delimiter part rest ≡ rest → after_delimited delimiter part (text ++ rest) ≡ rest
-  labeled_left text rest (None, written, kept) stops stays =
-      ap (λ t. after_delimited delimiter part (t ++ rest)) written ∙ stays
+  labeled_left text rest (None, written, kept) stops stays = grind arith
   labeled_left text rest (Some inside, written, kept) stops stays =
       let stand = occurs_all part set (λ x. false) same inside kept (λ k d below. refl) in
       ap (λ t. after_delimited delimiter part (t ++ rest)) written
@@ -122,21 +121,7 @@ record SiteOf (site : List ℕ) : Type 0 where
 site_at : (scheme : List ℕ) (own : ℕ) (site authority : List ℕ) → default_port scheme ≡ Some own
     → IsScheme scheme → scheme_type scheme ≡ SpecialNotFile
     → site ≡ scheme ++ (codes "://" ++ authority) → IsAuthority own authority → SiteOf site
-site_at scheme own site authority default lower kind assembled is = record {
-  scheme = scheme;
-  host = is.host;
-  port = is.is_port.0;
-  assembled = assembled ∙ ap (λ t. scheme ++ (codes "://" ++ t))
-      (is.assembled ∙ ap (λ t. is.host ++ t) (is.is_port.1 ∙ port_text is.is_port.0));
-  lower = lower;
-  kind = kind;
-  name = is.is_name;
-  other = by is.is_port.0 is.is_port.2;
-}
-  where
-    by : (port : Option ℕ) → IfSome port (λ n. (n < 2 ^ 16) × (n ≢ own)) → IsPortOf scheme port
-    by None other = tt
-    by (Some n) other = (other.0, λ same. other.1 (let e : n ≡ own = cc in e))
+site_at scheme own site authority default lower kind assembled is = grind (arith, port_text)
 
 site_of : (site : List ℕ) → IsSite site → SiteOf site
 unfolding scheme_len scheme_type default_port
@@ -181,18 +166,14 @@ tail_text : (query fragment : Option (List ℕ))
     → when (is_some query) (codes "?")
     ++ (unwrap_or query [] ++ (when (is_some fragment) (codes "#") ++ (unwrap_or fragment [] ++ [])))
     ≡ with_delimiter (codes "?") query ++ with_delimiter (codes "#") fragment
-tail_text None None = refl
-tail_text None (Some fragment) = simp append-nil
-tail_text (Some query) None = simp append-nil
-tail_text (Some query) (Some fragment) = simp append-nil
+tail_text query fragment = grind (arith, append-nil)
 
 pub target_last : (u : Parts) → serialize u ≡ text_before u BeforePath ++ target_of u
 target_last u = simp (append_assoc, append-nil, ← tail_text u.query u.fragment)
 
 prepared_parsed : (url : List ℕ) (u : Parts) → 0 < length url → parse_url None url ≡ Ok u
     → prepared url ≡ target_of u
-prepared_parsed [] u some parsed = absurd (omega arith)
-prepared_parsed (b ∷ text) u some parsed = rw (parsed, prepared) refl
+prepared_parsed url u some parsed = grind arith
 
 pub prepared_plain : (url target : List ℕ) → Leaves IsSite url target → (is : IsTarget target)
     → 0 < length is.path → prepared url ≡ target
@@ -310,17 +291,10 @@ prepared_alone front is_site =
 
 module _ (target : List ℕ) (is : IsTarget target) where
   tail_ends : EndsPath (is.query ++ is.fragment)
-  tail_ends = subst EndsPath (λ i. sym is.is_query.1 i ++ sym is.is_fragment.1 i)
-      (by is.is_query.0 is.is_fragment.0)
-    where
-      by : (query fragment : Option (List ℕ))
-          → EndsPath (with_delimiter (codes "?") query ++ with_delimiter (codes "#") fragment)
-      by (Some query) fragment = inl refl
-      by None (Some fragment) = inr refl
-      by None None = tt
+  tail_ends = grind arith
 
   pub target_past : past_path target ≡ Some (is.query ++ is.fragment)
-  target_past = path_left target _ tail_ends (is.path, is.assembled, is.is_path)
+  target_past = grind (arith, path_left, tail_ends)
 
   pub tail_left : after_delimited 35 TAIL.now (after_delimited 63 QUERY.now (is.query ++ is.fragment)) ≡ []
   unfolding is_kept should_percent_encode
@@ -374,10 +348,7 @@ trimmed_front text = prefix_len is_c0_control_or_space text
 
 stops : (xs : List ℕ) → trimmed_front (xs ++ slash ∷ []) ≤ length xs
 stops [] = omega arith
-stops (x ∷ xs) =
-    cond_both (is_c0_control_or_space x) (1 + trimmed_front (xs ++ slash ∷ [])) 0
-    (λ n. n ≤ length (x ∷ xs))
-    (λ _. omega (arith, stops xs)) (λ _. omega arith)
+stops (x ∷ xs) = grind (arith, cond_both, stops xs)
 
 trimmed : (rest : List ℕ) → trim_c0_control_and_space (slash ∷ rest)
     ≡ slash ∷ take (length rest - suffix_len is_c0_control_or_space (slash ∷ rest)) rest
@@ -402,18 +373,4 @@ unfolding parse_url strip_tabs_and_new_lines split_once split_scheme scheme_len 
 no_url rest = ap parsed_from (trimmed rest)
 
 pub slash_prepared : (text : List ℕ) → slice_index text 0 ≡ slash → prepared text ≡ escaped text
-slash_prepared [] e = cc
-slash_prepared (b ∷ rest) e = rw e (ap by_answer (no_url rest))
-  where
-    by_answer : Parsed Parts → List ℕ
-    by_answer answer = elim answer [ Ok url ↦ target_of url | Err e ↦ escaped (slash ∷ rest) ]
-
-pub unparsed_prepared : (b : ℕ) (text : List ℕ) → is_err (parse_url None (b ∷ text)) ≡ true
-    → prepared (b ∷ text) ≡ escaped (b ∷ text)
-unparsed_prepared b text is = by (parse_url None (b ∷ text)) is
-  where
-    by : (parsed : Parsed Parts) → is_err parsed ≡ true
-        → elim parsed as (λ _. List ℕ) [ Ok parts ↦ target_of parts | Err e ↦ escaped (b ∷ text) ]
-        ≡ escaped (b ∷ text)
-    by (Ok parts) isnt = cc
-    by (Err e) isnt = refl
+slash_prepared text h = grind (arith, no_url)

@@ -5,10 +5,10 @@ use Rattle.std.proofs.Common.{false, ◌&&◌, ◌||◌, List, [], ◌∷◌, �
 use Rattle.std.proofs.Common.{refl, sym, ap, subst, ◌∙◌, arith}
 use Rattle.std.specs.{Bool.Decides, Bool.MatchBool, List.All, List.Contains}
 use Rattle.std.proofs.lemmas.Bool.{cases_Bool, cases_lt, cases_order}
-use Rattle.std.proofs.lemmas.Bool.Decides.{Decides-and, Decides-eqb, Decides-like, Decides-or, nat_tests}
+use Rattle.std.proofs.lemmas.Bool.Decides.{Decides-like, Decides-or, nat_tests}
 use Rattle.std.proofs.lemmas.Bool.Decides.{not_from_Decides, when_false, when_true}
 use Rattle.std.proofs.{lemmas.List.get_or-map, lemmas.List.length-map, lemmas.Slice.Eq.bytes_eq-Decides}
-use Rattle.std.proofs.lemmas.List.Elements.{All-cons, All-contains, All-nil}
+use Rattle.std.proofs.lemmas.List.Elements.{All-cons, All-contains}
 use Rattle.texting_robots.specs.Decision.{IsBetter, IsDecidingRule, IsDecidingLine}
 use Rattle.texting_robots.specs.Pattern.{IsSuffix, Matches, MatchesWith, dollar, star}
 use Rattle.texting_robots.specs.Rules.{PlacedRule, Rule, unplaced}
@@ -40,8 +40,7 @@ matches anchors (b ∷ q) t =
 module _ (P : List ℕ → Type 0) (test : List ℕ → Bool)
     (each : (t : List ℕ) → Decides (test t) (P t)) where
   some_end_decides : (t : List ℕ) → Decides (some_end test t) ((s : List ℕ) × IsSuffix s t × P s)
-  some_end_decides [] = Decides-like _ (λ is. ([], ([], refl), is))
-      (λ (s, (front, whole), is). subst P (none_left front s whole) is) (each [])
+  some_end_decides [] = grind (arith, none_left)
   some_end_decides (x ∷ t) =
       Decides-like _ there back (Decides-or _ _ (each (x ∷ t)) (some_end_decides t))
     where
@@ -57,16 +56,11 @@ module _ (P : List ℕ → Type 0) (test : List ℕ → Bool)
 
   at_end_decides : (t : List ℕ)
       → Decides (at_end (test []) t) ((s : List ℕ) × ((t ≡ []) × (s ≡ [])) × P s)
-  at_end_decides [] = Decides-like _ (λ is. ([], (refl, refl), is))
-      (λ (s, (none, empty), is). subst P empty is) (each [])
-  at_end_decides (x ∷ t) = (λ is. cc, λ (s, (none, empty), is). cc)
+  at_end_decides t = grind arith
 
   after_decides : (b : ℕ) (t : List ℕ)
       → Decides (following b test t) ((s : List ℕ) × (t ≡ b ∷ s) × P s)
-  after_decides b [] = (λ is. cc, λ (s, none, is). cc)
-  after_decides b (x ∷ t) = Decides-like _ (λ (same, is). (t, ap (λ y. y ∷ t) same, is))
-      (λ (s, whole, is). let first : x ≡ b = cc in let rest : s ≡ t = cc in (first, subst P rest is))
-      (Decides-and _ _ (Decides-eqb x b) (each t))
+  after_decides b t = grind arith
 
 pub matches_decides : (anchors : Bool) (pattern text : List ℕ)
     → Decides (matches anchors pattern text) (MatchesWith anchors pattern text)
@@ -108,38 +102,21 @@ prefers first second =
 
 one_preferred : (first second : PlacedRule)
     → MatchBool (prefers first second) (IsPreferred first second) (IsPreferred second first)
-one_preferred first second = elim (cases_Bool (prefers first second)) [
-  | inl is ↦ rw is (record {
-    higher = grind (arith, nat_tests);
-    earlier = λ same. grind (arith, nat_tests);
-  })
-  | inr isnt ↦ rw isnt (record {
-    higher = grind (arith, nat_tests);
-    earlier = λ same. grind (arith, nat_tests);
-  })
-]
+one_preferred first second = grind (arith, cases_Bool)
 
 preferred_trans : (first second third : PlacedRule) → IsPreferred first second
     → IsPreferred second third → IsPreferred first third
-preferred_trans first second third one two =
-    record {
-      higher = omega arith;
-      earlier = λ same. omega (arith, one.earlier (omega arith), two.earlier (omega arith));
-    }
+preferred_trans first second third one two = grind arith
 
 no_longer : (m n : ℕ) (a b : Bool) → rank n b ≤ rank m a → n ≤ m
 no_longer m n a b h = grind (arith, nat_tests)
 
 pub longer : (first second : PlacedRule) → IsPreferred first second
     → length second.rule.0 ≤ length first.rule.0
-longer first second is = no_longer _ _ first.rule.1 second.rule.1 is.higher
+longer first second is = grind (arith, no_longer)
 
 better_isnt_after : (first second : PlacedRule) → IsPreferred first second → ¬ IsBetter second first
-better_isnt_after first second is (inl more) = let most = longer first second is in omega arith
-better_isnt_after first second is (inr (same, inl (allows, denies))) =
-    let high = rw (allows, denies) at is.higher in omega arith
-better_isnt_after first second is (inr (same, inr (kinds, sooner))) =
-    let after = is.earlier (rw (same, kinds) refl) in omega arith
+better_isnt_after first second is = grind (arith, longer)
 
 abbrev pub IsAbove : List ℕ → PlacedRule → PlacedRule → Type 0
 IsAbove text placed other = Matches other.rule.0 text → IsPreferred placed other
@@ -151,21 +128,12 @@ pub record IsBest (rules : List PlacedRule) (text : List ℕ) (placed : PlacedRu
 
 pub best_decides : (rules : List PlacedRule) (text : List ℕ) (placed : PlacedRule)
     → IsBest rules text placed → IsDecidingRule rules text placed
-best_decides rules text placed is = record {
-  listed = is.listed;
-  matches = is.matches;
-  best = λ other listed matches. better_isnt_after placed other
-      (All-contains (IsAbove text placed) rules other is.best listed matches);
-}
+best_decides rules text placed is = grind (arith, better_isnt_after)
 
 pub deciding_longest : (rules : List PlacedRule) (text : List ℕ) (placed other : PlacedRule)
     → IsDecidingRule rules text placed → Contains rules other → Matches other.rule.0 text
     → length other.rule.0 ≤ length placed.rule.0
-deciding_longest rules text placed other decides listed matches =
-    elim (cases_lt (length placed.rule.0) (length other.rule.0)) [
-      | inl less ↦ absurd (decides.best other listed matches (inl less))
-      | inr most ↦ most
-    ]
+deciding_longest rules text placed other decides listed matches = grind (arith, cases_lt)
 
 pub verdict_by : (rules : List PlacedRule) (text : List ℕ) (placed : PlacedRule) (answer : Bool)
     → IsDecidingRule rules text placed → placed.rule.1 ≡ answer → text ≢ robots_file
@@ -213,7 +181,7 @@ IsFound rules text None = All (λ placed. ¬ Matches placed.rule.0 text) rules
 IsFound rules text (Some placed) = IsBest rules text placed
 
 best_is : (text : List ℕ) (rules : List PlacedRule) → IsFound rules text (best_of text rules)
-best_is text [] = All-nil (λ placed. ¬ Matches placed.rule.0 text)
+best_is text [] = grind arith
 best_is text (rule ∷ rules) = elim (cases_Bool (matches true rule.rule.0 text)) [
   | inl here ↦ rw here (at ((matches_decides true _ _).0 here) (best_of text rules) (best_is text rules))
   | inr none ↦ rw none (past (not_from_Decides _ (matches_decides true _ _) none) (best_of text rules)

@@ -1,15 +1,15 @@
 -- The code's state machine, `GroupTracker`, agrees with the specification, which uses indices of lines.
 use Rattle.std.specs.Prelude.{IsTrue, filter}
-use Rattle.std.proofs.Common.{◌≡◌, ◌↔◌, ◌≤◌, inl, inr, ℕ, zero, suc, ◌+◌, ◌<◌, nat_lt, Bool, true, false, not}
+use Rattle.std.proofs.Common.{◌≡◌, ◌↔◌, ◌≤◌, ℕ, zero, suc, ◌+◌, ◌<◌, nat_lt, Bool, true, false, not}
 use Rattle.std.proofs.Common.{◌&&◌, ◌||◌, List, [], ◌∷◌, Option, Some, None, slice_get, drop, take, cond, ap}
-use Rattle.std.proofs.Common.{length, add-one, sym, refl, ◌∙◌, arith}
+use Rattle.std.proofs.Common.{length, add-one, refl, ◌∙◌, arith}
 use Rattle.std.specs.{Bool.Decides, List.list_any, List.cons_option, List.filter_map, List.enumerate_from}
 use Rattle.std.proofs.Math.Bool.{and-true, and-false, or_assoc, or_comm, or-false}
 use Rattle.std.proofs.lemmas.Bool.{Decides.Decides-below_or, cases_Bool, and_left, and_right, le-ltb, lt-ltb}
 use Rattle.std.proofs.lemmas.Bool.Decides.{Decides-and, Decides-or, Decides-not, Decides-ltb, Decides-like}
 use Rattle.std.proofs.lemmas.{List.take_all}
 use Rattle.texting_robots.specs.{declared.groups.GroupTracker.GroupTracker, Rules.PlacedRule, Rules.Rule}
-use Rattle.texting_robots.specs.{Rules.unplaced, Line.LineValue, Line.UserAgent, Line.delay_in}
+use Rattle.texting_robots.specs.{Rules.unplaced, Line.LineValue, Line.delay_in}
 use Rattle.texting_robots.specs.Group.{IsCaptured, group_name, is_agent, is_agent_named, is_group, passes_at}
 use Rattle.texting_robots.specs.Internal.Captured.{is_captured, some_below}
 use Rattle.texting_robots.specs.Executable.{captured_delays, captured_lines, placed_in, rule_in, rules_for}
@@ -49,10 +49,7 @@ pub any_next : (test : LineValue → Bool) (lines : List LineValue) (n : ℕ)
 any_next test [] zero = refl
 any_next test [] (suc n) = refl
 any_next test (line ∷ lines) zero = refl
-any_next test (line ∷ lines) (suc n) = rw (any_next test lines n) (swapped (test line) _ _)
-  where
-    swapped : (a b c : Bool) → (a || (b || c)) ≡ (b || (a || c))
-    swapped a b c = sym (or_assoc a b c) ∙ ap (λ x. x || c) (or_comm a b) ∙ or_assoc b a c
+any_next test (line ∷ lines) (suc n) = grind (arith, or_assoc, or_comm, any_next test lines n)
 
 pub taken_decides : (test : LineValue → Bool) (lines : List LineValue) (n : ℕ)
     → Decides (list_any test (take n lines)) ((j : ℕ) × (j < n) × (passes_at test lines j ≡ true))
@@ -68,9 +65,7 @@ some_passes test lines =
 
 no_agent_decides : (lines : List LineValue)
     → Decides (not (list_any is_agent lines)) ((k : ℕ) → ¬ IsTrue (passes_at is_agent lines k))
-no_agent_decides lines =
-    Decides-like _ (λ none k passes. none (k, passes)) (λ none (k, passes). none k passes)
-    (Decides-not _ (some_passes is_agent lines))
+no_agent_decides lines = grind (arith, some_passes)
 
 abbrev Crossed : (ℕ → Bool) → ℕ → ℕ → Type 0
 Crossed G j i = (k : ℕ) × (k < i) × ((j < k) × (G k ≡ true))
@@ -108,47 +103,32 @@ is_captured_decides name lines i =
 below_same : (f g : ℕ → Bool) (n : ℕ) → ((j : ℕ) → j < n → f j ≡ g j)
     → some_below f n ≡ some_below g n
 below_same f g zero same = refl
-below_same f g (suc n) same =
-    rw (same n (omega arith)) (ap (λ b. g n || b) (below_same f g n (λ j less. same j (omega arith))))
+below_same f g (suc n) same = grind (arith, below_same f g n)
 
 none_below : (f : ℕ → Bool) (n : ℕ) → ((j : ℕ) → j < n → f j ≡ false)
     → some_below f n ≡ false
 none_below f zero none = refl
-none_below f (suc n) none = rw (none n (omega arith)) (none_below f n (λ j less. none j (omega arith)))
+none_below f (suc n) none = grind (arith, none_below f n)
 
 not_crossed : (G : ℕ → Bool) (j i : ℕ) → i ≤ j + 1 → crossed G j i ≡ false
-not_crossed G j i near =
-    none_below (λ k. nat_lt j k && G k) i (λ k less. and_left _ _ (le-ltb j k (omega arith)))
+not_crossed G j i near = grind (arith, and_left, le-ltb, none_below)
 
 not_broken : (A G : ℕ → Bool) (j i : ℕ) → i ≤ j + 1 → broken A G j i ≡ false
-not_broken A G j i near =
-    none_below (λ l. A l && crossed G j l) i (λ l less. and_right _ _ (not_crossed G j l (omega arith)))
+not_broken A G j i near = grind (arith, and_right, none_below, not_crossed)
 
 -- a new run of user-agent lines only begins after a group line
 absorbed : (A G : ℕ → Bool) (j i : ℕ) → (crossed G j i || broken A G j i) ≡ crossed G j i
 absorbed A G j zero = refl
-absorbed A G j (suc i) = at (nat_lt j i && G i) (A i) (crossed G j i) (broken A G j i) (absorbed A G j i)
-  where
-    at : (x a c b : Bool) → (c || b) ≡ c → ((x || c) || ((a && c) || b)) ≡ (x || c)
-    at true a c b same = refl
-    at false true true b same = refl
-    at false true false b same = same
-    at false false c b same = same
+absorbed A G j (suc i) = grind (arith, absorbed A G j i)
 
 broken_next : (A G : ℕ → Bool) (j i : ℕ)
     → broken A G j (suc i) ≡ cond (A i) (crossed G j i) (broken A G j i)
-broken_next A G j i = at (A i)
-  where
-    at : (a : Bool) → ((a && crossed G j i) || broken A G j i) ≡ cond a (crossed G j i) (broken A G j i)
-    at true = absorbed A G j i
-    at false = refl
+broken_next A G j i = grind (arith, absorbed)
 
 here_or_before : (N : ℕ → Bool) (f g : ℕ → Bool) (i : ℕ) → f i ≡ false
     → ((j : ℕ) → j < i → f j ≡ g j)
     → some_below (λ j. N j && not (f j)) (suc i) ≡ (N i || some_below (λ j. N j && not (g j)) i)
-here_or_before N f g i none same =
-    rw (none, and-true)
-    (ap (λ b. N i || b) (below_same _ _ i (λ j less. ap (λ b. N j && not b) (same j less))))
+here_or_before N f g i none same = grind (arith, and-true, below_same)
 
 named_next : (A G N : ℕ → Bool) (i : ℕ)
     → named_at A G N (suc i) ≡ (N i || cond (A i) (open_at G N i) (named_at A G N i))
@@ -209,20 +189,13 @@ open_on name lines i line at =
 
 pub only_agents : (name : List ℕ) (line : LineValue) → is_agent line ≡ false
     → is_agent_named name line ≡ false
-only_agents name (UserAgent value) isnt = cc
-only_agents name _ isnt = refl
+only_agents name line h = grind arith
 
 pub occurs_next : (name : List ℕ) (lines : List LineValue) (i : ℕ) (tracker : GroupTracker) (line : LineValue)
     → slice_get lines i ≡ Some line → IsWalkAt name lines i tracker
     → IsWalkAt name lines (i + 1) (step name tracker line)
-occurs_next name lines i tracker line at splits = record {
-  captured = named_on name lines i line at ∙ elim (cases_Bool (is_agent line)) [
-    | inl is ↦ rw (is, (some_passes is_agent lines).1 (i, rw (at, is) refl), splits.named) refl
-    | inr isnt ↦ rw (isnt, only_agents name line isnt) splits.captured
-  ];
-  named = open_on name lines i line at ∙ ap (λ b. is_agent_named name line || (not (is_group line) && b))
-      splits.named;
-}
+occurs_next name lines i tracker line at splits =
+    grind (arith, cases_Bool, named_on, only_agents, open_on, some_passes)
 
 pub at_front : (lines : List LineValue) (position : ℕ) (line : LineValue) (rest : List LineValue)
     → drop position lines ≡ line ∷ rest → (slice_get lines position ≡ Some line)
@@ -230,8 +203,7 @@ pub at_front : (lines : List LineValue) (position : ℕ) (line : LineValue) (res
 at_front [] zero line rest h = cc
 at_front [] (suc n) line rest h = cc
 at_front (x ∷ lines) zero line rest h = (cc, cc)
-at_front (x ∷ lines) (suc n) line rest h =
-    let (at, next) = at_front lines n line rest h in (at, rw add-one (rw add-one at next))
+at_front (x ∷ lines) (suc n) line rest h = grind (arith, at_front lines n line rest h)
 
 pub cond_same : {X : Type 0} (b : Bool) (x : X) → cond b x x ≡ x
 cond_same true x = refl
@@ -239,14 +211,12 @@ cond_same false x = refl
 
 pub cond_given : {X : Type 0} (b : Bool) (o : Option X) (x : X)
     → (cond b o None ≡ Some x) ↔ ((b ≡ true) × (o ≡ Some x))
-cond_given true o x = (λ is. (refl, is), λ (passes, is). is)
-cond_given false o x = (λ is. cc, λ (passes, is). cc)
+cond_given b o x = grind arith
 
 pub kept_next : {X Y : Type 0} (keeps : Bool) (given : Y → Option X) (y : Y) (ys : List Y)
     → filter_map given (cond keeps (y ∷ ys) ys)
     ≡ cons_option (cond keeps (given y) None) (filter_map given ys)
-kept_next true given y ys = refl
-kept_next false given y ys = refl
+kept_next keeps given y ys = grind arith
 
 -- the state machine finds what the specification's captured lines give
 captured_left : {X : Type 0} (given : ℕ × LineValue → Option X) (name : List ℕ) (all : List LineValue)
@@ -265,8 +235,7 @@ captured_left given name all tracker position (line ∷ lines) splits left =
 pub captured_walked : {X : Type 0} (given : ℕ × LineValue → Option X) (name : List ℕ)
     (lines : List LineValue)
     → filter_map given (captured_lines name lines) ≡ from_captured given name (start_of lines) 0 lines
-captured_walked given name lines =
-    captured_left given name lines (start_of lines) 0 lines (occurs_first name lines) refl
+captured_walked given name lines = grind (arith, captured_left, occurs_first)
 
 -- the same without the lines' indices
 abbrev pub given_captured : {X : Type 0} → (LineValue → Option X) → List ℕ → GroupTracker → List LineValue
@@ -280,9 +249,8 @@ without_positions : {X : Type 0} (given : LineValue → Option X) (name : List �
     (lines : List LineValue)
     → from_captured (λ p. given p.1) name tracker position lines ≡ given_captured given name tracker lines
 without_positions given name tracker position [] = refl
-without_positions given name tracker position (line ∷ lines) = ap
-    (cons_option (if_captured tracker (given line)))
-    (without_positions given name (step name tracker line) (position + 1) lines)
+without_positions given name tracker position (line ∷ lines) =
+    grind (arith, without_positions given name (step name tracker line) (position + 1) lines)
 
 pub delays_are : (agent : List ℕ) (lines : List LineValue) → captured_delays agent lines
     ≡ given_captured delay_in (group_name agent lines) (start_of lines) lines
@@ -293,20 +261,15 @@ delays_are agent lines =
 unplaced_next : (position : ℕ) (captured : Bool) (found : Option Rule) (rest : List PlacedRule)
     → unplaced (cons_option (cond captured (placed (position + 1) found) None) rest)
     ≡ cons_option (cond captured found None) (unplaced rest)
-unplaced_next position false found rest = refl
-unplaced_next position true None rest = refl
-unplaced_next position true (Some rule) rest = refl
+unplaced_next position captured found rest = grind arith
 
 unplaced_left : (name : List ℕ) (tracker : GroupTracker) (position : ℕ) (lines : List LineValue)
     → unplaced (from_captured placed_in name tracker position lines)
     ≡ given_captured rule_in name tracker lines
 unplaced_left name tracker position [] = refl
-unplaced_left name tracker position (line ∷ lines) = unplaced_next position tracker.captured (rule_in line) _
-    ∙ ap (cons_option (if_captured tracker (rule_in line)))
-    (unplaced_left name (step name tracker line) (position + 1) lines)
+unplaced_left name tracker position (line ∷ lines) =
+    grind (arith, unplaced_next, unplaced_left name (step name tracker line) (position + 1) lines)
 
 pub rules_are : (agent : List ℕ) (lines : List LineValue)
     → rules_for agent lines ≡ given_captured rule_in (group_name agent lines) (start_of lines) lines
-rules_are agent lines =
-    let name = group_name agent lines in
-    ap unplaced (captured_walked placed_in name lines) ∙ unplaced_left name (start_of lines) 0 lines
+rules_are agent lines = grind (arith, captured_walked, unplaced_left)

@@ -27,7 +27,7 @@ collapse_two q two = rw (eq-eqb (get_or q 0 0) star two) refl
 module _ (done before after rest : List ℕ) (split : rest ≡ before ++ (star ∷ after))
     (plain : (i : ℕ) → i < length before → get_or before i 0 ≢ star) where
   begin : collapsed rest ≡ before ++ collapsed (star ∷ after)
-  begin = ap collapsed split ∙ collapse_plain before (star ∷ after) plain
+  begin = grind (arith, collapse_plain)
 
   pub star_stays : get_or after 0 0 ≢ star
       → ((done ++ before) ++ star ∷ []) ++ collapsed after ≡ done ++ collapsed rest
@@ -73,19 +73,12 @@ module _ (b : ℕ) (q : List ℕ) where
   pub length_last : (get_or q 0 0 == star) ≡ false
       → length (collapsed (b ∷ q)) ≡ suc (length (collapsed q))
   unfolding collapsed
-  length_last one = elim (cases_Bool (b == star)) [
-    | inl is ↦ rw (is, one) refl
-    | inr plain ↦ rw plain refl
-  ]
+  length_last one = grind (arith, cases_Bool)
 
 pub length_within : (q : List ℕ) → length (collapsed q) ≤ length q
 unfolding collapsed
 length_within [] = omega arith
-length_within (b ∷ q) = elim (cases_Bool ((b == star) && (get_or q 0 0 == star))) [
-  | inl two ↦ rw two (omega (arith, length_within q))
-  | inr other ↦ rw other (omega (arith, length_within q))
-]
+length_within (b ∷ q) = grind (arith, cases_Bool, length_within q)
 
 pub star_starts : (q : List ℕ) → starts_with eqb q (star ∷ []) ≡ (get_or q 0 0 == star)
-star_starts [] = refl
-star_starts (b ∷ q) = and-true (eqb star b) ∙ nat_eq_equiv.symm star b
+star_starts q = grind (arith, and-true, nat_eq_equiv)

@@ -5,7 +5,6 @@ use Rattle.std.proofs.lemmas.Bool.{cases_Bool, cond-false, and_parts, eqb-true, 
 use Rattle.texting_robots.specs.{Cut.Pair, Cut.cr, Cut.lf, Executable.parsed, Laws.crlf_to_lf}
 use Rattle.texting_robots.specs.Internal.Cut.{before_body, before_byte, before_end, bodies_of, cut}
 use Rattle.texting_robots.specs.Line.{without, without_front, AreLinesOf, LineValue}
-use Rattle.texting_robots.specs.Internal.Line.{line_of, lines_of}
 use Rattle.texting_robots.proofs.CutLemmas.{byte_cases, cut_cons, pair_of}
 use Rattle.texting_robots.proofs.{LineLemmas.each_text_has_its_lines}
 
@@ -32,21 +31,11 @@ with_byte b [] = refl
 with_byte b (pair ∷ pairs) = refl
 
 with_return : (pairs : List Pair) → bodies_in (before_end pairs) ≡ body_return (bodies_in pairs)
-with_return [] = refl
-with_return (pair ∷ pairs) = at pair.body pair.ending
-  where
-    at : (body ending : List ℕ)
-        → bodies_in (before_end (pair_of body ending ∷ pairs)) ≡ body_return (body ∷ bodies_in pairs)
-    at [] ending = refl
-    at (b ∷ body) ending = refl
+with_return pairs = grind (arith, pair_of)
 
 with_step : (b : ℕ) (pairs : List Pair)
     → bodies_in (before_byte b pairs) ≡ body_step b (bodies_in pairs)
-with_step b pairs = elim (byte_cases b) [
-  | inl feed ↦ rw feed refl
-  | inr (inl return) ↦ rw return (with_return pairs)
-  | inr (inr other) ↦ rw (ne_eqb b lf other.1, ne_eqb b cr other.0) (with_byte b pairs)
-]
+with_step b pairs = grind (arith, byte_cases, ne_eqb, with_byte, with_return)
 
 pub step : (b : ℕ) (text : List ℕ) → bodies_of (b ∷ text) ≡ body_step b (bodies_of text)
 step b text = ap bodies_in (cut_cons b text) ∙ with_step b (cut text)
@@ -54,8 +43,7 @@ step b text = ap bodies_in (cut_cons b text) ∙ with_step b (cut text)
 return_before_feed : (b : ℕ) (text : List ℕ) → b ≡ cr → slice_index text 0 ≡ lf
     → bodies_of (b ∷ text) ≡ bodies_of text
 return_before_feed b [] return feed = absurd (omega (arith, feed))
-return_before_feed b (c ∷ text) return feed =
-    rw (return, feed, cut_cons cr (lf ∷ text), cut_cons lf text) refl
+return_before_feed b (c ∷ text) return feed = grind (arith, cut_cons)
 
 same_bodies : (text : List ℕ) → bodies_of (crlf_to_lf text) ≡ bodies_of text
 same_bodies [] = refl
@@ -69,39 +57,20 @@ same_bodies (b ∷ text) = elim (cases_Bool (b == cr && slice_index text 0 == lf
 
 feed_stays : (byte : ℕ) (text : List ℕ) → (lf == byte) ≡ false → slice_index text 0 ≡ lf
     → without byte text ≡ text
-feed_stays byte [] no_lf feed = refl
-feed_stays byte (c ∷ text) no_lf feed = cond-false _ _ _ (ap (λ x. x == byte) feed ∙ no_lf)
+feed_stays byte text no_lf feed = grind (arith, cond-false)
 
 without_alone : (byte : ℕ) (text : List ℕ) → (lf == byte) ≡ false → (cr == byte) ≡ false
     → without byte (crlf_to_lf text) ≡ crlf_to_lf (without byte text)
 without_alone byte [] no_lf no_cr = refl
-without_alone byte (b ∷ text) no_lf no_cr = elim (cases_Bool (b == cr && slice_index text 0 == lf)) [
-  | inl pair ↦
-      let (return, feed) = and_parts (b == cr) (slice_index text 0 == lf) pair in
-      let b_is : (b == byte) ≡ false = ap (λ x. x == byte) (eqb-true b cr return) ∙ no_cr in
-      rw (b_is, pair) (without_alone byte text no_lf no_cr
-      ∙ ap crlf_to_lf (feed_stays byte text no_lf (eqb-true (slice_index text 0) lf feed)))
-  | inr single ↦ elim (cases_Bool (b == byte)) [
-    | inl is ↦ rw (single, is) refl
-    | inr isnt ↦ rw (single, isnt, single) refl
-  ]
-]
+without_alone byte (b ∷ text) no_lf no_cr =
+    grind (arith, and_parts, cases_Bool, eqb-true, feed_stays, without_alone byte text no_lf no_cr)
 
 front_alone : (text : List ℕ) → without_front (crlf_to_lf text) ≡ crlf_to_lf (without_front text)
-front_alone text =
-    ap (λ t. without 0xBF (without 0xBB t)) (without_alone 0xEF text refl refl)
-    ∙ ap (without 0xBF) (without_alone 0xBB (without 0xEF text) refl refl)
-    ∙ without_alone 0xBF (without 0xBB (without 0xEF text)) refl refl
+front_alone text = grind (arith, without_alone)
 
 same_parsed : (text : List ℕ) → parsed (crlf_to_lf text) ≡ parsed text
-same_parsed text = ap lines_of (front_alone text) ∙ ap (map line_of) (same_bodies (without_front text))
+same_parsed text = grind (arith, front_alone, same_bodies)
 
 pub cr_lf_is_lf : (text : List ℕ) (lines : List LineValue)
     → AreLinesOf lines (crlf_to_lf text) ↔ AreLinesOf lines text
-cr_lf_is_lf text lines =
-    let alone = each_text_has_its_lines (crlf_to_lf text) lines in
-    let whole = each_text_has_its_lines text lines in (
-      λ are. whole.1 (alone.0 are ∙ same_parsed text),
-      λ are. alone.1
-          (whole.0 are ∙ sym (same_parsed text)),
-    )
+cr_lf_is_lf text lines = grind (arith, each_text_has_its_lines, same_parsed)

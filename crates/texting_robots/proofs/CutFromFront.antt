@@ -31,11 +31,7 @@ abbrev pub FirstLine : List ℕ → Type 0
 FirstLine text = cut text ≡ first_of text ∷ cut (rest_of text)
 
 pub first_line : (b : ℕ) (text : List ℕ) → FirstLine (b ∷ text)
-first_line b [] = elim (byte_cases b) [
-  | inl feed ↦ rw (feed, cut_cons) refl
-  | inr (inl return) ↦ rw (return, cut_cons, cut_nil) refl
-  | inr (inr other) ↦ rw (cut_cons, ne_eqb b lf other.1, ne_eqb b cr other.0, cut_nil) refl
-]
+first_line b [] = grind (arith, byte_cases, cut_cons, cut_nil, ne_eqb)
 first_line b (c ∷ text) =
     let next = first_line c text in
     elim (byte_cases b) [
@@ -53,7 +49,7 @@ first_line b (c ∷ text) =
 bodies_first : (text : List ℕ) → 0 < length text
     → bodies_of text ≡ take (body_len text) text ∷ bodies_of (rest_of text)
 bodies_first [] some = absurd (omega (arith, some))
-bodies_first (b ∷ text) some = ap (map (λ (p : Pair). p.body)) (first_line b text)
+bodies_first (b ∷ text) some = grind (arith, first_line)
 
 pub bodies_nil : bodies_of [] ≡ []
 bodies_nil = ap (map (λ (p : Pair). p.body)) cut_nil
@@ -63,24 +59,19 @@ read_as_is text = map-id text
 
 pub past_return : (n : Bool) (after : List ℕ)
     → drop (end_len (read_as n (cr ∷ after))) (cr ∷ after) ≡ drop (end_len (read_as n after)) after
-past_return true after = refl
-past_return false after = refl
+past_return n after = grind arith
 
 pub past_returns : (n : Bool) (k : ℕ) (text : List ℕ) → list_all (λ b. b == cr) (take k text) ≡ true
     → k ≤ length text
     → drop (end_len (read_as n (drop k text))) (drop k text) ≡ drop (end_len (read_as n text)) text
 past_returns n zero text all within = refl
 past_returns n (suc k) [] all within = absurd (omega (arith, within))
-past_returns n (suc k) (b ∷ text) all within = elim (cases_Bool (b == cr)) [
-  | inl is ↦ past_returns n k text (rw is at all) (omega (arith, within))
-      ∙ sym (rw (eqb-true b cr is) (past_return n text))
-  | inr other ↦ let wrong = rw other at all in cc
-]
+past_returns n (suc k) (b ∷ text) all within =
+    grind (arith, cases_Bool, eqb-true, past_return, past_returns n k text)
 
 pub past_line_feed : (n : Bool) (after : List ℕ)
     → drop (end_len (read_as n (lf ∷ after))) (lf ∷ after) ≡ after
-past_line_feed true after = refl
-past_line_feed false after = refl
+past_line_feed n after = grind arith
 
 pub past_feed : (n : Bool) (b : ℕ) (after : List ℕ) → (read_byte n b == lf) ≡ true
     → drop (end_len (read_as n (b ∷ after))) (b ∷ after) ≡ after
@@ -88,11 +79,7 @@ past_feed n b after is = rw is refl
 
 pub no_end : (n : Bool) (b : ℕ) (after : List ℕ) → b ≢ cr → (read_byte n b == lf) ≡ false
     → drop (end_len (read_as n (b ∷ after))) (b ∷ after) ≡ b ∷ after
-no_end n b after not_cr not_lf = rw (not_lf, plain n) refl
-  where
-    plain : (n : Bool) → (read_byte n b == cr) ≡ false
-    plain true = elim (cases_Bool (b == 0)) [ inl z ↦ rw z refl | inr nz ↦ rw nz (ne_eqb b cr not_cr) ]
-    plain false = ne_eqb b cr not_cr
+no_end n b after not_cr not_lf = grind (arith, cases_Bool, ne_eqb)
 
 pub no_empty_line : (n : Bool) (b : ℕ) (after : List ℕ) → is_feed n b ≡ false
     → empty_lines n (b ∷ after) ≡ 0
@@ -122,10 +109,7 @@ pub ends_as_is : Ends false (is_byte2 cr lf)
 ends_as_is b = or_comm (b == cr) (b == lf)
 
 pub ends_with_nul : Ends true (is_byte3 cr lf 0)
-ends_with_nul b = elim (cases_Bool (b == 0)) [
-  | inl nul ↦ rw (eqb-true b 0 nul) refl
-  | inr other ↦ rw (other, or-false) (or_comm (b == cr) (b == lf))
-]
+ends_with_nul b = grind (arith, cases_Bool, eqb-true, or-false, or_comm)
 
 pub body_found : (n : Bool) (test : ℕ → Bool) (text : List ℕ) (found : Option ℕ) → Ends n test
     → IsFirstByte test text found
@@ -155,23 +139,7 @@ flag third b =
 
 pub ends_delimited : (n : Bool) (third : ℕ) → third ≡ (if n then 0 else lf)
     → Ends n (λ b. top 7 (flag third b))
-ends_delimited n third is b = labeled_by (b == cr) (b == lf) (b == third) ∙ rw is (by n)
-  where
-    labeled_by : (x y z : Bool) → top 7 (bit_or (bit_or (cond x 255 0) (cond y 255 0)) (cond z 255 0))
-        ≡ (x || y || z)
-    labeled_by true true true = refl
-    labeled_by true true false = refl
-    labeled_by true false true = refl
-    labeled_by true false false = refl
-    labeled_by false true true = refl
-    labeled_by false true false = refl
-    labeled_by false false true = refl
-    labeled_by false false false = refl
-
-    by : (n : Bool) → is_byte3 cr lf (if n then 0 else lf) b
-        ≡ (read_byte n b == lf || read_byte n b == cr)
-    by true = ends_with_nul b
-    by false = rw (or_assoc, or_self) (ends_as_is b)
+ends_delimited n third is b = grind (arith, ends_as_is, ends_with_nul, or_assoc, or_self)
 
 -- the first flagged lane is the end of the line
 pub labeled_first : (n : Bool) (f : ℕ → ℕ) (width : ℕ) (v lanes : List ℕ) → width ≤ 64
@@ -207,9 +175,4 @@ pub next_body : (n : Bool) (rest : List ℕ) → 0 < length rest
     let after = drop k rest in
     bodies_of (read_as n rest)
     ≡ take k rest ∷ bodies_of (read_as n (drop (end_len (read_as n after)) after)))
-next_body n rest some =
-    let text = read_as n rest in
-    let k = body_len text in
-    let after = drop k rest in
-    bodies_first text (rw (length-map rest (read_byte n)) some)
-    ∙ rw (body_plain n rest, drop-map (read_byte n) k rest, drop-map (read_byte n) _ after) refl
+next_body n rest some = grind (arith, bodies_first, body_plain, drop-map, length-map)

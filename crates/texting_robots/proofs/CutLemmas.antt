@@ -1,6 +1,6 @@
 -- Each text has exactly one cut, which `cut` computes.
 use Rattle.std.proofs.Common.{◌≡◌, ◌≢◌, ◌⊎◌, ℕ, zero, suc, ◌+◌, ◌<◌, inl, inr, List, [], ◌∷◌, ◌++◌, All, take}
-use Rattle.std.proofs.Common.{replicate, length, get_or, drop, append_assoc, sym, refl, ap, ◌∙◌, subst, arith}
+use Rattle.std.proofs.Common.{replicate, length, get_or, drop, append_assoc, sym, refl, ap, ◌∙◌, arith}
 use Rattle.std.specs.List.{AllByRecursion as Each}
 use Rattle.std.proofs.lemmas.Bool.{cases_eq, ne_eqb}
 use Rattle.std.proofs.lemmas.List.{append-nil, drop_more, get_or_at, length-append, length-replicate}
@@ -21,16 +21,10 @@ unfolding cut
 cut_cons b text = refl
 
 pub byte_cases : (b : ℕ) → (b ≡ lf) ⊎ ((b ≡ cr) ⊎ IsBodyByte b)
-byte_cases b = elim (cases_eq b lf) [
-  | inl feed ↦ inl feed
-  | inr no_feed ↦ elim (cases_eq b cr) [
-    | inl return ↦ inr (inl return)
-    | inr other ↦ inr (inr (other, no_feed))
-  ]
-]
+byte_cases b = grind (arith, cases_eq)
 
 pub at_other : (b : ℕ) (pairs : List Pair) → IsBodyByte b → before_byte b pairs ≡ before_body b pairs
-at_other b pairs other = rw (ne_eqb b lf other.1, ne_eqb b cr other.0) refl
+at_other b pairs other = grind (arith, ne_eqb)
 
 abbrev BeginWithBody : List Pair → Type 0
 BeginWithBody [] = Unit {0}
@@ -55,10 +49,7 @@ pair_at : (pairs : List Pair) → ArePairs pairs
     → (front back : List Pair) (pair : Pair) → pairs ≡ front ++ pair ∷ back → IsPairBefore pair back
 pair_at [] are [] back pair e = cc
 pair_at [] are (x ∷ front) back pair e = cc
-pair_at (first ∷ later) are [] back pair e =
-    let here : first ≡ pair = cc in
-    let rest : later ≡ back = cc in
-    rw (← here, ← rest) are.0
+pair_at (first ∷ later) are [] back pair e = grind arith
 pair_at (first ∷ later) are (x ∷ front) back pair e = pair_at later are.1 front back pair cc
 
 is_line_end : {body ending : List ℕ} {later : List Pair} → EndsBy body ending later → IsLineEnd ending
@@ -75,9 +66,7 @@ is_last (feed (suc k)) none = cc
 
 goes_on : {body ending : List ℕ} {next : Pair} {back : List Pair} → EndsBy body ending (next ∷ back)
     → All (λ byte. byte ≢ lf) ending → next.body ≢ []
-goes_on (returns k begin) none = begin
-goes_on (feed k) none = absurd (none k 0 (simp (length-append, length-replicate) (omega arith))
-    (get_or_at (replicate k cr) lf [] 0 k (length-replicate k cr)))
+goes_on h none = grind (arith, get_or_at, length-append, length-replicate)
 
 joined_is_cut : (pairs : List Pair) → ArePairs pairs → IsCut pairs (joined pairs)
 joined_is_cut pairs are =
@@ -150,8 +139,7 @@ longer (feed k) = feed k
 body_adds : (b : ℕ) (pairs : List Pair) → IsBodyByte b → ArePairs pairs
     → Adds b pairs (before_body b pairs)
 body_adds b [] other are = ((record { body = (other, tt); ends = nothing }, tt), refl)
-body_adds b (pair ∷ later) other are =
-    ((record { body = (other, are.0.body); ends = longer are.0.ends }, are.1), refl)
+body_adds b (pair ∷ later) other are = grind (arith, longer)
 
 byte_adds : (b : ℕ) (pairs : List Pair) → ArePairs pairs → Adds b pairs (before_byte b pairs)
 byte_adds b pairs are = elim (byte_cases b) [
@@ -162,24 +150,14 @@ byte_adds b pairs are = elim (byte_cases b) [
 
 walked : (text : List ℕ) → ArePairs (cut text) × (joined (cut text) ≡ text)
 walked [] = rw cut_nil (tt, refl)
-walked (b ∷ text) =
-    let (are, whole) = walked text in
-    let (more, adds) = byte_adds b (cut text) are in
-    rw cut_cons (more, adds ∙ ap (λ t. b ∷ t) whole)
+walked (b ∷ text) = grind (arith, byte_adds, cut_cons, walked text)
 
 pub is_cut : (text : List ℕ) → IsCut (cut text) text
-is_cut text = let (are, whole) = walked text in subst (IsCut (cut text)) whole (joined_is_cut (cut text) are)
+is_cut text = grind (arith, joined_is_cut, walked)
 
 lone_return : (pairs : List Pair) → BeginWithBody pairs
     → before_end pairs ≡ pair_of [] (cr ∷ []) ∷ pairs
-lone_return [] begin = refl
-lone_return (pair ∷ later) begin = at pair.body pair.ending begin
-  where
-    at : (body ending : List ℕ) → body ≢ []
-        → before_end (pair_of body ending ∷ later)
-        ≡ pair_of [] (cr ∷ []) ∷ pair_of body ending ∷ later
-    at [] ending some = absurd (some refl)
-    at (b ∷ body) ending some = refl
+lone_return pairs begin = grind arith
 
 returns_cut : (k : ℕ) (text : List ℕ) → BeginWithBody (cut text)
     → cut (replicate (suc k) cr ++ text) ≡ pair_of [] (replicate (suc k) cr) ∷ cut text
@@ -194,31 +172,27 @@ feed_cut (suc k) text = cut_cons cr _ ∙ ap before_end (feed_cut k text)
 body_cut : {ending : List ℕ} {later : List Pair} (body text : List ℕ) → Each IsBodyByte body
     → cut text ≡ pair_of [] ending ∷ later → cut (body ++ text) ≡ pair_of body ending ∷ later
 body_cut [] text all e = e
-body_cut (b ∷ body) text all e =
-    cut_cons b (body ++ text) ∙ ap (before_byte b) (body_cut body text all.1 e) ∙ at_other b _ all.0
+body_cut (b ∷ body) text all e = grind (arith, at_other, cut_cons, body_cut body text all.1 e)
 
 last_cut : (b : ℕ) (body : List ℕ) → Each IsBodyByte (b ∷ body)
     → cut (b ∷ body) ≡ pair_of (b ∷ body) [] ∷ []
 last_cut b [] all = cut_cons b [] ∙ at_other b _ all.0 ∙ ap (before_body b) cut_nil
-last_cut b (c ∷ body) all =
-    cut_cons b (c ∷ body) ∙ ap (before_byte b) (last_cut c body all.1) ∙ at_other b _ all.0
+last_cut b (c ∷ body) all = grind (arith, at_other, cut_cons, last_cut c body all.1)
 
 pair_cut : {body ending : List ℕ} {later : List Pair} (text : List ℕ) → Each IsBodyByte body
     → EndsBy body ending later → joined later ≡ text → cut text ≡ later
     → cut (body ++ (ending ++ text)) ≡ pair_of body ending ∷ later
-pair_cut text all (nothing {b} {body}) none same =
-    ap (λ t. cut ((b ∷ body) ++ t)) (sym none) ∙ ap cut (append-nil (b ∷ body)) ∙ last_cut b body all
+pair_cut text all (nothing {b} {body}) none same = grind (arith, append-nil, last_cut)
 pair_cut {body} text all (returns k begin) whole same =
     rw (sym same) (body_cut body _ all (returns_cut k text (rw same begin)))
 pair_cut {body} text all (feed k) whole same = rw (sym same) (body_cut body _ all (feed_cut k text))
 
 joined_cut : (pairs : List Pair) → ArePairs pairs → cut (joined pairs) ≡ pairs
 joined_cut [] are = cut_nil
-joined_cut (pair ∷ later) are = ap cut (append_assoc pair.body pair.ending (joined later))
-    ∙ pair_cut (joined later) are.0.body are.0.ends refl (joined_cut later are.1)
+joined_cut (pair ∷ later) are = grind (arith, append_assoc, pair_cut, joined_cut later are.1)
 
 pub only_cut : (text : List ℕ) (pairs : List Pair) → IsCut pairs text → pairs ≡ cut text
-only_cut text pairs is = sym (joined_cut pairs (cut_occurs pairs text is)) ∙ ap cut is.whole
+only_cut text pairs is = grind (arith, cut_occurs, joined_cut)
 
 pub each_text_has_one_cut : (text : List ℕ)
     → IsCut (cut text) text × ((pairs : List Pair) → IsCut pairs text → pairs ≡ cut text)

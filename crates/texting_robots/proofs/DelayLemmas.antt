@@ -1,7 +1,7 @@
 -- `delay_of` gives the delay of a text, and it is the only one.
 use Rattle.std.specs.Prelude.{◌==◌, ◌||◌, Decides, MatchBool, slice_index}
-use Rattle.std.proofs.Common.{◌≡◌, inl, inr, ℕ, ◌*◌, ◌/◌, ◌^◌, ◌<◌, ◌≤◌, Bool, true, false, eqb, leb, ltb, []}
-use Rattle.std.proofs.Common.{List, ◌∷◌, ◌++◌, All, Option, Some, None, codes, get_or, length, map, refl, sym}
+use Rattle.std.proofs.Common.{◌≡◌, inl, inr, ℕ, ◌*◌, ◌/◌, ◌^◌, ◌<◌, ◌≤◌, Bool, true, false, ltb, []}
+use Rattle.std.proofs.Common.{List, ◌∷◌, ◌++◌, All, Option, Some, None, codes, length, map, refl, sym}
 use Rattle.std.proofs.Common.{ap, subst, ◌∙◌, arith, ◌↔◌}
 use Rattle.std.specs.Char.{IsAsciiDigit, is_ascii_digit, to_ascii_lowercase}
 use Rattle.std.specs.{Cmp.Lexicographic.bytes_decides, List.list_all, List.prefix_len, Option.option_and_then}
@@ -9,7 +9,7 @@ use Rattle.std.specs.{Option.option_map, Str.byte, Str.str_eq_ignore_ascii_case,
 use Rattle.std.specs.Str.Parse.{digits_value, starts_with_minus, without_leading_sign}
 use Rattle.std.proofs.{Math.Nat.le-div_iff_mul-le, lemmas.Option.cond_some, lemmas.Str.Ascii.lowercase_is}
 use Rattle.std.proofs.Math.Nat.{le-min, min-le_left, min-le_right, mul_assoc, mul-pos, one-le-pow}
-use Rattle.std.proofs.lemmas.Bool.{and_parts, and_right, cases_Bool, cases_lt, cond-false, cond-true, le-leb}
+use Rattle.std.proofs.lemmas.Bool.{and_parts, and_right, cases_Bool, cond-false, cond-true, le-leb}
 use Rattle.std.proofs.lemmas.Bool.{eqb-true, false_from_ne_true, leb-true, lt-leb, lt-ltb, ltb-true, ne_eqb}
 use Rattle.std.proofs.lemmas.Bool.{or_cases}
 use Rattle.std.proofs.lemmas.Bool.Decides.{Decides-and, Decides-by_and, Decides-eqb, Decides-ltb, Decides-or}
@@ -25,7 +25,7 @@ use Rattle.texting_robots.specs.Internal.Delay.{is_numeral, is_zero, zero_of, nu
 use Rattle.texting_robots.proofs.{CapturedLemmas.cond_given}
 
 digit_decides : (b : ℕ) → Decides (is_ascii_digit b) (IsAsciiDigit b)
-digit_decides b = Decides-and (leb 48 b) (leb b 57) (leb-true 48 b, le-leb 48 b) (leb-true b 57, le-leb b 57)
+digit_decides b = grind (arith, le-leb, leb-true)
 
 numeral_decides : (text : List ℕ) → Decides (is_numeral text) (IsNumeral text)
 numeral_decides text =
@@ -60,10 +60,7 @@ digits_front (d ∷ ds) rest digits stop =
 
 digits_read : (ds rest : List ℕ) → All IsAsciiDigit ds → Stops rest
     → (digits_in_front (ds ++ rest) ≡ ds) × (after_digits (ds ++ rest) ≡ rest)
-digits_read ds rest digits stop =
-    let count = prefix_len is_ascii_digit (ds ++ rest) in
-    let size : length ds ≡ count = sym (digits_front ds rest digits stop) in
-    (take_at ds rest count size, drop_at ds rest count size)
+digits_read ds rest digits stop = grind (arith, digits_front, drop_at, take_at)
 
 -- what follows the digits is parsed as this fraction and this tail
 record IsRead (rest fraction tail : List ℕ) : Type 0 where
@@ -73,14 +70,7 @@ record IsRead (rest fraction tail : List ℕ) : Type 0 where
 
 tail_read : (tail exponent : List ℕ) → IsTail tail exponent → IsRead tail [] tail
     × (exponent_of tail ≡ Some exponent)
-tail_read tail exponent (inl (none, empty)) =
-    rw (none, empty) (record { stop = refl; digits = refl; following = refl }, refl)
-tail_read tail exponent (inr (is, numeral)) =
-    let test = (numeral_decides (without_leading_sign exponent)).1 numeral in
-    elim is [
-      | inl e ↦ rw e (record { stop = refl; digits = refl; following = refl }, cond-true _ _ _ test)
-      | inr e ↦ rw e (record { stop = refl; digits = refl; following = refl }, cond-true _ _ _ test)
-    ]
+tail_read tail exponent h = grind (arith, cond-true, numeral_decides)
 
 fraction_read : (point fraction tail : List ℕ) → IsPoint point fraction → All IsAsciiDigit fraction
     → IsRead tail [] tail → IsRead (point ++ (fraction ++ tail)) fraction tail
@@ -90,22 +80,13 @@ fraction_read point fraction tail (inl dot) digits is =
 fraction_read point fraction tail (inr (none, empty)) digits is = rw (none, empty) is
 
 number_read : (text : List ℕ) (n : Decimal) → Writes text n → number_of text ≡ Some n
-number_read text n h =
-    let last = tail_read h.tail n.exponent h.is_tail in
-    let is = fraction_read h.point n.fraction h.tail h.is_point h.fraction last.0 in
-    let found = digits_read n.whole (h.point ++ (n.fraction ++ h.tail)) h.whole is.stop in
-    let some = lt-ltb 0 (length (n.whole ++ n.fraction)) h.some in
-    rw (h.is_text, found.0, found.1, is.digits, is.following, last.1, some) refl
+number_read text n h = grind (arith, digits_read, fraction_read, lt-ltb, tail_read)
 
 digits_are : (text : List ℕ) → All IsAsciiDigit (digits_in_front text)
-digits_are text k d below =
-    let count = prefix_len is_ascii_digit text in
-    let short = length-take count text in
-    rw (get_or-take count text k d (omega arith))
-    ((digit_decides (get_or text k d)).0 (prefix_len_passes is_ascii_digit text k d (omega arith)))
+digits_are text k d below = grind (arith, digit_decides, get_or-take, length-take, prefix_len_passes)
 
 digits_whole : (text : List ℕ) → text ≡ digits_in_front text ++ after_digits text
-digits_whole text = sym (take-append-drop (prefix_len is_ascii_digit text) text)
+digits_whole text = grind (arith, take-append-drop)
 
 record IsFound (rest fraction tail : List ℕ) : Type 0 where
   point : List ℕ
@@ -114,8 +95,7 @@ record IsFound (rest fraction tail : List ℕ) : Type 0 where
   digits : All IsAsciiDigit fraction
 
 no_fraction : (rest : List ℕ) → IsFound rest [] rest
-no_fraction rest =
-    record { point = []; is_point = inr (refl, refl); is_rest = refl; digits = All-nil IsAsciiDigit }
+no_fraction rest = grind arith
 
 fraction_found : (rest : List ℕ) → IsFound rest (fraction_in_front rest) (after_fraction rest)
 fraction_found [] = no_fraction []
@@ -149,14 +129,7 @@ with_found : (whole fraction : List ℕ) (o : Option (List ℕ)) (n : Decimal)
     → number_with whole fraction o ≡ Some n
     → (0 < length (whole ++ fraction))
     × ((e : List ℕ) × (o ≡ Some e) × (n ≡ decimal whole fraction e))
-with_found whole fraction o n is =
-    let (some, given) = (cond_given _ (option_map (decimal whole fraction) o) n).0 is in
-    (ltb-true 0 (length (whole ++ fraction)) some, made o given)
-  where
-    made : (o : Option (List ℕ)) → option_map (decimal whole fraction) o ≡ Some n
-        → (e : List ℕ) × (o ≡ Some e) × (n ≡ decimal whole fraction e)
-    made None is = cc
-    made (Some e) is = (e, refl, cc)
+with_found whole fraction o n is = grind (arith, cond_given, ltb-true)
 
 number_found : (text : List ℕ) (n : Decimal) → number_of text ≡ Some n → Writes text n
 number_found text n e =
@@ -213,16 +186,7 @@ rounds_same n d e a b = omega (arith, b.greatest d a.bound a.at_most, a.greatest
 -- infinity begins with a letter, so it isn't a number
 infinite_number : (text word : List ℕ) → map to_ascii_lowercase text ≡ byte "i" ∷ word
     → number_of text ≡ None
-infinite_number [] word e = cc
-infinite_number (b ∷ text) word e =
-    let i : to_ascii_lowercase b ≡ byte "i" = cc in
-    let letter : 64 < b = elim (cases_lt b 65) [
-      | inl low ↦ omega (arith, (lowercase_is b).1 low)
-      | inr high ↦ omega arith
-    ] in
-    let no_digit : is_ascii_digit b ≡ false = and_right (leb 48 b) (leb b 57) (lt-leb b 57 (omega arith)) in
-    let no_point : eqb b (byte ".") ≡ false = ne_eqb b (byte ".") (λ p. omega arith) in
-    rw (no_digit, no_point) refl
+infinite_number text word h = grind (arith, and_right, lowercase_is, lt-leb, ne_eqb)
 
 named : (minus : Bool) (text : List ℕ) (delay : ℕ)
     → MatchBool minus (NamesZero text delay) (NamesSeconds text delay)
@@ -231,8 +195,7 @@ named true text delay (n, writes, zeros, none) =
     ap (λ o. option_and_then zero_of o) (number_read text n writes)
     ∙ cond-true _ _ _ ((zero_decides n).1 zeros)
     ∙ ap Some (sym none)
-named false text delay (inl (infinite, greatest)) =
-    cond-true _ _ _ ((infinite_decides text).1 infinite) ∙ ap Some (sym greatest)
+named false text delay (inl (infinite, greatest)) = grind (arith, cond-true, infinite_decides)
 named false text delay (inr (n, writes, rounds)) =
     cond-false _ _ _ (false_from_ne_true (is_infinite text) (λ is. finite ((infinite_decides text).0 is)))
     ∙ ap (λ o. option_map rounded o) (number_read text n writes)
@@ -244,26 +207,15 @@ named false text delay (inr (n, writes, rounds)) =
 
 zero_found : (text : List ℕ) (delay : ℕ) (o : Option Decimal) → number_of text ≡ o
     → option_and_then zero_of o ≡ Some delay → NamesZero text delay
-zero_found text delay None is e = cc
-zero_found text delay (Some n) is e =
-    let (zero, none) = cond_some _ 0 delay e in
-    (n, number_found text n is, (zero_decides n).0 zero, sym none)
+zero_found text delay o is h2 = grind (arith, cond_some, number_found, zero_decides)
 
 seconds_found : (text : List ℕ) (delay : ℕ) (o : Option Decimal) → number_of text ≡ o
     → option_map rounded o ≡ Some delay → (n : Decimal) × Writes text n × Rounds n delay
-seconds_found text delay None is e = cc
-seconds_found text delay (Some n) is e =
-    let same : rounded n ≡ delay = cc in
-    (n, number_found text n is, subst (Rounds n) same (rounded_rounds n))
+seconds_found text delay o is h2 = grind (arith, number_found, rounded_rounds)
 
 found : (minus : Bool) (text : List ℕ) (delay : ℕ) → delay_after minus text ≡ Some delay
     → MatchBool minus (NamesZero text delay) (NamesSeconds text delay)
-found true text delay e = zero_found text delay (number_of text) refl e
-found false text delay e = elim (cases_Bool (is_infinite text)) [
-  | inl infinite ↦ (let same : Some greatest_delay ≡ Some delay = sym (cond-true _ _ _ infinite) ∙ e in
-      inl ((infinite_decides text).0 infinite, cc))
-  | inr finite ↦ inr (seconds_found text delay (number_of text) refl (sym (cond-false _ _ _ finite) ∙ e))
-]
+found minus text delay h = grind (arith, cond-false, cond-true, infinite_decides, seconds_found, zero_found)
 
 module _ (text : List ℕ) where
   abbrev minus : Bool
@@ -273,8 +225,7 @@ module _ (text : List ℕ) where
   unsigned = without_leading_sign text
 
   pub is_delay : (delay : Option ℕ) → delay ≡ delay_after minus unsigned → IsDelay text delay
-  is_delay None e = λ delay h. let same : None ≡ Some delay = e ∙ named minus unsigned delay h in cc
-  is_delay (Some delay) e = found minus unsigned delay (sym e)
+  is_delay delay h = grind (arith, found, named)
 
   pub delay_of_is : IsDelay text (delay_of text)
   unfolding delay_of

@@ -1,7 +1,7 @@
 -- The number that digits denote: bounded, cut off and rounded.
 use Rattle.std.proofs.Common.{◌≡◌, inl, inr, ℕ, zero, suc, ◌+◌, ◌-◌, ◌*◌, ◌/◌, ◌^◌, ◌<◌, ◌≤◌, List, [], ◌∷◌}
 use Rattle.std.proofs.Common.{◌++◌, All, length, get_or, take, drop, replicate, refl, sym, ap, ◌∙◌, add-one}
-use Rattle.std.proofs.Common.{append_assoc, rules, arith, drop-cons}
+use Rattle.std.proofs.Common.{append_assoc, arith, drop-cons}
 use Rattle.std.specs.Char.{IsAsciiDigit, digit_value}
 use Rattle.std.specs.Str.{byte, Parse.digits_value, Parse.digits_value_after}
 use Rattle.std.proofs.Math.Nat.{div-div-eq-div-mul, div-one, mul-div_cancel, mul-div-mul_right, mul_assoc}
@@ -21,10 +21,7 @@ value ds = digits_value 10 ds
 bound_first : (n : ℕ) (ds : List ℕ) → bounded (after (bounded n) ds) ≡ bounded (after n ds)
 bound_first n [] = omega arith
 bound_first n (d ∷ ds) =
-    let same : bounded (bounded n * 10 + digit_value d) ≡ bounded (n * 10 + digit_value d) = omega arith in
-    sym (bound_first (bounded n * 10 + digit_value d) ds)
-    ∙ ap (λ x. bounded (after x ds)) same
-    ∙ bound_first (n * 10 + digit_value d) ds
+    grind (arith, bound_first (bounded n * 10 + digit_value d) ds, bound_first (n * 10 + digit_value d) ds)
 
 pub digit_there : (ds : List ℕ) (i : ℕ) → All IsAsciiDigit ds → i < length ds
     → byte "0" ≤ get_or ds i 0
@@ -43,9 +40,7 @@ one_more_digit n ds i digits within =
 pub all_digits_read : (n : ℕ) (ds : List ℕ) (i r : ℕ) → bounded (after n (drop i ds)) ≡ r
     → length ds ≤ i
     → n ≤ greatest_delay → n ≡ r
-all_digits_read n ds i r e end bound =
-    let none : bounded (after n []) ≡ r = rw (drop_all i ds end) at e in
-    omega arith
+all_digits_read n ds i r e end bound = grind (arith, drop_all)
 
 after-append : (n : ℕ) (xs ys : List ℕ) → after n (xs ++ ys) ≡ after (after n xs) ys
 after-append n [] ys = refl
@@ -62,13 +57,11 @@ value_zeros : (ds : List ℕ) (k : ℕ) → value (ds ++ zeros k) ≡ value ds *
 value_zeros ds k = after-append 0 ds (zeros k) ∙ after_zeros (value ds) k
 
 take_parts : (n : ℕ) (xs ys : List ℕ) → take n xs ++ take (n - length xs) ys ≡ take n (xs ++ ys)
-take_parts n xs ys = same_lists _ _ (search (rules, listed)) (λ k d h. grind (arith, listed))
+take_parts n xs ys = grind (arith, listed, same_lists)
 
 cut_off : (ds : List ℕ) → All IsAsciiDigit ds → (k : ℕ)
     → value ds / 10 ^ k ≡ value (take (length ds - k) ds)
-cut_off ds digits zero =
-    let all : take (length ds - 0) ds ≡ ds = take_all (length ds - 0) ds (omega arith) in
-    rw (all, pow-zero 10) (div-one (value ds))
+cut_off ds digits zero = grind (arith, div-one, pow-zero, take_all)
 cut_off ds digits (suc k) =
     ap (λ x. value ds / x) (pow-suc 10 k)
     ∙ sym (div-div-eq-div-mul (value ds) (10 ^ k) 10)
@@ -150,11 +143,7 @@ twenty ds p room = elim (cases_lt (length ds + 20) p) [
 
 joined : (xs ys zs : List ℕ)
     → bounded (after (bounded (after (bounded (after 0 xs)) ys)) zs) ≡ bounded (value (xs ++ (ys ++ zs)))
-joined xs ys zs =
-    bound_first (after (bounded (after 0 xs)) ys) zs
-    ∙ ap bounded (sym (after-append (bounded (after 0 xs)) ys zs))
-    ∙ bound_first (after 0 xs) (ys ++ zs)
-    ∙ ap bounded (sym (after-append 0 xs (ys ++ zs)))
+joined xs ys zs = grind (arith, after-append, bound_first)
 
 pub micros_rounded : (n : Decimal) (p : ℕ) → HasDigits n → p ≡ bounded (places n)
     → let left = p - length n.whole in

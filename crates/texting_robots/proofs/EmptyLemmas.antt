@@ -1,20 +1,17 @@
 -- An empty line at the start of a text, which ends with LF or NUL, only moves the numbers of the later lines.
-use Rattle.std.proofs.Common.{◌≡◌, ℕ, suc, ◌+◌, ◌==◌, Bool, true, List, [], ◌∷◌, Option, drop, map, refl, ap}
+use Rattle.std.proofs.Common.{◌≡◌, ℕ, suc, ◌+◌, ◌==◌, Bool, true, List, [], ◌∷◌, Option, drop, refl, ap}
 use Rattle.std.proofs.Common.{◌∙◌, arith, inl, inr}
 use Rattle.std.specs.{List.list_any}
 use Rattle.std.proofs.lemmas.Bool.{cases_Bool, cond-true}
-use Rattle.texting_robots.specs.Cut.{Pair, lf}
+use Rattle.texting_robots.specs.Cut.{lf}
 use Rattle.texting_robots.specs.{Executable.sitemaps_in, Group.is_agent, Line.LineValue, Line.Raw}
 use Rattle.texting_robots.specs.Internal.Cut.{empty_lines, is_feed, read_as, read_byte}
-use Rattle.texting_robots.specs.Internal.{Line.line_of, Line.lines_of, Site.named_from, Site.tagged_from}
+use Rattle.texting_robots.specs.Internal.{Line.lines_of, Site.named_from, Site.tagged_from}
 use Rattle.texting_robots.proofs.{CutLemmas.cut_cons, LineLemmas.line_without_kind, RulesLemmas.delay_from}
 
 feed_adds : (b : ℕ) (text : List ℕ) → (b == lf) ≡ true
     → lines_of (b ∷ text) ≡ Raw [] ∷ lines_of text
-feed_adds b text feed =
-    ap (λ (pairs : List Pair). map line_of (map (λ (p : Pair). p.body) pairs))
-    (cut_cons b text ∙ cond-true _ _ _ feed)
-    ∙ ap (λ line. line ∷ lines_of text) (line_without_kind [] [] refl refl)
+feed_adds b text feed = grind (arith, cond-true, cut_cons, line_without_kind)
 
 pub past_empty : {X : Type 0} (given : ℕ → List LineValue → X)
     → ((position : ℕ) (left : List LineValue)
@@ -22,7 +19,7 @@ pub past_empty : {X : Type 0} (given : ℕ → List LineValue → X)
     → (n : Bool) (position : ℕ) (text : List ℕ)
     → (let k = empty_lines n text in
     given position (lines_of (read_as n text)) ≡ given (position + k) (lines_of (read_as n (drop k text))))
-past_empty given step n position [] = ap (λ p. given p (lines_of [])) (omega arith)
+past_empty given step n position [] = grind arith
 past_empty given step n position (b ∷ text) =
     let k = empty_lines n text in
     elim (cases_Bool (is_feed n b)) [

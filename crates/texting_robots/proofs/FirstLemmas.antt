@@ -1,6 +1,6 @@
 -- Which rule decides, and what is looked at to find it.
 use Rattle.std.proofs.Common.{◌≡◌, ℕ, ◌*◌, ◌^◌, ◌%◌, ◌<◌, ◌≤◌, List, [], ◌∷◌, ◌++◌, length, min, get_or, drop}
-use Rattle.std.proofs.Common.{take, sym, refl, ap, ◌∙◌, append_assoc, take-append-drop, arith, ◌+◌, ◌-◌, ◌==◌}
+use Rattle.std.proofs.Common.{take, sym, refl, ap, ◌∙◌, append_assoc, take-append-drop, arith, ◌+◌, ◌-◌}
 use Rattle.std.proofs.Common.{cond, leb, string_bytes, suc, ◌≢◌, inl, inr, zero, count_by, Bool, true, All}
 use Rattle.std.proofs.Common.{AllPairs, subst}
 use Rattle.std.specs.Int.{RustNames.bit_and, RustNames.bit_or, Bits.or_self, Bits.or_zero_l}
@@ -9,19 +9,19 @@ use Rattle.std.proofs.lemmas.List.{take-take, get_or-map, length-map, get_or_rea
 use Rattle.std.proofs.lemmas.{List.Elements.All-map}
 use Rattle.std.proofs.lemmas.Nat.{and_mask, or_comm, Bits.bit_at_or, Bits.same_from_bits}
 use Rattle.texting_robots.specs.declared.prefilter.{Prefilter.Prefilter, head.Head.Head}
-use Rattle.texting_robots.specs.declared.segments.Ending.{Ending, TheVariants.Last}
+use Rattle.texting_robots.specs.declared.segments.Ending.{Ending}
 use Rattle.texting_robots.specs.declared.segments.{Ends.Ends, Segment.Segment, Span.Span}
 use Rattle.texting_robots.specs.Internal.Segments.{ArePrefilter, AreWithin, IsHeadOf, ending_pairs}
 use Rattle.texting_robots.specs.Internal.Segments.{pair_bit}
-use Rattle.texting_robots.specs.Internal.Segments.{front_bit, first_eight, ones_below, pair_set, AreApart}
+use Rattle.texting_robots.specs.Internal.Segments.{first_eight, ones_below, pair_set, AreApart}
 use Rattle.texting_robots.specs.Internal.Segments.{AreLeft, AreSegments, IsUnsearched, Fits, EndsAs, part_of}
 use Rattle.texting_robots.specs.Internal.Segments.{IsSpan, pattern_of, placed_at, rules_in, AreEntries}
 use Rattle.texting_robots.specs.Internal.Segments.{HaveMasks, GoesBefore, IsEntryOf, IsFirstMatch, MatchesAt}
 use Rattle.texting_robots.specs.Internal.Segments.{NoneMatches, no_entry, rank_in, mask_in}
-use Rattle.texting_robots.specs.{Pattern.Matches, Cost.cost_of, Cost.looks_of, Pattern.star, Rules.PlacedRule}
+use Rattle.texting_robots.specs.{Pattern.Matches, Cost.cost_of, Cost.looks_of, Rules.PlacedRule}
 use Rattle.texting_robots.specs.{Verdict.IsVerdict, Verdict.robots_file, Rules.unplaced}
 use Rattle.texting_robots.specs.View.{LooksAtMost, ViewValue}
-use Rattle.std.proofs.lemmas.Bool.{cases_Bool, cond_both, eqb-false, leb-true, cases_lt, cases_order, le-leb}
+use Rattle.std.proofs.lemmas.Bool.{cond_both, eqb-false, leb-true, cases_lt, cases_order, le-leb}
 use Rattle.texting_robots.specs.declared.rules.{Entry.Entry, Unsorted.Unsorted}
 use Rattle.std.proofs.Math.{Nat.mul-le-mul_left}
 use Rattle.texting_robots.specs.Decision.{IsDecidingRule, IsLongestMatch, LooksForRules, as_long_as}
@@ -40,15 +40,11 @@ same_below segment rest = omega arith
 pub same_masked : (segment rest : List ℕ)
     → bit_and (first_eight (segment ++ rest)) (ones_below (length segment))
     ≡ bit_and (first_eight segment) (ones_below (length segment))
-same_masked segment rest =
-    let size = 8 * min (length segment) 8 in
-    and_mask (first_eight (segment ++ rest)) size ∙ same_below segment rest
-    ∙ sym (and_mask (first_eight segment) size)
+same_masked segment rest = grind (arith, and_mask, same_below)
 
 beginning_fits : (segment rest : List ℕ) (head : Head) → IsHeadOf segment head
     → Fits head (first_eight (segment ++ rest))
-beginning_fits segment rest head is =
-    rw (is.bytes, is.mask) (same_masked segment rest)
+beginning_fits segment rest head is = grind (arith, same_masked)
 
 pub or_assoc : (a b c : ℕ) → bit_or (bit_or a b) c ≡ bit_or a (bit_or b c)
 or_assoc a b c =
@@ -58,17 +54,14 @@ or_assoc a b c =
     omega (arith, left, bit_at_or a b i, right, bit_at_or b c i))
 
 within_later : (few more many : ℕ) → AreWithin few many → AreWithin few (bit_or more many)
-within_later few more many h =
-    sym (or_assoc few more many) ∙ ap (λ x. bit_or x many) (or_comm few more)
-    ∙ or_assoc more few many ∙ ap (bit_or more) h
+within_later few more many h = grind (arith, or_assoc, or_comm)
 
 pub within_both : (one other many : ℕ) → AreWithin one many → AreWithin other many
     → AreWithin (bit_or one other) many
 within_both one other many h k = rw (or_assoc, k) h
 
 pub within_through : (few some many : ℕ) → AreWithin few some → AreWithin some many → AreWithin few many
-within_through few some many h k =
-    ap (bit_or few) (sym k) ∙ sym (or_assoc few some many) ∙ ap (λ x. bit_or x many) h ∙ k
+within_through few some many h k = grind (arith, or_assoc)
 
 front_within : (front rest : List ℕ) → AreWithin (pair_set front) (pair_set (front ++ rest))
 unfolding pair_set
@@ -84,9 +77,7 @@ front_within (b ∷ c ∷ front) rest =
 end_within : (front rest : List ℕ) → AreWithin (pair_set rest) (pair_set (front ++ rest))
 unfolding pair_set
 end_within [] rest = or_self (pair_set rest)
-end_within (b ∷ front) rest =
-    let more = front ++ rest in
-    within_later (pair_set rest) (front_bit b more) (pair_set more) (end_within front rest)
+end_within (b ∷ front) rest = grind (arith, within_later, end_within front rest)
 
 -- loop step: some of the bigrams that are left are moved to those so far
 pub within_moved : (bits few some left all : ℕ) → AreWithin few some
@@ -105,9 +96,7 @@ pub pairs_step : (bits bit whole : ℕ) (rest : List ℕ) → 2 ≤ length rest
     → bit ≡ pair_bit (get_or rest 0 0) (get_or rest 1 0) → bit_or bits (pair_set rest) ≡ whole
     → bit_or (bit_or bits bit) (pair_set (drop 1 rest)) ≡ whole
 unfolding pair_set
-pairs_step bits bit whole (b ∷ c ∷ rest) long is h =
-    rw (or_assoc, is) h
-pairs_step bits bit whole rest long is h = absurd (omega arith)
+pairs_step bits bit whole rest long is h3 = grind (arith, or_assoc)
 
 -- loop step: two bigrams are moved, one after the other
 pub two_pairs : (bits one two whole : ℕ) (rest : List ℕ) → 3 ≤ length rest
@@ -142,9 +131,7 @@ segment_pairs pattern ending (segment ∷ segments) =
 
 ending_within : (pattern : List ℕ) (ending : Ending) (t : List ℕ) → EndsAs pattern ending t
     → AreWithin (ending_pairs pattern ending) (pair_set t)
-ending_within pattern (Last span) t (front, e) =
-    rw e (end_within front (part_of pattern span))
-ending_within pattern ending t ends = or_zero_l (pair_set t)
+ending_within pattern ending t ends = grind (arith, end_within)
 
 left_within : (pattern : List ℕ) (ending : Ending) (segments : List Segment) (left : List ℕ)
     → AreLeft pattern ending segments left → (t : List ℕ) → Matches left t
@@ -167,12 +154,7 @@ pub are_prefilter : {pattern : List ℕ} {ends : Ends} {segments : List Segment}
     → AreWithin prefilter.pairs.bits (segment_pairs pattern ends.ending segments)
     → ArePrefilter pattern prefilter
 are_prefilter {pattern} {ends} {segments} prefilter are head pairs text m =
-    let first = take ends.first_len pattern in
-    let (rest, e, n) = (are.decides text).0 m in
-    let within = within_through _ _ (pair_set (first ++ rest)) pairs
-    (within_through _ (pair_set rest) (pair_set (first ++ rest))
-    (left_within pattern ends.ending segments are.rest are.left rest n) (end_within first rest)) in
-    rw e (record { head = beginning_fits first rest prefilter.head head; pairs = within })
+    grind (arith, beginning_fits, end_within, left_within, within_through)
 
 pub beginning_within : (pattern rest text : List ℕ) (few first : ℕ) → few ≤ first
     → text ≡ take first pattern ++ rest → AreWithin (pair_set (take few pattern)) (pair_set text)
@@ -192,12 +174,7 @@ pub within_looks : (p : List ℕ) (ends : Ends) (segments : List Segment) (borde
     → new ≤ old + 2 * n → (IsUnsearched segments ends.ending → new ≤ old + ends.first_len)
     → new ≤ old + looks_of p n
 within_looks p ends segments borders are n old new short all first =
-    let k = ends.first_len in
-    let within : ℕ → Type 0 = λ more. new ≤ old + more in
-    rw (← are.plain) (cond_both (leb (suc n) k) 0 (cond (get_or p k 0 == star) (2 * n) k) within
-    (λ less. omega (arith, short (omega (arith, leb-true (suc n) k less))))
-    (λ _. cond_both (get_or p k 0 == star) (2 * n) k within (λ _. all)
-    (λ other. first (are.unsearched (eqb-false (get_or p k 0) star other)))))
+    grind (arith, cond_both, eqb-false, leb-true)
 
 abbrev pub cost_upto : Unsorted → ℕ → ℕ → ℕ
 cost_upto all n at = cost_of (take at (rules_in all)) n
@@ -240,8 +217,7 @@ count_front p (x ∷ xs) (suc n) within passes =
 
 at_most_more : (old new : ViewValue) (few many : ℕ) → few ≤ many → LooksAtMost old new few
     → LooksAtMost old new many
-at_most_more old new few many more is =
-    record { text = is.text; looks = is.looks; cost = omega arith }
+at_most_more old new few many more is = grind arith
 
 -- the rules before this index were tried: none matches, and together they took no more than they cost
 pub record AreTried (all : Unsorted) (old new : ViewValue) (at : ℕ) : Type 0 where
@@ -250,14 +226,10 @@ pub record AreTried (all : Unsorted) (old new : ViewValue) (at : ℕ) : Type 0 w
   pub grows : old.looks ≤ new.looks
   pub spent : new.looks ≤ old.looks + cost_upto all (length old.text) at
 
-mask_within : (all : Unsorted) (entry : Entry) → IsEntryOf all entry → (text : List ℕ)
+pub mask_within : (all : Unsorted) (entry : Entry) → IsEntryOf all entry → (text : List ℕ)
     → Matches (pattern_of all entry) text
     → AreWithin (mask_in (string_bytes all.text) entry) (pair_set text)
-mask_within all entry is text matches =
-    let pattern = pattern_of all entry in
-    let (rest, split, _) = (is.is_cut.decides text).0 matches in
-    within_both _ _ _ (is.needed text matches).pairs
-    (beginning_within pattern rest text (min entry.ends.first_len 9) entry.ends.first_len (omega arith) split)
+mask_within all entry is text matches = grind (arith, beginning_within, within_both)
 
 -- rules whose masks exclude the text needn't be tried
 pub apart_tried : (all : Unsorted) (old new : ViewValue) (from to : ℕ) → AreEntries all
@@ -315,25 +287,17 @@ module _ (all : Unsorted) (known : All (IsEntryOf all) all.entries.items) where
 
   rule_is : (k : ℕ) (d : PlacedRule) → k < length all.entries.items
       → get_or (rules_in all) k d ≡ placed k
-  rule_is k d below = get_or-map (placed_at (string_bytes all.text)) all.entries.items k no_entry d below
+  rule_is k d below = grind (arith, get_or-map)
 
   ranked : (k : ℕ) → k < length all.entries.items → rank_of (placed k) ≡ rank_in (entry_at k)
-  ranked k below =
-      let is : IsEntryOf all (entry_at k) = known k no_entry below in
-      rw (part_length (string_bytes all.text) (entry_at k).pattern is.pattern) refl
+  ranked k below = grind (arith, part_length)
 
   pub none_occurs : (text : List ℕ) → NoneMatches all text → NoMatch (rules_in all) text
-  none_occurs text none rule (k, below, here) fits =
-      let within : k < length all.entries.items = rw length-map at below in
-      none k within (rw (sym here, rule_is k rule within) at fits)
+  none_occurs text none rule (k, below, here) fits = grind (arith, length-map, rule_is)
 
   module _ (sorted : AllPairs GoesBefore all.entries.items) where
     preferred : (i j : ℕ) → i < j → j < length all.entries.items → IsPreferred (placed i) (placed j)
-    preferred i j before within =
-        let goes = sorted i j no_entry before within in
-        let one = ranked i (omega arith) in
-        let two = ranked j within in
-        record { higher = rw (one, two) goes.higher; earlier = rw (one, two) goes.earlier }
+    preferred i j before within = grind (arith, ranked)
 
     module _ (text : List ℕ) (at : ℕ) (found : IsFirstMatch all text at) where
       first_best : IsBest (rules_in all) text (placed at)

@@ -1,14 +1,14 @@
 -- What is computed from lines is what they give: rules, delays and sitemaps.
 use Rattle.std.specs.Prelude.{IsTrue, filter}
 use Rattle.std.proofs.Common.{◌≡◌, ◌↔◌, inl, inr, ℕ, zero, suc, ◌+◌, ◌<◌, ◌≤◌, Bool, true, false, cond, List}
-use Rattle.std.proofs.Common.{[], ◌∷◌, Option, Some, None, refl, sym, ap, ◌∙◌, arith, add-zero, zero-add, ◌⊎◌}
+use Rattle.std.proofs.Common.{[], ◌∷◌, Option, Some, None, refl, sym, ap, ◌∙◌, arith, zero-add, ◌⊎◌}
 use Rattle.std.proofs.{Common.slice_get, lemmas.Bool.cases_Bool, lemmas.Option.slice_get_within}
 use Rattle.std.specs.{Option.option_or, Str.is_utf8}
-use Rattle.std.specs.List.{cons_option, enumerate_from, filter_map, last_or, list_any, Contains}
+use Rattle.std.specs.List.{cons_option, enumerate_from, filter_map, last_or, Contains}
 use Rattle.texting_robots.specs.Executable.{captured_delays, delay_before_agents, delay_for, sitemap_in}
 use Rattle.texting_robots.specs.Executable.{sitemaps_in, placed_in, placed_rules, rule_in, rule_with}
 use Rattle.texting_robots.specs.Group.{group_name, is_agent, passes_at}
-use Rattle.texting_robots.specs.Line.{LineValue, CrawlDelay, Sitemap, delay_in, Allow, Disallow}
+use Rattle.texting_robots.specs.Line.{LineValue, CrawlDelay, delay_in, Allow, Disallow}
 use Rattle.texting_robots.specs.Rules.{AreSitemapsOf, IsCapturedDelay, IsDelayFor, IsEarlyDelay, IsFirst}
 use Rattle.texting_robots.specs.Rules.{IsLast, ListsSitemap, Nowhere, HoldsRule, IsCapturedAt, PlacedRule}
 use Rattle.texting_robots.specs.{Internal.Captured.is_captured, Escape.escaped, Internal.Group.placed}
@@ -36,7 +36,7 @@ nowhere_next P Q step none (suc k) n is = none k n ((step.later k n).0 is)
 
 first_next : (P Q : ℕ → ℕ → Type 0) (here found : Option ℕ) → Step P Q here → FirstAt Q found
     → FirstAt P (option_or here found)
-first_next P Q (Some n) found step is = (0, (step.at n).1 refl, λ other m has. omega arith)
+first_next P Q (Some n) found step is = grind arith
 first_next P Q None None step is = nowhere_next P Q step is
 first_next P Q None (Some n) step (position, is, least) =
     (suc position, (step.later position n).1 is, sooner)
@@ -66,14 +66,11 @@ last_next P Q (Some h) None step none = (0, (step.at h).1 refl, first)
 first_same : (P Q : ℕ → ℕ → Type 0) (found : Option ℕ) → ((k n : ℕ) → P k n ↔ Q k n)
     → FirstAt P found
     → FirstAt Q found
-first_same P Q None same none = λ k n is. none k n ((same k n).1 is)
-first_same P Q (Some n) same (position, is, least) =
-    (position, (same position n).0 is, λ other m has. least other m ((same other m).1 has))
+first_same P Q found same none = grind arith
 
 a_delay : (line : LineValue) (delay : ℕ) → delay_in line ≡ Some delay
     → line ≡ CrawlDelay (Some delay)
-a_delay (CrawlDelay (Some d)) delay is = ap (λ (o : Option ℕ). CrawlDelay o) is
-a_delay _ delay is = cc
+a_delay line delay is = grind arith
 
 abbrev DelayAt : (ℕ → Bool) → ℕ → List LineValue → ℕ → ℕ → Type 0
 DelayAt test n lines k delay = (slice_get lines k ≡ Some (CrawlDelay (Some delay)))
@@ -84,27 +81,15 @@ tested test n line = cond (test n) (delay_in line) None
 
 delay_step : (test : ℕ → Bool) (n : ℕ) (line : LineValue) (lines : List LineValue)
     → Step (DelayAt test n (line ∷ lines)) (DelayAt test (n + 1) lines) (tested test n line)
-delay_step test n line lines = record {
-  at = λ delay. let (to, from) = cond_given (test n) (delay_in line) delay in (
-    λ (is, passes).
-        let same : line ≡ CrawlDelay (Some delay) = cc in
-        from (rw add-zero at passes, rw same refl),
-    λ is.
-        let (passes, gives) = to is in
-        (ap (λ l. Some l) (a_delay line delay gives), rw add-zero passes),
-  );
-  later = λ k delay. let same : n + suc k ≡ (n + 1) + k = omega arith in
-      (λ is. (is.0, rw same at is.1), λ is. (is.0, rw same is.1));
-}
+delay_step test n line lines = grind (arith, a_delay, cond_given)
 
 first_given : (o : Option ℕ) (rest : List ℕ)
     → slice_get (cons_option o rest) 0 ≡ option_or o (slice_get rest 0)
-first_given None rest = refl
-first_given (Some n) rest = refl
+first_given o rest = grind arith
 
 delays_from : (test : ℕ → Bool) (n : ℕ) (lines : List LineValue) → FirstAt (DelayAt test n lines)
     (slice_get (filter_map (λ p. delay_in p.1) (filter (λ p. test p.0) (enumerate_from n lines))) 0)
-delays_from test n [] = λ k delay (is, passes). let less = slice_get_within [] k _ is in absurd (omega arith)
+delays_from test n [] = grind (arith, slice_get_within)
 delays_from test n (line ∷ lines) =
     rw (kept_next (test n) (λ (p : ℕ × LineValue). delay_in p.1) (n, line), first_given)
     (first_next _ _ _ _ (delay_step test n line lines) (delays_from test (n + 1) lines))
@@ -153,7 +138,7 @@ last_given o (x ∷ xs) = rw (last_some x xs).1 refl
 
 last_before : (lines : List LineValue)
     → LastOf (BeforeAgents lines) (last_or None (filter_map delay_in (before_agent lines)))
-last_before [] = λ k delay (is, early). let less = slice_get_within [] k _ is in absurd (omega arith)
+last_before [] = grind (arith, slice_get_within)
 last_before (line ∷ lines) = elim (cases_Bool (is_agent line)) [
   | inl agent ↦ rw agent (none agent)
   | inr other ↦ rw (other, last_more, option_or_none, last_given)
@@ -168,38 +153,20 @@ last_before (line ∷ lines) = elim (cases_Bool (is_agent line)) [
 
 early : (lines : List LineValue) (at : ℕ) → passes_at is_agent lines at ≡ true → (k delay : ℕ)
     → BeforeAgents lines k delay → IsEarlyDelay lines k delay
-early lines at agent k delay (is, none) =
-    let not_here : k ≡ at → ⊥ = λ here. let wrong = rw (rw here at is) at agent in cc in
-    let not_after : at < k → ⊥ = λ less. none at less agent in
-    (is, none, at, omega arith, agent)
+early lines at agent k delay (is, none) = grind arith
 
 last_early : (lines : List LineValue) → LastOf (IsEarlyDelay lines) (delay_before_agents lines)
-last_early lines = elim (cases_Bool (list_any is_agent lines)) [
-  | inl some ↦ rw (some, before_agents lines)
-      (given ((some_passes is_agent lines).0 some) _ (last_before lines))
-  | inr none ↦ rw none (λ k delay is. cc ((some_passes is_agent lines).1 (is.2, is.4)))
-]
-  where
-    given : (at : ℕ) × (passes_at is_agent lines at ≡ true) → (o : Option ℕ)
-        → LastOf (BeforeAgents lines) o → LastOf (IsEarlyDelay lines) o
-    given agent None none = λ k delay has. none k delay (has.0, has.1)
-    given agent (Some n) (position, is, greatest) = (
-      position,
-      early lines agent.0 agent.1 position n is,
-      λ other m has. greatest other m (has.0, has.1),
-    )
+last_early lines = grind (arith, before_agents, cases_Bool, early, last_before, some_passes)
 
 is_delay_for : (agent : List ℕ) (lines : List LineValue) (first last : Option ℕ)
     → FirstAt (IsCapturedDelay agent lines) first → LastOf (IsEarlyDelay lines) last
     → IsDelayFor agent lines (option_or first last)
-is_delay_for agent lines (Some delay) last is early = inl is
-is_delay_for agent lines None (Some delay) none is = inr (none, is)
-is_delay_for agent lines None None none is = (none, is)
+is_delay_for agent lines first last is early = grind arith
 
 one_delay : (lines : List LineValue) (p q a b : ℕ) → p ≤ q → q ≤ p
     → slice_get lines p ≡ Some (CrawlDelay (Some a)) → slice_get lines q ≡ Some (CrawlDelay (Some b))
     → ◌≡◌ {A = Option ℕ} (Some a) (Some b)
-one_delay lines p q a b low high one two = let same : p ≡ q = omega arith in cc
+one_delay lines p q a b low high one two = grind arith
 
 one_first : (agent : List ℕ) (lines : List LineValue) (a b : ℕ)
     → IsFirst (IsCapturedDelay agent lines) a → IsFirst (IsCapturedDelay agent lines) b
@@ -236,29 +203,17 @@ Lists line None = (sitemap : List ℕ) → ¬ ListsSitemap line sitemap
 Lists line (Some sitemap) = ListsSitemap line sitemap
 
 listed : (line : LineValue) → Lists line (sitemap_in line)
-listed (Sitemap value) = elim (cases_Bool (is_utf8 value)) [
-  | inl text ↦ rw text (refl, text)
-  | inr other ↦ rw other (λ sitemap is.
-      let same : value ≡ sitemap = cc in cc)
-]
-listed _ = λ sitemap is. let k = is.0 in cc
+listed line = grind arith
 
 are_sitemaps : (lines : List LineValue) → AreSitemapsOf lines (sitemaps_in lines)
 are_sitemaps [] = refl
-are_sitemaps (line ∷ lines) = at (sitemap_in line) (listed line) (are_sitemaps lines)
-  where
-    at : (o : Option (List ℕ)) → Lists line o → AreSitemapsOf lines (sitemaps_in lines)
-        → AreSitemapsOf (line ∷ lines) (cons_option o (sitemaps_in lines))
-    at None none are = inr (none, are)
-    at (Some first) lists are = inl (first, sitemaps_in lines, lists, are, refl)
+are_sitemaps (line ∷ lines) = grind (arith, listed, are_sitemaps lines)
 
 one_sitemaps : (lines : List LineValue) (one two : List (List ℕ)) → AreSitemapsOf lines one
     → AreSitemapsOf lines two → one ≡ two
 one_sitemaps [] one two is has = is ∙ sym has
 one_sitemaps (line ∷ lines) one two (inl (a, later, lists, are, is)) (inl (b, rest, other, have, has)) =
-    let tails = one_sitemaps lines later rest are have in
-    let same : a ≡ b = let k = sym lists.0 ∙ other.0 in cc in
-    is ∙ rw (same, tails) (sym has)
+    grind (arith, one_sitemaps lines later rest are have)
 one_sitemaps (line ∷ lines) one two (inl (a, later, lists, are, is)) (inr have) = absurd (have.0 a lists)
 one_sitemaps (line ∷ lines) one two (inr are) (inl (b, rest, lists, have, has)) = absurd (are.0 b lists)
 one_sitemaps (line ∷ lines) one two (inr are) (inr have) = one_sitemaps lines one two are.1 have.1
@@ -283,7 +238,7 @@ Gives given test n lines found =
 
 cons_has : {X : Type 0} (o : Option X) (xs : List X) (x : X)
     → Contains (cons_option o xs) x ↔ ((o ≡ Some x) ⊎ Contains xs x)
-cons_has None xs x = (λ has. inr has, λ either. elim either [ inl is ↦ cc | inr has ↦ has ])
+cons_has None xs x = grind arith
 cons_has {X} (Some y) xs x = (to, from)
   where
     to : Contains (y ∷ xs) x → (Some y ≡ Some x) ⊎ Contains xs x
@@ -308,17 +263,12 @@ module _ {X : Type 0} (given : ℕ × LineValue → Option X) (test : ℕ → Bo
       let (k, position, other, far, at, is) = later.0 has in (suc k, position, other, omega arith, at, is)
 
   back : Gives given test n (line ∷ lines) found → ComesNext
-  back (zero, position, other, far, at, is) =
-      let here : position ≡ n = omega arith in
-      let same : other ≡ line = cc in
-      inl (rw (here, same) at is)
-  back (suc k, position, other, far, at, is) = inr (later.1 (k, position, other, omega arith, at, is))
+  back h = grind arith
 
 pub given_come : {X : Type 0} (given : ℕ × LineValue → Option X) (test : ℕ → Bool) (n : ℕ)
     (lines : List LineValue) (found : X)
     → Contains (given_from given test n lines) found ↔ Gives given test n lines found
-given_come given test n [] found =
-    (λ (k, below, at). absurd (omega arith), λ (k, position, line, far, at, is). cc)
+given_come given test n [] found = grind arith
 given_come given test n (line ∷ lines) found =
     let later = given_come given test (n + 1) lines found in
     let here = cond (test n) (given (n, line)) None in
@@ -335,29 +285,19 @@ module _ (agent : List ℕ) (lines : List LineValue) (position : ℕ) (found : P
   value_holds : (value : List ℕ) (is_allow : Bool)
       → IsCapturedAt agent lines position (cond is_allow (Allow value) (Disallow value))
       → placed (position + 1) (rule_with value is_allow) ≡ Some found → IsHeld
-  value_holds value is_allow at is = elim (cases_Bool (is_utf8 value)) [
-    | inl text ↦
-        let made : PlacedRule = record { rule = (escaped value, is_allow); line = position + 1 } in
-        let same : made ≡ found = let given = rw text at is in cc in
-        rw (← same) (refl, record { value = value; line = at; utf8 = text; pattern = refl })
-    | inr other ↦ let none = rw other at is in cc
-  ]
+  value_holds value is_allow at is = grind (arith, cases_Bool)
 
   line_holds : (line : LineValue) → IsCapturedAt agent lines position line
       → placed (position + 1) (rule_in line) ≡ Some found → IsHeld
-  line_holds (Allow value) at is = value_holds value true at is
-  line_holds (Disallow value) at is = value_holds value false at is
-  line_holds _ at is = cc
+  line_holds line at is = grind (arith, value_holds)
 
   rule_given : (value : List ℕ) (is_allow : Bool) → is_utf8 value ≡ true
       → rule_in (cond is_allow (Allow value) (Disallow value)) ≡ Some (escaped value, is_allow)
-  rule_given value true text = rw text refl
-  rule_given value false text = rw text refl
+  rule_given value is_allow text = grind arith
 
   held_given : (holds : HoldsRule agent lines position found.rule) → found.line ≡ position + 1
       → placed_in (position, cond found.rule.1 (Allow holds.value) (Disallow holds.value)) ≡ Some found
-  held_given holds number =
-      rw (rule_given holds.value found.rule.1 holds.utf8, ← holds.pattern, ← number) refl
+  held_given holds number = grind (arith, rule_given)
 
 pub placed_held : (agent : List ℕ) (lines : List LineValue) (found : PlacedRule)
     → Contains (placed_rules agent lines) found

@@ -1,11 +1,11 @@
 -- The labels of lines: membership, and the first byte that passes a test.
 use Rattle.std.proofs.Common.{◌≡◌, ℕ, ◌+◌, ◌-◌, ◌≤◌, Bool, false, ◌||◌, List, length, get_or, arith, take, ap}
 use Rattle.std.proofs.Common.{drop, sym, ◌∙◌, Option, Some, None, is_some, true, not, inl, inr, [], ◌∷◌, cond}
-use Rattle.std.proofs.Common.{slice_get, map, refl, add-one, ◌⊎◌, zero, suc, ◌<◌, ◌↔◌, ◌&&◌, length-drop}
+use Rattle.std.proofs.Common.{slice_get, map, refl, ◌⊎◌, zero, suc, ◌<◌, ◌↔◌, ◌&&◌, length-drop}
 use Rattle.std.proofs.Common.{slice_index_or, subst}
 use Rattle.std.specs.List.{AllZip, list_any, position_or_len, before_first, enumerate_from, filter_map}
-use Rattle.std.proofs.lemmas.Bool.{false_from_ne_true, false≢true, or_parts, cases_Bool, cases_lt}
-use Rattle.std.proofs.lemmas.Bool.{cases_order, Decides.Decides-and, Decides.Decides-at, Decides.Decides-like}
+use Rattle.std.proofs.lemmas.Bool.{false_from_ne_true, or_parts, cases_Bool, cases_lt}
+use Rattle.std.proofs.lemmas.Bool.{cases_order, Decides.Decides-at, Decides.Decides-like}
 use Rattle.std.proofs.lemmas.Bool.{Decides.Decides-or, Decides.not_from_Decides}
 use Rattle.std.proofs.lemmas.List.{get_or_default, take-append-drop, take-take, take_all, take_rest}
 use Rattle.std.proofs.lemmas.List.{Folds.list_any-append, Folds.list_any_at, Folds.list_any_none, get_or-drop}
@@ -34,8 +34,7 @@ use Rattle.texting_robots.proofs.{CapturedLemmas.taken_decides, CapturedLemmas.w
 
 pub position_is : (test : ℕ → Bool) (hay : List ℕ) (k : ℕ)
     → NoneBefore (Passes test hay) 0 (length hay) k → Passes test hay k → position_or_len test hay ≡ k
-position_is test hay k none is = position_or_len_is test hay k 0 (omega (arith, none.high))
-    (λ i l. false_from_ne_true (test (get_or hay i 0)) (none.before i (omega arith) l)) (λ l. is)
+position_is test hay k none is = grind (arith, false_from_ne_true, position_or_len_is)
 
 pub end_is : (test : ℕ → Bool) (hay : List ℕ) → Nowhere (Passes test hay) 0 (length hay)
     → position_or_len test hay ≡ length hay
@@ -46,16 +45,15 @@ end_is test hay none = position_or_len_is test hay (length hay) 0 (omega arith)
 pub first_is : (test : ℕ → Bool) (hay : List ℕ) (k : ℕ)
     → NoneBefore (Passes test hay) 0 (length hay) k → Passes test hay k
     → take k hay ≡ before_first test hay
-first_is test hay k none is = ap (λ n. take n hay) (sym (position_is test hay k none is))
+first_is test hay k none is = grind (arith, position_is)
 
 pub none_is : (test : ℕ → Bool) (hay : List ℕ) → Nowhere (Passes test hay) 0 (length hay)
     → hay ≡ before_first test hay
-none_is test hay none = sym (take_all (length hay) hay (omega arith))
-    ∙ ap (λ n. take n hay) (sym (end_is test hay none))
+none_is test hay none = grind (arith, end_is, take_all)
 
 nowhere : (test : ℕ → Bool) (hay : List ℕ) → list_any test hay ≡ false
     → Nowhere (Passes test hay) 0 (length hay)
-nowhere test hay none k low high is = false≢true (sym none ∙ list_any_at test hay k 0 high is)
+nowhere test hay none k low high is = grind (arith, list_any_at)
 
 pub plain_is : (test : ℕ → Bool) (hay : List ℕ) → list_any test hay ≡ false
     → hay ≡ before_first test hay
@@ -66,7 +64,7 @@ pub some_found : (test : ℕ → Bool) (hay : List ℕ) (found : Option ℕ) →
 some_found test hay None none =
     sym (list_any_none test hay
     (λ k d l. false_from_ne_true _ (λ is. none k (omega arith) l (rw (get_or_default hay k 0 d l) is))))
-some_found test hay (Some k) first = sym (list_any_at test hay k 0 first.0.high first.1)
+some_found test hay (Some k) first = grind (arith, list_any_at)
 
 pub front_tells : (test : ℕ → Bool) (text : List ℕ) (k : ℕ) → list_any test (take k text) ≡ true
     → list_any test text ≡ true
@@ -121,16 +119,11 @@ pub known_next : (name : List ℕ) (tracker : GroupTracker) (line : LineValue) (
     → lines ≡ line ∷ rest → captured_ahead name tracker lines ≡ known
     → IfSome (then_some (not (is_group line)) known)
     (λ ahead. captured_ahead name (step name tracker line) rest ≡ ahead)
-known_next name tracker line lines rest known next is = elim (cases_Bool (is_group line)) [
-  | inl group ↦ rw group tt
-  | inr other ↦ rw other (rw (next, other) at is)
-]
+known_next name tracker line lines rest known next is = grind (arith, cases_Bool)
 
 begun_next : (all : List LineValue) (position : ℕ) (line : LineValue) → slice_get all position ≡ Some line
     → list_any is_agent (take (position + 1) all) ≡ (list_any is_agent (take position all) || is_agent line)
-begun_next all position line at =
-    rw (add-one, any_next is_agent all position, at)
-    (or_comm (is_agent line) (list_any is_agent (take position all)))
+begun_next all position line at = grind (arith, any_next, or_comm)
 
 labels_left : (name : List ℕ) (all : List LineValue) (tracker : GroupTracker) (position : ℕ)
     (bodies : List (List ℕ))
@@ -155,9 +148,7 @@ labels_are name bodies =
 own_if : (number : ℕ) (captured begun : Bool) (found : Option Rule)
     → cond captured (placed number found) None
     ≡ placed number (cond (is_own (cond captured Own (cond begun Other Ungrouped))) found None)
-own_if number true begun found = refl
-own_if number false true found = refl
-own_if number false false found = refl
+own_if number captured begun found = grind arith
 
 own_left : (name : List ℕ) (tracker : GroupTracker) (before : Bool) (position : ℕ) (bodies : List (List ℕ))
     → from_captured placed_in name tracker position (map line_of bodies)
@@ -179,11 +170,7 @@ own_left name tracker before position (body ∷ bodies) =
 
 pub own_rules : (agent : List ℕ) (bodies : List (List ℕ)) → (let lines = map line_of bodies in
     placed_rules agent lines ≡ filter_map own_rule_at (labels_of (group_name agent lines) bodies))
-own_rules agent bodies =
-    let lines = map line_of bodies in
-    let name = group_name agent lines in
-    captured_walked placed_in name lines ∙ own_left name (start_of lines) false 0 bodies
-    ∙ ap (filter_map own_rule_at) (sym (labels_are name bodies))
+own_rules agent bodies = grind (arith, captured_walked, labels_are, own_left)
 
 -- ---- Each line has the membership that the specification states by indices of lines.
 
@@ -202,8 +189,7 @@ named_agent name (line ∷ lines) zero h = h
 named_agent name (line ∷ lines) (suc k) h = named_agent name lines k h
 
 and_given : {P Q : Type 0} (x y : Bool) → Decides x P → (P → Decides y Q) → Decides (x && y) (P × Q)
-and_given true y first second = (λ h. (first.0 refl, (second (first.0 refl)).0 h), λ (p, q). (second p).1 q)
-and_given false y first second = (λ h. cc, λ (p, q). first.1 p)
+and_given x y first second = grind arith
 
 pub record IsNext (lines : List LineValue) (position next : ℕ) : Type 0 where
   pub from : position ≤ next
@@ -238,16 +224,7 @@ module _ (name : List ℕ) (lines : List LineValue) (position next : ℕ) (is : 
 
   module _ (agent : passes_at is_agent lines position ≡ true) where
     agent_before : position < next
-    agent_before = elim (cases_lt position next) [
-      | inl less ↦ less
-      | inr more ↦
-          let from = is.from in
-          let same : next ≡ position = omega arith in
-          elim is.stop [
-            | inl group ↦ absurd (not_both lines position agent (rw same at group))
-            | inr past ↦ absurd (omega (arith, within is_agent lines position agent))
-          ]
-    ]
+    agent_before = grind (arith, cases_lt, not_both, within)
 
     run_named : IsCaptured name lines next → NamedInRun
     run_named (inl none) = absurd (none position agent)
@@ -273,35 +250,13 @@ module _ (name : List ℕ) (lines : List LineValue) (position next : ℕ) (is : 
 
     named_before : (j : ℕ) → passes_at (is_agent_named name) lines j ≡ true → AreOneRun lines position j
         → j < next
-    named_before j named run = elim is.stop [
-      | inl group ↦
-          let first = agent_before in
-          elim (run next group) [
-            | inl before ↦ absurd (omega (
-              arith,
-              before.0,
-            ))
-            | inr following ↦ following.1
-          ]
-      | inr past ↦ let less = within _ lines j named in omega arith
-    ]
+    named_before j named run = grind (arith, agent_before, within)
 
     named_captures : NamedInRun → IsCaptured name lines next
-    named_captures (j, named, run) = inr (
-      j,
-      named_before j named run,
-      named,
-      λ (k, l, jk, kl, ln, group, other). elim (run k group) [
-        | inl before ↦ omega (arith, before.1)
-        | inr following ↦ is.none k (let less = following.0 in omega arith) (omega arith) group
-      ],
-    )
+    named_captures (j, named, run) = grind (arith, named_before)
 
   group_stops : passes_at is_group lines position ≡ true → next ≡ position
-  group_stops group = elim (cases_lt position next) [
-    | inl less ↦ absurd (is.none position (omega arith) less group)
-    | inr more ↦ let from = is.from in omega arith
-  ]
+  group_stops group = grind (arith, cases_lt)
 
 module _ (name : List ℕ) (lines : List LineValue) (position : ℕ) (line : LineValue)
     (at : slice_get lines position ≡ Some line) where
@@ -333,35 +288,22 @@ module _ (name : List ℕ) (lines : List LineValue) (position : ℕ) (line : Lin
   in_group_decides : Decides ((is_agent line || is_group line) && list_any is_agent
       (take (position + 1) lines))
       (IsInGroup lines position)
-  in_group_decides = Decides-at _ _
-      (rw (add-one, any_next is_agent lines position, at)
-      (sym (or-and_distrib_left (is_agent line) (is_group line) (list_any is_agent (take position lines)))))
-      (Decides-or _ _ (itself (passes_at is_agent lines position))
-      (Decides-like _ (λ (group, (j, less, agent)). (group, j, less, agent))
-      (λ (group, j, less, agent). (group, (j, less, agent)))
-      (Decides-and _ _ (itself (passes_at is_group lines position)) (taken_decides is_agent lines position))))
+  in_group_decides = grind (arith, any_next, itself, or-and_distrib_left, taken_decides)
 
   occurs_by : (own some : Bool) → Decides own (IsInOwnGroup name lines position)
       → Decides some (IsInGroup lines position)
       → HasMembership name lines position (cond own Own (cond some Other Ungrouped))
-  occurs_by true some is begun = is.0 refl
-  occurs_by false true is begun = (not_from_Decides _ is refl, begun.0 refl)
-  occurs_by false false is begun = (not_from_Decides _ is refl, not_from_Decides _ begun refl)
+  occurs_by own some is begun = grind (arith, not_from_Decides)
 
   only_by : (own some : Bool) (membership : Membership) → Decides own (IsInOwnGroup name lines position)
       → Decides some (IsInGroup lines position) → HasMembership name lines position membership
       → membership ≡ cond own Own (cond some Other Ungrouped)
-  only_by own some Own is begun splits = rw (is.1 splits) refl
-  only_by own some Other is begun (isnt, among) =
-      rw (false_from_ne_true own (λ h. isnt (is.0 h)), begun.1 among) refl
-  only_by own some Ungrouped is begun (isnt, none) =
-      rw (false_from_ne_true own (λ h. isnt (is.0 h)), false_from_ne_true some (λ h. none (begun.0 h))) refl
+  only_by own some membership is begun splits = grind (arith, false_from_ne_true)
 
   by_tests : (kind captured begun : Bool)
       → cond (not kind) Ungrouped (cond captured Own (cond begun Other Ungrouped))
       ≡ cond (kind && captured) Own (cond (kind && begun) Other Ungrouped)
-  by_tests true captured begun = refl
-  by_tests false captured begun = refl
+  by_tests kind captured begun = grind arith
 
   occurs_so : HasMembership name lines position (membership_of name lines (position, line))
   occurs_so = rw by_tests (occurs_by _ _ own_decides in_group_decides)
@@ -383,9 +325,7 @@ module _ (name : List ℕ) (all : List LineValue) where
       → (lines_in (left_from position bodies) ≡ map line_of bodies)
       × (bodies_in (left_from position bodies) ≡ bodies)
   left_lines position [] = (refl, refl)
-  left_lines position (body ∷ bodies) =
-      let (lines, same) = left_lines (position + 1) bodies in
-      (ap (λ (rest : List LineValue). line_of body ∷ rest) lines, ap (λ rest. body ∷ rest) same)
+  left_lines position (body ∷ bodies) = grind (arith, left_lines (position + 1) bodies)
 
   left_each : (position : ℕ) (bodies : List (List ℕ)) → drop position all ≡ map line_of bodies
       → (k : ℕ) (label : Label)

@@ -1,7 +1,7 @@
 -- The index of the first byte that passes a test, as vectors find it.
 use Rattle.std.proofs.Common.{◌≡◌, ℕ, zero, suc, ◌+◌, ◌-◌, ◌*◌, ◌%◌, ◌^◌, ◌<◌, ◌≤◌, ◌==◌, ◌||◌, Bool, true}
 use Rattle.std.proofs.Common.{false, not, List, [], ◌∷◌, length, take, drop, map, sym, refl, ap, ◌∙◌, arith}
-use Rattle.std.proofs.Common.{subst, cond, if◌then◌else◌, bit_or, inl, inr, Option, Some, None}
+use Rattle.std.proofs.Common.{cond, if◌then◌else◌, bit_or, inl, inr, Option}
 use Rattle.std.specs.List.{list_all, list_any, position_or_len, prefix_len}
 use Rattle.std.specs.Int.{trailing_zeros, w64}
 use Rattle.std.proofs.lemmas.Bool.{cases_Bool, cases_eq, cases_lt, cond-true, cond-false, eq-eqb, ne_eqb}
@@ -11,7 +11,6 @@ use Rattle.std.proofs.lemmas.List.{take_all, take_rest, Folds.prefix_len-append,
 use Rattle.std.proofs.lemmas.Simd.{first_set_mask_l, length-zip2, map-map, mask_l-mod, tops_compared}
 use lib.Lanes.{mask_l, top, zip2}
 use mir.Syntax.{w8}
-use native.Mathlib.Nat.{two-pow-succ}
 use std.Path.{fun_ext}
 use Rattle.std.specs.{Option.unwrap_or}
 use Rattle.memchr.specs.{Find.IsFirstByte}
@@ -69,35 +68,23 @@ module _ (test : ℕ → Bool) (text : List ℕ) where
       ]
 
   pub within_front : (k : ℕ) → position_or_len test (take k text) ≤ k
-  within_front k =
-      let most = prefix_len-le-length (λ b. not (test b)) (take k text) in
-      omega (arith, length-take k text)
+  within_front k = grind (arith, length-take, prefix_len-le-length)
 
   pub found_or_end : (found : Option ℕ) → IsFirstByte test text found
       → unwrap_or found (length text) ≡ position_or_len test text
-  found_or_end None none = sym (end_is test text none)
-  found_or_end (Some k) first = sym (position_is test text k first.0 first.1)
+  found_or_end found none = grind (arith, end_is, position_is)
 
 pub all_seen : (test : ℕ → Bool) (k : ℕ) (text : List ℕ) → k ≤ length text
     → list_all test (take k text) ≡ true → prefix_len test text ≡ k + prefix_len test (drop k text)
 all_seen test zero text within all = omega arith
 all_seen test (suc k) [] within all = absurd (omega (arith, within))
-all_seen test (suc k) (b ∷ text) within all = elim (cases_Bool (test b)) [
-  | inl is ↦ rw is (omega (arith, all_seen test k text (omega (arith, within)) (rw is at all)))
-  | inr other ↦ let wrong = rw other at all in cc
-]
+all_seen test (suc k) (b ∷ text) within all = grind (arith, cases_Bool, all_seen test k text)
 
 abbrev flag : ℕ → ℕ
 flag b = bit_or (cond (b == star) 255 0) (cond (b == dollar) 255 0)
 
 label_is : (b : ℕ) → top 7 (flag b) ≡ is_wildcard b
-label_is b = labeled_by (b == star) (b == dollar)
-  where
-    labeled_by : (x y : Bool) → top 7 (bit_or (cond x 255 0) (cond y 255 0)) ≡ (x || y)
-    labeled_by true true = refl
-    labeled_by true false = refl
-    labeled_by false true = refl
-    labeled_by false false = refl
+label_is b = grind arith
 
 pub first_wildcard_lane : (width : ℕ) (v lanes : List ℕ) → width ≤ 64 → length v ≡ width
     → lanes ≡ map flag v
@@ -132,35 +119,17 @@ escape_lane b = bit_or (bit_or (bit_or (bit_or (bit_or (lane (ltb b 0x21)) (lane
     (lane (b == 0x3C))) (lane (b == 0x3E))) (lane (b == 0x60))) (lane (ltb 0x7E b))
 
 joined : (x y : Bool) → bit_or (lane x) (lane y) ≡ lane (x || y)
-joined true true = refl
-joined true false = refl
-joined false true = refl
-joined false false = refl
+joined x y = grind arith
 
 regrouped : (u v w x y z : Bool) → (((((u || v) || w) || x) || y) || z) ≡ (u || v || w || x || y || z)
-regrouped true v w x y z = refl
-regrouped false true w x y z = refl
-regrouped false false true x y z = refl
-regrouped false false false true y z = refl
-regrouped false false false false true z = refl
-regrouped false false false false false z = refl
+regrouped u v w x y z = grind arith
 
 top_lane : (x : Bool) → top 7 (lane x) ≡ x
 top_lane true = refl
 top_lane false = refl
 
 escape_lane_is : (b : ℕ) → top 7 (escape_lane b) ≡ is_escaped b
-escape_lane_is b =
-    let u = ltb b 0x21 in let v = b == 0x22 in let w = b == 0x3C in let x = b == 0x3E in let y = b == 0x60 in
-    let z = ltb 0x7E b in
-    rw (
-      joined u v,
-      joined (u || v) w,
-      joined ((u || v) || w) x,
-      joined (((u || v) || w) || x) y,
-      joined ((((u || v) || w) || x) || y) z,
-    )
-    (top_lane (((((u || v) || w) || x) || y) || z) ∙ regrouped u v w x y z)
+escape_lane_is b = grind (arith, joined, regrouped, top_lane)
 
 pub escaped_lane : (v lanes : List ℕ) → length v ≤ 64 → lanes ≡ map escape_lane v
     → not (mask_l (map (top 7) lanes) % 2 ^ 64 == 0) ≡ list_any is_escaped v
@@ -173,16 +142,7 @@ module _ where
   ones [] [] long full = refl
   ones [] (y ∷ ys) long full = absurd (omega arith)
   ones (x ∷ xs) [] long full = absurd (omega arith)
-  ones (x ∷ xs) (y ∷ ys) long full =
-      let first = λ (b : Bool). cond b 1 0 + 2 * mask_l (zip2 eqb xs ys) + 1 ≡ 2 ^ suc (length xs) in
-      elim (cases_eq x y) [
-        | inl same ↦
-            let full = subst first (eq-eqb x y same) full in
-            rw (same, ones xs ys (omega (arith, long)) (omega (arith, full, two-pow-succ (length xs)))) refl
-        | inr other ↦
-            let full = subst first (ne_eqb x y other) full in
-            absurd (omega (arith, full, two-pow-succ (length xs)))
-      ]
+  ones (x ∷ xs) (y ∷ ys) long full = grind (arith, cases_eq, eq-eqb, ne_eqb, ones xs ys)
 
   pub same_lanes : (xs ys : List ℕ) → length xs ≡ 8 → length ys ≡ 8
       → mask_l (map (top 7) (zip2 (λ a b. cond (eqb a b) 255 0) xs ys)) % 2 ^ 64 ≡ 255 → xs ≡ ys

@@ -3,11 +3,11 @@ use Rattle.std.proofs.Common.{◌≡◌, ◌↔◌, inl, inr, ℕ, suc, ◌+◌,
 use Rattle.std.proofs.Common.{Option, None, length, drop, filter, cond, codes, zero-add, add-zero, arith, sym}
 use Rattle.std.proofs.Common.{refl, ap, ◌∙◌, subst}
 use Rattle.std.specs.{List.Any, List.cons_option, List.filter_map, List.list_any, Str.str_to_ascii_lowercase}
-use Rattle.std.proofs.lemmas.Bool.{cases_Bool, false≢true, false_from_ne_true}
+use Rattle.std.proofs.lemmas.Bool.{cases_Bool, false_from_ne_true}
 use Rattle.std.proofs.{lemmas.List.Elements.filter_map-append, lemmas.List.Folds.list_any-append}
 use Rattle.texting_robots.specs.{declared.groups.GroupTracker.GroupTracker, Rules.Rule, Pattern.IsOverlong}
 use Rattle.texting_robots.specs.{Verdict.IsVerdict, Laws.IsSameKind, Laws.Same, Laws.SameButSitemaps}
-use Rattle.texting_robots.specs.Line.{LineValue, Allow, Disallow, Sitemap, CrawlDelay, Raw, delay_in, is_raw}
+use Rattle.texting_robots.specs.Line.{LineValue, delay_in, is_raw}
 use Rattle.texting_robots.specs.Line.{is_sitemap}
 use Rattle.texting_robots.specs.Group.{group_name, is_agent, is_agent_named, is_group, IsCaptured}
 use Rattle.texting_robots.specs.Executable.{delay_for, rule_in, rules_for, sitemap_in, sitemaps_in}
@@ -77,22 +77,16 @@ pub record IsNeutral (line : LineValue) : Type 0 where
   pub group : is_group line ≡ false
 
 no_rule : (line : LineValue) → is_group line ≡ false → rule_in line ≡ None
-no_rule (Allow value) isnt = absurd (false≢true (sym isnt))
-no_rule (Disallow value) isnt = absurd (false≢true (sym isnt))
-no_rule _ isnt = refl
+no_rule line h = grind arith
 
 no_delay : (line : LineValue) → is_group line ≡ false → delay_in line ≡ None
-no_delay (CrawlDelay delay) isnt = absurd (false≢true (sym isnt))
-no_delay _ isnt = refl
+no_delay line h = grind arith
 
 found_kept : {X : Type 0} (given : LineValue → Option X) (keep : LineValue → Bool)
     → ((line : LineValue) → keep line ≡ false → given line ≡ None) → (lines : List LineValue)
     → filter_map given lines ≡ filter_map given (filter keep lines)
 found_kept given keep drops [] = refl
-found_kept given keep drops (line ∷ lines) = elim (cases_Bool (keep line)) [
-  | inl keeps ↦ rw keeps (ap (cons_option (given line)) (found_kept given keep drops lines))
-  | inr dropped ↦ rw (dropped, drops line dropped) (found_kept given keep drops lines)
-]
+found_kept given keep drops (line ∷ lines) = grind (arith, cases_Bool, found_kept given keep drops lines)
 
 module _ (keep : LineValue → Bool)
     (neutral : (line : LineValue) → keep line ≡ false → IsNeutral line) where
@@ -100,43 +94,27 @@ module _ (keep : LineValue → Bool)
       → ((line : LineValue) → is_agent line ≡ false → test line ≡ false)
       → (lines : List LineValue) → list_any test lines ≡ list_any test (filter keep lines)
   any_kept test drops [] = refl
-  any_kept test drops (line ∷ lines) = elim (cases_Bool (keep line)) [
-    | inl keeps ↦ rw keeps (ap (λ b. test line || b) (any_kept test drops lines))
-    | inr dropped ↦ rw (dropped, drops line (neutral line dropped).agent) (any_kept test drops lines)
-  ]
+  any_kept test drops (line ∷ lines) = grind (arith, cases_Bool, any_kept test drops lines)
 
   captured_kept : {X : Type 0} (given : LineValue → Option X)
       → ((line : LineValue) → is_group line ≡ false → given line ≡ None)
       → (name : List ℕ) (tracker : GroupTracker) (lines : List LineValue)
       → given_captured given name tracker lines ≡ given_captured given name tracker (filter keep lines)
   captured_kept given drops name tracker [] = refl
-  captured_kept {X} given drops name tracker (line ∷ lines) = elim (cases_Bool (keep line)) [
-    | inl keeps ↦ rw keeps (ap (cons_option (cond tracker.captured (given line) None))
-        (captured_kept given drops name (step name tracker line) lines))
-    | inr dropped ↦
-        let is = neutral line dropped in
-        rw (
-          dropped,
-          drops line is.group,
-          cond_same {X = Option X} tracker.captured None,
-          is.agent,
-          is.group,
-          only_agents name line is.agent,
-        ) (captured_kept given drops name tracker lines)
-  ]
+  captured_kept {X} given drops name tracker (line ∷ lines) =
+      grind (
+        arith,
+        cases_Bool,
+        cond_same,
+        only_agents,
+        captured_kept given drops name (step name tracker line) lines,
+        captured_kept given drops name tracker lines,
+      )
 
   before_kept : (lines : List LineValue)
       → filter_map delay_in (before_agent lines) ≡ filter_map delay_in (before_agent (filter keep lines))
   before_kept [] = refl
-  before_kept (line ∷ lines) = elim (cases_Bool (keep line)) [
-    | inl keeps ↦ rw keeps (elim (cases_Bool (is_agent line)) [
-      | inl agent ↦ rw agent refl
-      | inr other ↦ rw other (ap (cons_option (delay_in line)) (before_kept lines))
-    ])
-    | inr dropped ↦
-        let is = neutral line dropped in
-        rw (dropped, is.agent, no_delay line is.group) (before_kept lines)
-  ]
+  before_kept (line ∷ lines) = grind (arith, cases_Bool, no_delay, before_kept lines)
 
   pub same_filtered : (agent : List ℕ) (lines : List LineValue)
       → SameButSitemaps agent lines agent (filter keep lines)
@@ -158,16 +136,13 @@ module _ (keep : LineValue → Bool)
       (one.delay ∙ ap (delay_for agent) same ∙ sym two.delay)
 
 raw_neutral : (line : LineValue) → not (is_raw line) ≡ false → IsNeutral line
-raw_neutral (Raw body) h = record { agent = refl; group = refl }
-raw_neutral _ h = absurd (false≢true (sym h))
+raw_neutral line h = grind arith
 
 raw_no_sitemap : (line : LineValue) → not (is_raw line) ≡ false → sitemap_in line ≡ None
-raw_no_sitemap (Sitemap value) h = absurd (false≢true (sym h))
-raw_no_sitemap _ h = refl
+raw_no_sitemap line h = grind arith
 
 sitemap_neutral : (line : LineValue) → not (is_sitemap line) ≡ false → IsNeutral line
-sitemap_neutral (Sitemap value) h = record { agent = refl; group = refl }
-sitemap_neutral _ h = absurd (false≢true (sym h))
+sitemap_neutral line h = grind arith
 
 pub raw_changes_nothing : (agent : List ℕ) (lines others : List LineValue)
     → filter (λ line. not (is_raw line)) lines ≡ filter (λ line. not (is_raw line)) others
@@ -195,11 +170,7 @@ record IsAlike (line other : LineValue) : Type 0 where
   sitemap : sitemap_in line ≡ sitemap_in other
 
 same_kind : (line other : LineValue) → IsSameKind line other → IsAlike line other
-same_kind (Allow value) (Allow other) same =
-    record { agent = refl; named = λ name. refl; group = refl; delay = refl; sitemap = refl }
-same_kind (Disallow value) (Disallow other) same =
-    record { agent = refl; named = λ name. refl; group = refl; delay = refl; sitemap = refl }
-same_kind line other differ = absurd differ
+same_kind line other same = grind arith
 
 abbrev walked : List ℕ → GroupTracker → List LineValue → GroupTracker
 walked name tracker [] = tracker
@@ -223,18 +194,15 @@ captured_after : {X : Type 0} (given : LineValue → Option X) (name : List ℕ)
     → given_captured given name tracker (front ++ back) ≡ given_captured given name tracker (front ++ others)
 captured_after given name tracker [] back others same = same
 captured_after given name tracker (line ∷ front) back others same =
-    ap (cons_option (cond tracker.captured (given line) None))
-    (captured_after given name (step name tracker line) front back others same)
+    grind (arith, captured_after given name (step name tracker line) front back others same)
 
 before_after : (front back others : List LineValue)
     → filter_map delay_in (before_agent back) ≡ filter_map delay_in (before_agent others)
     → filter_map delay_in (before_agent (front ++ back))
     ≡ filter_map delay_in (before_agent (front ++ others))
 before_after [] back others same = same
-before_after (line ∷ front) back others same = elim (cases_Bool (is_agent line)) [
-  | inl agent ↦ rw agent refl
-  | inr other ↦ rw other (ap (cons_option (delay_in line)) (before_after front back others same))
-]
+before_after (line ∷ front) back others same =
+    grind (arith, cases_Bool, before_after front back others same)
 
 pub uncaptured_reaches_nothing : (agent : List ℕ) (front back : List LineValue) (line other : LineValue)
     → IsSameKind line other

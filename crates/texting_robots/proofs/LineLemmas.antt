@@ -4,7 +4,7 @@ use Rattle.std.proofs.Common.{◌∙◌, ◌≢◌}
 use Rattle.std.proofs.Common.{bytes_eq, append_assoc, append-nil, Option, Some, None, ◌==◌, arith, subst, ◌↔◌}
 use Rattle.std.specs.{List.AllZip, Str.str_to_ascii_lowercase}
 use Rattle.std.proofs.lemmas.Bool.{cases_Bool, cond-true, cond-false, ne_eqb, Decides.eqb_tells}
-use Rattle.texting_robots.specs.{declared.parser.statement.Kind.Kind, Cut.Pair, Cut.lf, Group.is_agent}
+use Rattle.texting_robots.specs.{declared.parser.statement.Kind.Kind, Cut.lf, Group.is_agent}
 use Rattle.texting_robots.specs.{Group.is_agent_named}
 use Rattle.texting_robots.specs.{Delay.IsDelay, Internal.Delay.delay_of, Internal.Statement.colon}
 use Rattle.texting_robots.specs.Executable.{file_bodies, file_lines, parsed}
@@ -31,14 +31,11 @@ line_raw body none = ap (λ s. line_by s body) none
 
 with_delay : (value body : List ℕ) (delay : Option ℕ) → IsDelay value delay
     → IsLineWith kind.CrawlDelay value body (delay_or_raw delay body)
-with_delay value body None names = inr (names, refl)
-with_delay value body (Some delay) names = inl (delay, names, refl)
+with_delay value body delay names = grind arith
 
 is_line_with : (kind : Kind) (value body : List ℕ)
     → IsLineWith kind value body (line_with kind value body)
-is_line_with kind.CrawlDelay value body = with_delay value body (delay_of value) (delay_of_is value)
-is_line_with kind.Disallow [] body = refl
-is_line_with _ value body = refl
+is_line_with kind value body = grind (arith, delay_of_is, with_delay)
 
 only_line_with : (kind : Kind) (value body : List ℕ) (line : LineValue) → IsLineWith kind value body line
     → line ≡ line_with kind value body
@@ -91,12 +88,7 @@ parsed_are_lines text =
 
 pub each_text_has_its_lines : (text : List ℕ) (lines : List LineValue)
     → AreLinesOf lines text ↔ lines ≡ parsed text
-each_text_has_its_lines text lines = (
-  λ is. only_lines lines _ is.each
-      ∙ ap (λ (pairs : List Pair). map line_of (map (λ pair. pair.body) pairs))
-      (only_cut (without_front text) is.pairs is.is_cut),
-  λ same. subst (λ all. AreLinesOf all text) (sym same) (parsed_are_lines text),
-)
+each_text_has_its_lines text lines = grind (arith, only_cut, only_lines, parsed_are_lines)
 
 pub file_bodies_are : (text : List ℕ) (bodies : List (List ℕ)) → bodies ≡ file_bodies text
     → AreFileBodiesOf bodies text
@@ -105,8 +97,7 @@ file_bodies_are text bodies same =
 
 pub lines_of_file_bodies : (text : List ℕ) (bodies : List (List ℕ)) → bodies ≡ file_bodies text
     → AllZip IsLineOf (file_lines text) bodies
-lines_of_file_bodies text bodies same =
-    subst (AllZip IsLineOf (file_lines text)) (sym same) (are_lines (file_bodies text))
+lines_of_file_bodies text bodies same = grind (arith, are_lines)
 
 module _ (body text : List ℕ) (is : text ≡ skip_blanks body) where
   pub line_without_kind : kind_by text ≡ None → line_of body ≡ Raw body
@@ -149,15 +140,7 @@ abbrev IsKindOf : Option Kind → LineValue → Type 0
 IsKindOf kind line = (kind_in line ≡ kind) ⊎ (kind_in line ≡ None)
 
 kind_with_value : (k : Kind) (value body : List ℕ) → IsKindOf (Some k) (line_with k value body)
-kind_with_value kind.UserAgent value body = inl refl
-kind_with_value kind.Sitemap value body = inl refl
-kind_with_value kind.Disallow [] body = inr refl
-kind_with_value kind.CrawlDelay value body = at (delay_of value)
-  where
-    at : (delay : Option ℕ) → IsKindOf (Some kind.CrawlDelay) (delay_or_raw delay body)
-    at None = inr refl
-    at (Some delay) = inl refl
-kind_with_value rest value body = inr refl
+kind_with_value k value body = grind arith
 
 pub kind_is : (body : List ℕ) → IsKindOf (kind_by (skip_blanks body)) (line_of body)
 kind_is body = at (kind_by (skip_blanks body)) refl
@@ -183,9 +166,7 @@ agent_or_raw body by = at (tail_as kind.UserAgent (skip_blanks body)) refl
 
 pub agent_or_other : (found : Option Kind) (line : LineValue) → IsKindOf found line
     → (found ≡ Some kind.UserAgent) ⊎ (is_agent line ≡ false)
-agent_or_other found (UserAgent value) (inl same) = inl (sym same)
-agent_or_other found (UserAgent value) (inr none) = cc
-agent_or_other found _ is = inr refl
+agent_or_other found line is = grind arith
 
 pub other_line : (body : List ℕ) → ¬ (kind_by (skip_blanks body) ≡ Some kind.UserAgent)
     → is_agent (line_of body) ≡ false
@@ -194,15 +175,11 @@ other_line body other =
 
 pub delay_or_other : (found : Option Kind) (line : LineValue) → IsKindOf found line
     → (found ≡ Some kind.CrawlDelay) ⊎ (delay_in line ≡ None)
-delay_or_other found (CrawlDelay delay) (inl same) = inl (sym same)
-delay_or_other found (CrawlDelay delay) (inr none) = cc
-delay_or_other found _ is = inr refl
+delay_or_other found line is = grind arith
 
 pub sitemap_or_other : (found : Option Kind) (line : LineValue) → IsKindOf found line
     → (found ≡ Some kind.Sitemap) ⊎ (is_sitemap line ≡ false)
-sitemap_or_other found (Sitemap value) (inl same) = inl (sym same)
-sitemap_or_other found (Sitemap value) (inr none) = cc
-sitemap_or_other found _ is = inr refl
+sitemap_or_other found line is = grind arith
 
 range_of_range : (part middle whole : List ℕ) → IsRangeOf part middle → IsRangeOf middle whole
     → IsRangeOf part whole
@@ -226,8 +203,7 @@ value_range kind value body s =
     (range_of_range s.tail s.rest body (tail_range s.tail s.rest s.separated) in_rest))
 
 delay_range : (delay : Option ℕ) (body : List ℕ) → HoldsRangeOf (delay_or_raw delay body) body
-delay_range None body = refl
-delay_range (Some delay) body = refl
+delay_range delay body = grind arith
 
 with_range : (kind : Kind) (value body : List ℕ) → IsStatement kind value body
     → HoldsRangeOf (line_with kind value body) body
@@ -237,14 +213,11 @@ with_range kind.CrawlDelay value body s = delay_range (delay_of value) body
 with_range kind value body s = value_range kind value body s
 
 line_range : (body : List ℕ) → IsLineOf (line_of body) body → HoldsRangeOf (line_of body) body
-line_range body (inl (kind, value, is, line_is)) = subst (λ l. HoldsRangeOf l body)
-    (sym (only_line_with kind value body _ line_is)) (with_range kind value body is)
-line_range body (inr (none, line_is)) = subst (λ l. HoldsRangeOf l body) (sym line_is) refl
+line_range body h = grind (arith, only_line_with, with_range)
 
 line_ranges : (bodies : List (List ℕ)) → AllZip HoldsRangeOf (map line_of bodies) bodies
 line_ranges [] = tt
-line_ranges (body ∷ bodies) =
-    (line_range body (is_line body (statement_of body) refl), line_ranges bodies)
+line_ranges (body ∷ bodies) = grind (arith, is_line, line_range, line_ranges bodies)
 
 taken_off : (byte : ℕ) (text : List ℕ) → (taken : List ℕ) × (text ≡ taken ++ without byte text)
 taken_off byte [] = ([], refl)
@@ -254,26 +227,14 @@ taken_off byte (b ∷ text) = elim (cases_Bool (b == byte)) [
 ]
 
 read_other : (byte b : ℕ) → byte ≢ 0 → byte ≢ lf → (nul_as_lf b == byte) ≡ (b == byte)
-read_other byte b some other = elim (eqb_tells b 0) [
-  | inl (is, same) ↦ rw is (ne_eqb lf byte (λ s. other (sym s))
-      ∙ sym (ne_eqb b byte (λ s. some (sym s ∙ same))))
-  | inr (isnt, _) ↦ rw isnt refl
-]
+read_other byte b some other = grind (arith, eqb_tells, ne_eqb)
 
 without_read : (byte : ℕ) (text : List ℕ) → byte ≢ 0 → byte ≢ lf
     → map nul_as_lf (without byte text) ≡ without byte (map nul_as_lf text)
-without_read byte [] some other = refl
-without_read byte (b ∷ text) some other = elim (cases_Bool (b == byte)) [
-  | inl is ↦ rw (is, read_other byte b some other, is) refl
-  | inr isnt ↦ rw (isnt, read_other byte b some other, isnt) refl
-]
+without_read byte text some other = grind (arith, read_other)
 
 pub front_read : (text : List ℕ) → map nul_as_lf (without_front text) ≡ without_front (map nul_as_lf text)
-front_read text =
-    let one = without 0xEF text in
-    without_read 0xBF (without 0xBB one) (λ e. omega arith) (λ e. omega arith)
-    ∙ ap (without 0xBF) (without_read 0xBB one (λ e. omega arith) (λ e. omega arith)
-    ∙ ap (without 0xBB) (without_read 0xEF text (λ e. omega arith) (λ e. omega arith)))
+front_read text = grind (arith, without_read)
 
 pub front_is_end : (text : List ℕ) → (taken : List ℕ) × (text ≡ taken ++ without_front text)
 front_is_end text =
@@ -298,10 +259,10 @@ parsed_ranges text =
 
 pub lines_range : (text : List ℕ) (lines : List LineValue) → lines ≡ parsed text
     → HoldRangesOf lines text
-lines_range text lines same = subst (λ all. HoldRangesOf all text) (sym same) (parsed_ranges text)
+lines_range text lines same = grind (arith, parsed_ranges)
 
 pub lines_are : (text : List ℕ) (lines : List LineValue) → lines ≡ parsed text → AreLinesOf lines text
-lines_are text lines same = subst (λ all. AreLinesOf all text) (sym same) (parsed_are_lines text)
+lines_are text lines same = grind (arith, parsed_are_lines)
 
 pub parse_takes_all : (text : List ℕ) → (lines : List LineValue)
     × AreLinesOf lines text × HoldRangesOf lines text

@@ -1,7 +1,7 @@
 -- The rules that lines hold, and what follows from them.
 use Rattle.std.proofs.Common.{◌≡◌, ◌≢◌, ◌⊎◌, inl, inr, ℕ, suc, ◌+◌, ◌<◌, Bool, cond, List, [], ◌∷◌, Option}
 use Rattle.std.proofs.Common.{Some, None, AllPairs, IsPermutation, get_or, length, refl, sym, ap, subst, ◌∙◌}
-use Rattle.std.proofs.Common.{◌↔◌, arith, swap, ◌*◌, true, false, Result, Ok, Err, map, take}
+use Rattle.std.proofs.Common.{◌↔◌, arith, swap, ◌*◌, true, Result, Ok, Err, map, take}
 use Rattle.std.specs.{List.All, List.Any, List.Contains, List.cons_option, Result.IsErrAnd}
 use Rattle.std.proofs.{lemmas.Bool.cases_eq, lemmas.List.Kept.AllPairs-cons, lemmas.List.nil_from_length}
 use Rattle.std.proofs.{lemmas.List.Elements.Contains-get_or}
@@ -9,11 +9,11 @@ use Rattle.std.proofs.lemmas.List.Edits.{Swapped, swapped_from_swap, length-swap
 use Rattle.std.proofs.lemmas.List.Sorted.{IsPermutation-cons, IsPermutation-keeps, IsPermutation-refl}
 use Rattle.std.proofs.lemmas.List.Sorted.{IsPermutation-remove, IsPermutation-sym, IsPermutation-trans}
 use Rattle.std.proofs.lemmas.List.Sorted.{length_permutation, sum_by-IsPermutation}
-use Rattle.texting_robots.specs.Executable.{placed_in, placed_rules, rule_in, rules_for, delay_for}
+use Rattle.texting_robots.specs.Executable.{placed_in, placed_rules, rules_for, delay_for}
 use Rattle.texting_robots.specs.Executable.{file_lines, lines_read, sitemaps_in}
 use Rattle.texting_robots.specs.Rules.{PlacedRule, Rule, AreRulesFor, IsRejected, AreSitemapsOf, HoldsRule}
 use Rattle.texting_robots.specs.Rules.{HasNoRulesOrSitemaps, IsFirstOverlong, IsDelayFor, unplaced}
-use Rattle.texting_robots.specs.Line.{LineValue, AreFileLinesOf, HasLines, Allow, Disallow, nul_as_lf}
+use Rattle.texting_robots.specs.Line.{LineValue, AreFileLinesOf, HasLines, nul_as_lf}
 use Rattle.texting_robots.specs.{Error.IsMemoryErrorOr, MainTheorem.IsAnswerOf, Robot.IsFileRejected}
 use Rattle.texting_robots.specs.{Group.group_name, Pattern.IsOverlong, Verdict.IsVerdict, View.LooksAtMost}
 use Rattle.texting_robots.specs.{Internal.Captured.is_captured, Internal.Group.placed, View.ViewValue}
@@ -35,10 +35,7 @@ AreApart rules = AllPairs (λ (one other : PlacedRule). one.line ≢ other.line)
 
 one_position : (rules : List PlacedRule) → AreApart rules → (i j : ℕ) (d : PlacedRule) → i < length rules
     → j < length rules → (get_or rules i d).line ≡ (get_or rules j d).line → i ≡ j
-one_position rules apart i j d p q same =
-    let not_below : i < j → ⊥ = λ less. apart i j d less q same in
-    let not_above : j < i → ⊥ = λ less. apart j i d less p (sym same) in
-    omega arith
+one_position rules apart i j d p q same = grind arith
 
 -- `k` is the index from which swapping `a` and `b` moved the item at `m`
 abbrev From : ℕ → ℕ → ℕ → ℕ → Type 0
@@ -48,7 +45,7 @@ From a b m k =
 origin : {X : Type 0} (f g : ℕ → X) (a b m : ℕ) → Swapped f g a b → (m ≡ a) ⊎ (m ≢ a)
     → (m ≡ b) ⊎ (m ≢ b) → (k : ℕ) × From a b m k × (g m ≡ f k)
 origin f g a b m s (inl e) y = (b, inl (e, refl), ap g e ∙ s.0)
-origin f g a b m s (inr n) (inl e) = (a, inr (inl (e, refl)), ap g e ∙ s.1)
+origin f g a b m s (inr n) (inl e) = grind arith
 origin f g a b m s (inr n) (inr o) = (m, inr (inr (n, o, refl)), s.2 m n o)
 
 apart_swapped : (rules : List PlacedRule) (a b : ℕ) → a < length rules → b < length rules
@@ -116,11 +113,7 @@ same_members (first ∷ rules) others one two same =
 
 given_number : (passes : Bool) (position : ℕ) (line : LineValue) (found : PlacedRule)
     → cond passes (placed_in (position, line)) None ≡ Some found → found.line ≡ position + 1
-given_number passes position line found is = at (rule_in line) ((cond_given passes _ found).0 is).1
-  where
-    at : (rule : Option Rule) → placed (position + 1) rule ≡ Some found → found.line ≡ position + 1
-    at None is = cc
-    at (Some rule) is = cc
+given_number passes position line found is = grind (arith, cond_given)
 
 apart_with : (first : Option PlacedRule) (rules : List PlacedRule)
     → ((found : PlacedRule) → first ≡ Some found
@@ -133,7 +126,7 @@ apart_with (Some found) rules differs apart =
 
 rules_apart : (test : ℕ → Bool) (n : ℕ) (lines : List LineValue)
     → AreApart (given_from placed_in test n lines)
-rules_apart test n [] = λ i j d less within. absurd (omega arith)
+rules_apart test n [] = grind arith
 rules_apart test n (line ∷ lines) =
     let rules = given_from placed_in test (n + 1) lines in
     rw (kept_next (test n) placed_in (n, line)) (apart_with _ rules (λ found is k d below same.
@@ -169,10 +162,7 @@ permuted_are agent lines rules others moved are = record {
 
 pub rules_are_computed : (agent : List ℕ) (lines : List LineValue) (rules : List PlacedRule)
     → AreRulesFor agent lines rules ↔ IsPermutation (placed_rules agent lines) rules
-rules_are_computed agent lines rules = (
-  λ are. one_list agent lines _ rules (computed_are agent lines) are,
-  λ moved. permuted_are agent lines _ rules moved (computed_are agent lines),
-)
+rules_are_computed agent lines rules = search (rules, computed_are, one_list, permuted_are)
 
 pub rejection_is_computed : (agent : List ℕ) (lines : List LineValue)
     → IsRejected agent lines ↔ Any (λ (rule : Rule). IsOverlong rule.0) (rules_for agent lines)
@@ -218,13 +208,11 @@ permuted_alike rules others moved =
 
 pub answer_alike : (agent : List ℕ) (lines : List LineValue) (rules others : List PlacedRule)
     → AreRulesFor agent lines rules → AreRulesFor agent lines others → AnswerAlike rules others
-answer_alike agent lines rules others are have =
-    permuted_alike rules others (one_list agent lines rules others are have)
+answer_alike agent lines rules others are have = search (rules, one_list, permuted_alike)
 
 pub answers_computed : (agent : List ℕ) (lines : List LineValue) (rules : List PlacedRule)
     → AreRulesFor agent lines rules → AnswerAlike rules (placed_rules agent lines)
-answers_computed agent lines rules are =
-    answer_alike agent lines rules (placed_rules agent lines) are (computed_are agent lines)
+answers_computed agent lines rules are = search (rules, answer_alike, computed_are)
 
 pub lines_are_read : (file : List ℕ) → AreFileLinesOf (lines_read file) (take file_limit file)
 lines_are_read file = (each_text_has_its_lines (map nul_as_lf (take file_limit file)) _).1 refl
@@ -253,7 +241,7 @@ read_delay agent file delay (lines, are, is) =
     ((delay_is_computed agent lines delay).0 is)
 
 pub has_lines : (file : List ℕ) (P : List LineValue → Type 0) → P (file_lines file) → HasLines file P
-has_lines file P is = (file_lines file, (each_text_has_its_lines (map nul_as_lf file) _).1 refl, is)
+has_lines file P is = grind (arith, each_text_has_its_lines)
 
 pub robot_of : (agent file : List ℕ) (robot : RobotValue) → IsComputedRobot agent (file_lines file) robot
     → IsRobotOfFile agent file robot
@@ -296,7 +284,7 @@ nothing_of agent file (lines, are, (rules, sitemaps)) =
     (no_rules_of agent file (lines, are, rules), sym (sitemaps_of file [] (lines, are, sitemaps)))
 
 no_looks : (view : ViewValue) (n : ℕ) → LooksAtMost view view n
-no_looks view n = record { text = refl; looks = omega arith; cost = omega arith }
+no_looks view n = grind arith
 
 pub answered : (agent : List ℕ) (lines : List LineValue) (rules : List PlacedRule) (robot : RobotValue)
     (old new : ViewValue) (answer : Bool) → IsRobotOf agent lines robot → AreRulesFor agent lines rules
@@ -336,15 +324,7 @@ deciding_line_holds_its_rule agent lines rules text number are (differs, found, 
 
 one_kind : (agent : List ℕ) (lines : List LineValue) (position : ℕ) (rule other : Rule)
     → HoldsRule agent lines position rule → HoldsRule agent lines position other → rule.1 ≡ other.1
-one_kind agent lines position rule other one two = kinds rule.1 other.1 (sym one.line.0 ∙ two.line.0)
-  where
-    kinds : (a b : Bool)
-        → ◌≡◌ {A = Option LineValue} (Some (cond a (Allow one.value) (Disallow one.value)))
-        (Some (cond b (Allow two.value) (Disallow two.value))) → a ≡ b
-    kinds true true same = refl
-    kinds true false same = cc
-    kinds false true same = cc
-    kinds false false same = refl
+one_kind agent lines position rule other one two = grind arith
 
 pub line_gives_verdict : (agent : List ℕ) (lines : List LineValue) (rules : List PlacedRule)
     (text : List ℕ) (position : ℕ) (rule : Rule) → AreRulesFor agent lines rules
@@ -358,5 +338,4 @@ line_gives_verdict agent lines rules text position rule are (differs, found, dec
 
 pub no_line_allows : (rules : List PlacedRule) (text : List ℕ) → IsDecidingLine rules text None
     → IsVerdict (unplaced rules) text true
-no_line_allows rules text (inl file) = λ denied. denied.0 file
-no_line_allows rules text (inr none) = none_denies rules text none
+no_line_allows rules text h = grind (arith, none_denies)

@@ -1,13 +1,13 @@
 -- Escaping, and absolute URLs in normal form.
 use Rattle.std.proofs.Common.{IsAscii, List, drop_at, take_at, append_assoc, decimal, option_map, slice_index}
-use Rattle.std.proofs.Common.{false, [], arith, length, get_or, subst, ⊎_elim, Option, codes, nat_lt, one-add}
+use Rattle.std.proofs.Common.{false, [], arith, length, get_or, subst, Option, codes, nat_lt, one-add}
 use Rattle.std.proofs.Common.{ℕ, ◌++◌, refl, Bool, true, ◌||◌, ◌==◌, drop, None, Some, cond, take, ◌&&◌, zero}
 use Rattle.std.proofs.Common.{◌≡◌, ◌<◌, ◌≤◌, ◌∷◌, ap, inl, inr, not, All, sym, ◌∙◌, ◌≢◌, ◌+◌, ◌^◌, ◌/◌, suc}
 use Rattle.std.specs.List.{list_any, prefix_len}
 use Rattle.std.proofs.{Math.Bool.or-true, Common.take-append-drop, lemmas.Bool.Decides.nat_tests}
 use Rattle.std.proofs.lemmas.Bool.{agree_below_at, cases_Bool, cases_lt, lt-ltb, le-ltb, and_parts, cases_eq}
 use Rattle.std.proofs.lemmas.Bool.{agree_below, cond-true, cond-false, ne_eqb, not-true, eq-eqb}
-use Rattle.std.proofs.lemmas.Str.Ascii.{IsAscii-cons, IsAscii-nil}
+use Rattle.std.proofs.lemmas.Str.Ascii.{IsAscii-nil}
 use Rattle.percent_encoding.specs.{AsciiSet.should_percent_encode, declared.ascii_set.AsciiSet.AsciiSet}
 use Rattle.percent_encoding.specs.Percent.{percent_encode, percent_encode_byte, encode_byte, IsKept}
 use Rattle.texting_robots.specs.{declared.escape.TheConstants.ESCAPED, Prepared.with_delimiter}
@@ -39,10 +39,10 @@ same_ascii b low = agree_below_at (should_percent_encode ESCAPED) is_escaped 128
 
 same_high : (b : ℕ) → 128 ≤ b → should_percent_encode ESCAPED b ≡ is_escaped b
 unfolding should_percent_encode
-same_high b high = rw (le-ltb b 128 high, lt-ltb 0x7E b (omega arith), or-true) refl
+same_high b high = grind (arith, le-ltb, lt-ltb, or-true)
 
 pub same_test : (b : ℕ) → should_percent_encode ESCAPED b ≡ is_escaped b
-same_test b = elim (cases_lt b 128) [ inl low ↦ same_ascii b low | inr high ↦ same_high b high ]
+same_test b = grind (arith, cases_lt, same_ascii, same_high)
 
 same_byte : (b : ℕ) → encode_byte ESCAPED b ≡ escape_byte b
 unfolding percent_encode_byte
@@ -51,29 +51,19 @@ same_byte b = rw (same_test b) refl
 pub same_escape : (bytes : List ℕ) → percent_encode ESCAPED bytes ≡ escaped bytes
 unfolding percent_encode
 same_escape [] = refl
-same_escape (b ∷ bytes) = rw (same_byte b) (ap (λ rest. escape_byte b ++ rest) (same_escape bytes))
+same_escape (b ∷ bytes) = grind (arith, same_byte, same_escape bytes)
 
 pub plain_stays : (bytes : List ℕ) → list_any is_escaped bytes ≡ false
     → escaped bytes ≡ bytes
 plain_stays [] plain = refl
-plain_stays (b ∷ bytes) plain = elim (cases_Bool (is_escaped b)) [
-  | inl escapes ↦ let wrong = rw escapes at plain in cc
-  | inr stays ↦ rw (stays, plain_stays bytes (rw stays at plain)) refl
-]
+plain_stays (b ∷ bytes) plain = grind (arith, cases_Bool, plain_stays bytes)
 
 plain_low : (b : ℕ) → is_escaped b ≡ false → b < 128
-plain_low b stays = elim (cases_lt b 128) [
-  | inl low ↦ low
-  | inr high ↦
-      let wrong = rw (le-ltb b 0x21 (omega arith), lt-ltb 0x7E b (omega arith), or-true) at stays in cc
-]
+plain_low b stays = grind (arith, cases_lt, le-ltb, lt-ltb, or-true)
 
 pub plain_ascii : (bytes : List ℕ) → list_any is_escaped bytes ≡ false → IsAscii bytes
 plain_ascii [] plain = IsAscii-nil
-plain_ascii (b ∷ bytes) plain = elim (cases_Bool (is_escaped b)) [
-  | inl escapes ↦ let wrong = rw escapes at plain in cc
-  | inr stays ↦ IsAscii-cons b bytes (plain_low b stays) (plain_ascii bytes (rw stays at plain))
-]
+plain_ascii (b ∷ bytes) plain = grind (arith, cases_Bool, plain_low, plain_ascii bytes)
 
 -- ---- Reading an absolute URL that `url` would leave unchanged, part by part.
 
@@ -102,7 +92,7 @@ module _ (part : List ℕ) (set : AsciiSet) (other : ℕ → Bool)
 
   pub occurs_all : (xs : List ℕ) → All (IsKept set) xs → All (λ b. other b ≡ false) xs
       → All (Passes (is_kept part)) xs
-  occurs_all xs kept none k d inside = rw (same_at (get_or xs k d), kept k d inside, none k d inside) refl
+  occurs_all xs kept none k d inside = grind (arith, same_at)
 
 -- the leading bytes that are kept, from the first `n`: if all these are kept, the following ones count too
 module _ (part : List ℕ) (n len : ℕ) (text : List ℕ) (inside : n ≤ length text)
@@ -114,8 +104,7 @@ module _ (part : List ℕ) (n len : ℕ) (text : List ℕ) (inside : n ≤ lengt
       rw (take-append-drop, length-take-le n text inside, ← front) at whole
 
   pub after_few : len < n → drop len text ≡ after part text
-  after_few less =
-      ap (λ k. drop k text) (sym (by_front ∙ cond-false _ _ _ (ne_eqb len n (λ e. omega arith))))
+  after_few less = grind (arith, by_front, cond-false, ne_eqb)
 
   pub after_all : n ≤ len → after part (drop n text) ≡ after part text
   after_all all =
@@ -150,19 +139,16 @@ pub past_more : (text : List ℕ) → get_or text 0 0 ≡ 47
     → dot_count (kept_prefix SEGMENT.now (drop 1 text)) ≡ 0
     → past_path text ≡ past_path (after SEGMENT.now (drop 1 text))
 unfolding past_segment
-past_more [] slash resolved = absurd (omega arith)
-past_more (b ∷ text) slash resolved = rw (slash, resolved) (past_rest text)
+past_more text slash resolved = grind (arith, past_rest)
 
 pub past_dots : (text : List ℕ) → get_or text 0 0 ≡ 47
     → dot_count (kept_prefix SEGMENT.now (drop 1 text)) ≢ 0 → past_path text ≡ None
 unfolding past_segment
-past_dots [] slash dots = absurd (omega arith)
-past_dots (b ∷ text) slash dots = rw (slash, ne_eqb _ 0 dots) refl
+past_dots text slash dots = grind (arith, ne_eqb)
 
 pub after_slash : (text : List ℕ) → get_or text 0 0 ≡ 47 → after SEGMENT.now text ≡ text
 unfolding is_kept
-after_slash [] slash = refl
-after_slash (b ∷ text) slash = rw slash refl
+after_slash text slash = grind arith
 
 pub two_dots : (text : List ℕ) → get_or text 0 0 ≡ 46 → get_or text 1 0 ≡ 46
     → get_or text 2 0 ≡ 47
@@ -176,7 +162,7 @@ two_dots (a ∷ b ∷ []) one two slash = absurd (omega arith)
 pub path_read : (n : ℕ) (path text rest : List ℕ) → IsPath path → length text ≤ n
     → past_path text ≡ Some rest → Leaves IsPath (path ++ text) rest
 unfolding is_kept should_percent_encode
-path_read n path [] rest is_path within past = (path, ap (λ t. path ++ t) (same_Some _ _ past), is_path)
+path_read n path [] rest is_path within past = grind (arith, same_Some)
 path_read zero path (b ∷ text) rest is_path within past = absurd (omega arith)
 path_read (suc n) path (b ∷ text) rest is_path within past = elim (cases_eq b 47) [
   | inl slash ↦
@@ -205,12 +191,11 @@ joined_stops : (segments : List (List ℕ)) (rest : List ℕ) → EndsPath rest
     → StopsAt (is_kept SEGMENT.now) (join_segments segments ++ rest)
 unfolding is_kept
 joined_stops [] [] ends = tt
-joined_stops [] (b ∷ rest) ends = ⊎_elim (λ e. rw e refl) (λ e. rw e refl) ends
+joined_stops [] (b ∷ rest) ends = grind arith
 joined_stops (s ∷ segments) rest ends = refl
 
 pub not_ended : (text : List ℕ) → get_or text 0 0 ≡ 47 → ¬ (EndsPath text)
-not_ended [] e ends = omega arith
-not_ended (b ∷ text) e ends = ⊎_elim (λ delimiter. omega arith) (λ delimiter. omega arith) ends
+not_ended text h = grind arith
 
 pub path_left : (text rest : List ℕ) → EndsPath rest → Leaves IsPath text rest
     → past_path text ≡ Some rest
@@ -245,21 +230,12 @@ open_is b = elim (cases_lt b 256) [
 pub undotted : (text : List ℕ) → begins_dotted text ≡ false
     → dot_count (kept_prefix SEGMENT.now text) ≡ 0
 unfolding dot_count
-undotted [] plain = refl
-undotted (b ∷ text) plain = elim (cases_Bool (is_kept SEGMENT.now b)) [
-  | inl inside ↦ rw inside (grind (arith, nat_tests))
-  | inr outside ↦ rw outside refl
-]
+undotted text plain = grind arith
 
 past_one : (b : ℕ) (text : List ℕ) → (b == 47 || is_kept SEGMENT.now b) ≡ true
     → begins_dotted text ≡ false → past_segment (b ∷ text) ≡ past_segment text
 unfolding past_segment
-past_one b text within plain = elim (cases_eq b 47) [
-  | inl slash ↦ rw (slash, undotted text plain) refl
-  | inr other ↦
-      let inside : is_kept SEGMENT.now b ≡ true = rw (ne_eqb b 47 other) at within in
-      rw (ne_eqb b 47 other, inside) refl
-]
+past_one b text within plain = grind (arith, cases_eq, ne_eqb, undotted)
 
 past_open : (n b : ℕ) (text : List ℕ) → n ≤ prefix_len (is_kept OPEN.now) text
     → (b == 47 || is_kept SEGMENT.now b) ≡ true
@@ -276,11 +252,7 @@ past_open (suc n) b (c ∷ text) few within =
 
 closed : (text : List ℕ) → StopsAt (is_kept OPEN.now) text → begins_dotted text ≡ false
     → after SEGMENT.now text ≡ text
-closed [] stops plain = refl
-closed (b ∷ text) stops plain =
-    let is = sym (open_is b) ∙ stops in
-    let none : is_kept SEGMENT.now b ≡ false = grind (arith, nat_tests) in
-    rw none refl
+closed text stops plain = grind (arith, open_is)
 
 -- after the open bytes, either their segment ends or it continues
 pub plain_end : (here plain rest : List ℕ) → get_or here 0 0 ≡ 47
@@ -305,8 +277,7 @@ plain_end (b ∷ text) plain rest slash front back =
 ends_stops : (rest : List ℕ) → EndsSite rest
     → StopsAt (is_kept NAME.now) rest × StopsAt (is_kept NUMBER.now) rest
 unfolding is_kept
-ends_stops [] ends = (tt, tt)
-ends_stops (b ∷ rest) ends = (rw ends refl, rw ends refl)
+ends_stops rest ends = grind arith
 
 number_occurs : (b : ℕ) → IsInRange 48 57 b → Passes (is_kept NUMBER.now) b
 unfolding is_kept
@@ -328,16 +299,13 @@ decimal_read digits port plain parses =
     (omega (arith, read.0.1))) ∙ ap decimal (sym read.1)
 
 pub decimal_plain : (port : ℕ) → port < 2 ^ 16 → begins_plainly (decimal port) ≡ true
-decimal_plain zero small = rw (decimal_digit 0 (omega arith)) refl
-decimal_plain (suc n) small =
-    let first = first_decimal (suc n) (omega arith) (omega arith) in grind (arith, nat_tests)
+decimal_plain port small = grind (arith, decimal_digit, first_decimal)
 
 pub port_left : (own : ℕ) (text rest : List ℕ) → get_or text 0 0 ≡ 58 → EndsSite rest
     → Leaves (IsPort own) text rest
     → IsOther own (kept_prefix NUMBER.now (drop 1 text)) × (after NUMBER.now (drop 1 text) ≡ rest)
 port_left own [] rest colon ends left = absurd (omega arith)
-port_left own (b ∷ text) rest colon ends (part, assembled, (None, written, other)) =
-    absurd (let slash = subst EndsSite (sym (assembled ∙ ap (λ p. p ++ rest) written)) ends in omega arith)
+port_left own (b ∷ text) rest colon ends (part, assembled, (None, written, other)) = grind arith
 port_left own (b ∷ text) rest colon ends (part, assembled, (Some port, written, other)) =
     let whole = ap (drop 1) (assembled ∙ ap (λ p. p ++ rest) written) in
     let digits = All-weaker (IsInRange 48 57) (Passes (is_kept NUMBER.now)) number_occurs (decimal port)

@@ -8,27 +8,22 @@ use Rattle.std.specs.Option.{option_to_list, option_or, IfSome, IsSomeAnd}
 use Rattle.std.proofs.lemmas.List.{append-nil, get_or-map, get_or_at, length-map, Sums.take_while-cons}
 use Rattle.texting_robots.specs.{declared.error.Error.Error, Executable.rule_in, Executable.sitemap_in}
 use Rattle.texting_robots.specs.{Error.IsMemoryErrorOr, Group.is_agent, Group.is_group, Internal.Group.placed}
-use Rattle.texting_robots.specs.Line.{LineValue, Raw, Sitemap, UserAgent, delay_in, is_raw, is_sitemap}
+use Rattle.texting_robots.specs.Line.{LineValue, delay_in, is_raw, is_sitemap}
 use Rattle.texting_robots.specs.{Pattern.IsOverlong}
 use Rattle.texting_robots.specs.Rules.{IsFirstOverlong, PlacedRule, Rule, unplaced}
 use Rattle.texting_robots.proofs.{BestLemmas.placed_of}
 use Rattle.texting_robots.specs.declared.error.Error.TheVariants as mine
 
 pub no_sitemap : (line : LineValue) → is_sitemap line ≡ false → sitemap_in line ≡ None
-no_sitemap (Sitemap value) isnt = cc
-no_sitemap _ isnt = refl
+no_sitemap line h = grind arith
 
 -- a user-agent line gives nothing, and neither does a line that isn't a directive
 pub nothing_in : (line : LineValue) → (is_agent line ≡ true) ⊎ (is_raw line ≡ true)
     → (rule_in line ≡ None) × (sitemap_in line ≡ None) × (delay_in line ≡ None) × (is_group line ≡ false)
-nothing_in (UserAgent value) is = (refl, refl, refl, refl)
-nothing_in (Raw body) is = (refl, refl, refl, refl)
-nothing_in _ (inl is) = cc
-nothing_in _ (inr is) = cc
+nothing_in line is = grind arith
 
 pub rejected_wider : (P Q : Type 0) (e : Error) → (P → Q) → IsMemoryErrorOr P e → IsMemoryErrorOr Q e
-rejected_wider P Q mine.InvalidRule wider is = wider is
-rejected_wider P Q other wider is = is
+rejected_wider P Q e wider is = grind arith
 
 abbrev pub before_agent : List LineValue → List LineValue
 before_agent [] = []
@@ -49,8 +44,7 @@ delay_from last lines =
 
 pub last_more : {X : Type 0} (last o : Option X) (xs : List X)
     → last_or last (cons_option o xs) ≡ last_or (option_or o last) xs
-last_more last None xs = refl
-last_more last (Some x) xs = refl
+last_more last o xs = grind arith
 
 cons_is : {X : Type 0} (o : Option X) (xs : List X) → cons_option o xs ≡ option_to_list o ++ xs
 cons_is None xs = refl
@@ -64,9 +58,7 @@ given_more o xs old new added = rw (added, append_assoc, cons_is o xs) refl
 -- the same for the first result
 pub first_more : {X : Type 0} (o old new : Option X) (xs : List X) → new ≡ option_or old o
     → option_or new (slice_get xs 0) ≡ option_or old (slice_get (cons_option o xs) 0)
-first_more None None new xs added = rw added refl
-first_more (Some x) None new xs added = rw added refl
-first_more o (Some z) new xs added = rw added refl
+first_more o old new xs added = grind arith
 
 pub given_none : {X : Type 0} (o : Option X) (xs old : List X) → old ++ cons_option o xs ≡ []
     → o ≡ None
@@ -80,8 +72,7 @@ all_added P old new None added here before = rw (added, append-nil) before
 all_added P old new (Some x) added here before = rw added (All-push P old x before here)
 
 pub option_or_none : {X : Type 0} (o : Option X) → option_or o None ≡ o
-option_or_none None = refl
-option_or_none (Some x) = refl
+option_or_none o = grind arith
 
 pub any_unplaced : (P : Rule → Type 0) (rules : List PlacedRule) → Any (λ placed. P placed.rule) rules
     → Any P (unplaced rules)
@@ -108,17 +99,7 @@ pub first_overlong : (number : ℕ) (captured : Bool) (rule : Option Rule) (take
     → All (λ (other : PlacedRule). ¬ IsOverlong other.rule.0) taken
     → IsSomeAnd (cond captured (placed number rule) None) (λ (here : PlacedRule). IsOverlong here.rule.0)
     → IsFirstOverlong all number
-first_overlong number false rule taken left all whole accepted is = absurd is
-first_overlong number true None taken left all whole accepted is = absurd is
-first_overlong number true (Some rule) taken left all whole accepted is = record {
-  front = taken;
-  placed = record { rule = rule; line = number };
-  back = left;
-  whole = sym whole;
-  accepted = accepted;
-  overlong = is;
-  line = refl;
-}
+first_overlong number captured rule taken left all whole accepted is = grind arith
 
 pub some_overlong : (rules : List PlacedRule) (number : ℕ) → IsFirstOverlong rules number
     → Any (λ (rule : Rule). IsOverlong rule.0) (unplaced rules)

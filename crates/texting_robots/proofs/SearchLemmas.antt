@@ -1,6 +1,6 @@
 -- Searching for segments in shared vectors: stars, borders and occurrences.
 use Rattle.std.proofs.Common.{◌≡◌, length, slice_range, append_assoc, append-nil, take-append-drop, drop-drop}
-use Rattle.std.proofs.Common.{List, [], ◌++◌, drop, take, arith, ⊎_elim, get_or, subst, subst₂, false, Option}
+use Rattle.std.proofs.Common.{List, [], ◌++◌, drop, take, arith, ⊎_elim, get_or, subst, Option}
 use Rattle.std.proofs.Common.{ℕ, ◌+◌, ◌-◌, ◌∷◌, All, map, refl, sym, ap, ◌∙◌, ◌≢◌, ◌↔◌, ◌<◌, ◌≤◌, Some, None}
 use Rattle.std.proofs.lemmas.{List.drop-append-le, Bool.cases_eq, Bool.cases_lt, Grind.get_or_default_zero}
 use Rattle.std.proofs.lemmas.List.{drop_at, length-append, length-drop, map_push, take-append-le, take_all}
@@ -25,27 +25,16 @@ pub record IsNew {X : Type 0} (old new : List X) (span : Span) : Type 0 where
 
 module _ {X : Type 0} (xs more : List X) (span : Span) where
   part_kept : IsSpan xs span → part_of (xs ++ more) span ≡ part_of xs span
-  part_kept h =
-      let left = length-drop span.start xs in
-      ap (take (span.end - span.start)) (drop-append-le span.start xs more (omega arith))
-      ∙ take-append-le (span.end - span.start) (drop span.start xs) more (omega arith)
+  part_kept h = grind (arith, drop-append-le, length-drop, take-append-le)
 
   span_kept : IsSpan xs span → IsSpan (xs ++ more) span
-  span_kept h =
-      let sizes = length-append xs more in
-      record { ordered = h.ordered; within = omega arith }
+  span_kept h = grind (arith, length-append)
 
   pub part_new : IsNew xs (xs ++ more) span → part_of (xs ++ more) span ≡ more
-  part_new h =
-      let sizes = length-append xs more in
-      let start = h.start in
-      ap (take (span.end - span.start)) (drop_at xs more span.start (sym start))
-      ∙ take_all (span.end - span.start) more (omega arith)
+  part_new h = grind (arith, drop_at, length-append, take_all)
 
   span_new : IsNew xs (xs ++ more) span → IsSpan (xs ++ more) span
-  span_new h =
-      let sizes = length-append xs more in
-      record { ordered = omega arith; within = omega arith }
+  span_new h = grind (arith, length-append)
 
 pub after_old : {X : Type 0} (xs more : List X) (start : ℕ) → start ≡ length xs
     → slice_range (xs ++ more) start (length (xs ++ more)) ≡ more
@@ -63,16 +52,7 @@ module _ (p : List ℕ) (ends : Ends) (segments : List Segment) (borders more : 
       record { span = is.span; fits = omega arith; table = rw stays is.table }
 
   tables_kept : AreSegments p ends segments borders → AreSegments p ends segments (borders ++ more)
-  tables_kept are = record {
-    first = are.first;
-    plain = are.plain;
-    unsearched = are.unsearched;
-    known = All-weaker (IsSegment p borders) (IsSegment p (borders ++ more)) segment_kept segments are.known;
-    ending = are.ending;
-    rest = are.rest;
-    decides = are.decides;
-    left = are.left;
-  }
+  tables_kept are = grind (arith, segment_kept)
 
 module _ (text more_text : List ℕ) (segments more_segments : List Segment)
     (borders more_borders : List ℕ) where
@@ -146,7 +126,7 @@ pub record IsFirstOpen (text segment : List ℕ) (low end position matched : ℕ
   pub closed : (at : ℕ) → low ≤ at → at < position - matched → ¬ Agrees text segment at end
 
 byte_at : (text : List ℕ) {i j : ℕ} → i ≡ j → get_or text i 0 ≡ get_or text j 0
-byte_at text = ap (λ position. get_or text position 0)
+byte_at text = grind arith
 
 -- Where the text agrees with the segment, it agrees `far` bytes later exactly if the segment agrees with
 -- itself there.
@@ -154,14 +134,7 @@ module _ (text segment : List ℕ) (at far there len end : ℕ) where
   agrees_farther : there ≡ at + far → end ≡ at + len → len ≤ length segment
       → Agrees text segment at end
       → Agrees text segment there end ↔ Agrees segment segment far len
-  agrees_farther ahead last fits here = (
-    λ agrees k l m.
-        let read = here (far + k) (omega arith) (omega arith) in
-        sym read ∙ byte_at text (omega arith) ∙ agrees k l (omega arith),
-    λ agrees k l m.
-        let read = here (far + k) (omega arith) (omega arith) in
-        byte_at text (omega arith) ∙ read ∙ agrees k l (omega arith),
-  )
+  agrees_farther ahead last fits here = grind (arith, byte_at)
 
 module _ {text segment : List ℕ} where
   module _ {low end position matched : ℕ} (first : IsFirstOpen text segment low end position matched) where
@@ -174,31 +147,15 @@ module _ {text segment : List ℕ} where
 
     pub open_more : get_or text position 0 ≡ get_or segment matched 0
         → IsFirstOpen text segment low end (position + 1) (matched + 1)
-    open_more next =
-        record {
-          following = omega arith;
-          agrees = λ k l m.
-              ⊎_elim (λ (e : k ≡ matched). byte_at text (omega arith) ∙ next ∙ byte_at segment (sym e))
-              (λ ne. byte_at text (omega arith) ∙ first.agrees k l (omega arith))
-              (cases_eq k matched);
-          closed = λ at from before. first.closed at from (omega arith);
-        }
+    open_more next = grind (arith, byte_at, cases_eq)
 
     module _ (within : position < end) (some : matched < length segment)
         (differs : get_or text position 0 ≢ get_or segment matched 0) where
       closed_here : (at : ℕ) → low ≤ at → at ≤ position - matched → ¬ Agrees text segment at end
-      closed_here at from upto agrees =
-          ⊎_elim (λ before. first.closed at from before agrees)
-          (λ here. differs (byte_at text (omega arith) ∙ agrees matched some (omega arith)))
-          (cases_lt at (position - matched))
+      closed_here at from upto agrees = grind (arith, byte_at, cases_lt)
 
       pub open_next : matched ≡ 0 → IsFirstOpen text segment low end (position + 1) matched
-      open_next none =
-          record {
-            following = omega arith;
-            agrees = λ k l m. absurd (omega arith);
-            closed = λ at from before. closed_here at from (omega arith);
-          }
+      open_next none = grind arith
 
       -- Falling back to the longest border skips no offset where the segment occurs.
       pub open_back : {border : ℕ} → IsLongestBorder segment matched border
@@ -242,24 +199,12 @@ module _ {segment : List ℕ} where
   -- In a search of the segment in itself, the matched bytes are the longest proper border of the bytes read.
   pub longest_border : {len border : ℕ} → IsFirstOpen segment segment 1 len len border
       → IsLongestBorder segment len border
-  longest_border {len} {border} first =
-      record {
-        proper = omega arith;
-        agrees = first.agrees;
-        longest = λ longer more less. first.closed (len - longer) (omega arith) (omega arith);
-      }
+  longest_border {len} {border} first = grind arith
 
   borders_push : (table : List ℕ) (border : ℕ) → AreBorders segment table
       → IsLongestBorder segment (length table + 1) border → AreBorders segment (table ++ border ∷ [])
   borders_push table border known longest len some upto =
-      let pushed = length_push table border in
-      ⊎_elim (λ (last : len ≡ length table + 1).
-      let new = get_or_push table border 0 (len - 1) (omega arith) in
-      subst₂ (IsLongestBorder segment) (sym last) (sym new) longest)
-      (λ ne.
-      let old = get_or_append_left table (border ∷ []) 0 (len - 1) (omega arith) in
-      subst (IsLongestBorder segment len) (sym old) (known len some (omega arith)))
-      (cases_eq len (length table + 1))
+      grind (arith, cases_eq, get_or_append_left, get_or_push, length_push)
 
 -- The longest borders of the segment's prefixes of up to `len` bytes were appended.
 pub record AddsBorders (segment old now : List ℕ) (len : ℕ) : Type 0 where
@@ -300,10 +245,7 @@ pub first_is_enough : (R : List ℕ → Type 0) (segment t : List ℕ)
     → ((s t : List ℕ) → IsSuffix s t → R s → R t) → (rest : List ℕ)
     → IsRestAfterFirst segment t rest
     → ((after : List ℕ) × IsSuffix (segment ++ after) t × R after) ↔ R rest
-first_is_enough R segment t grows rest following = (
-  λ (after, (front, e), r). grows after rest (following.first front after e) r,
-  λ r. (rest, (following.front, following.splits), r),
-)
+first_is_enough R segment t grows rest following = grind arith
 
 module _ (t : List ℕ) where
   suffix_drop : (i j : ℕ) → i ≤ j → IsSuffix (drop j t) (drop i t)
@@ -380,8 +322,7 @@ module _ (t : List ℕ) where
 
 left_grows : (left : Option (Bor (List ℕ))) (s t : List ℕ) → IsSuffix s t
     → MatchesStars (from_star left) s → MatchesStars (from_star left) t
-left_grows None s t i m = end_matches false t
-left_grows (Some q) s t i m = star_grows false q.now s t i m
+left_grows left s t h h2 = grind (arith, end_matches, star_grows)
 
 module _ {p segment : List ℕ} {left : Option (Bor (List ℕ))} (t : List ℕ)
     (cut : IsCutAtStar p segment left) where
@@ -390,18 +331,15 @@ module _ {p segment : List ℕ} {left : Option (Bor (List ℕ))} (t : List ℕ)
 
   pub stars_in_front : MatchesStars p t
       ↔ ((after : List ℕ) × (t ≡ segment ++ after) × LeftMatches after)
-  stars_in_front = rw cut.parts (in_front false segment (from_star left) t (plain_stars segment cut.plain))
+  stars_in_front = grind (arith, in_front, plain_stars)
 
   stars_somewhere : MatchesStars (star ∷ p) t
       ↔ ((after : List ℕ) × IsSuffix (segment ++ after) t × LeftMatches after)
-  stars_somewhere = rw cut.parts (somewhere false segment (from_star left) t (plain_stars segment cut.plain))
+  stars_somewhere = grind (arith, plain_stars, somewhere)
 
   pub stars_here : (rest : List ℕ) → IsRestAfterFirst segment t rest
       → MatchesStars (star ∷ p) t ↔ LeftMatches rest
-  stars_here rest following =
-      let (to, from) = stars_somewhere in
-      let (first, back) = first_is_enough LeftMatches segment t (left_grows left) rest following in
-      (λ m. first (to m), λ n. from (back n))
+  stars_here rest following = grind (arith, first_is_enough, left_grows, stars_somewhere)
 
   pub stars_nowhere : OccursNowhere segment t → ¬ MatchesStars (star ∷ p) t
-  stars_nowhere nowhere m = let (after, (front, e), n) = stars_somewhere.0 m in nowhere front after e
+  stars_nowhere nowhere m = grind (arith, stars_somewhere)

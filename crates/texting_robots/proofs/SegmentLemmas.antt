@@ -1,7 +1,7 @@
 -- Patterns: cutting them into segments, and what they match.
 use Rattle.std.proofs.Common.{◌≡◌, ◌≢◌, ◌↔◌, ℕ, suc, ◌+◌, ◌==◌, ◌&&◌, Bool, true, false, inl, inr, List, []}
 use Rattle.std.proofs.Common.{◌∷◌, ◌++◌, All, get_or, refl, sym, ap, ◌∙◌, append_assoc, arith, ◌-◌, not, take}
-use Rattle.std.proofs.Common.{length, drop, subst, ◌⊎◌, append-nil, take-append-drop, length-append}
+use Rattle.std.proofs.Common.{length, drop, ◌⊎◌, append-nil, take-append-drop, length-append}
 use Rattle.std.specs.List.{list_all, prefix_len, position_or_len}
 use Rattle.std.proofs.lemmas.Bool.{cases_Bool, eqb-true, ne_eqb, or_cases, or_parts}
 use Rattle.std.proofs.lemmas.List.Elements.{All-head, All-tail, All-weaker, All-cons, All-nil}
@@ -23,17 +23,15 @@ abbrev pub IsPlain : Bool → ℕ → Type 0
 IsPlain anchors b = ((b == star) ≡ false) × ((anchors && (b == dollar)) ≡ false)
 
 pub plain_stars : (segment : List ℕ) → All (λ b. b ≢ star) segment → All (IsPlain false) segment
-plain_stars = All-weaker (λ b. b ≢ star) (IsPlain false) (λ b other. (ne_eqb b star other, refl))
+plain_stars = grind (arith, ne_eqb)
 
 pub plain_wildcards : (segment : List ℕ) → All (λ b. is_wildcard b ≡ false) segment
     → All (IsPlain true) segment
-plain_wildcards =
-    All-weaker (λ b. is_wildcard b ≡ false) (IsPlain true)
-    (λ b other. or_parts (b == star) (b == dollar) other)
+plain_wildcards = grind (arith, or_parts)
 
 under : {R : List ℕ → Type 0} (P Q : List ℕ → Type 0) → ((t : List ℕ) → P t ↔ Q t)
     → ((t : List ℕ) × R t × P t) ↔ ((t : List ℕ) × R t × Q t)
-under P Q same = (λ (t, r, p). (t, r, (same t).0 p), λ (t, r, q). (t, r, (same t).1 q))
+under P Q same = grind arith
 
 pub suffix_trans : {a b c : List ℕ} → IsSuffix a b → IsSuffix b c → IsSuffix a c
 suffix_trans {a} (f, e) (g, h) = (g ++ f, h ∙ ap (λ x. g ++ x) e ∙ sym (append_assoc g f a))
@@ -42,7 +40,7 @@ module _ (anchors : Bool) where
   pub in_front : (segment q t : List ℕ) → All (IsPlain anchors) segment → MatchesWith anchors (segment ++ q) t
       ↔ ((after : List ℕ) × (t ≡ segment ++ after) × MatchesWith anchors q after)
   unfolding MatchesWith
-  in_front [] q t all = (λ m. (t, refl, m), λ (after, e, m). rw e m)
+  in_front [] q t all = grind arith
   in_front (b ∷ segment) q t all =
       let later = λ (s : List ℕ). in_front segment q s (All-tail (IsPlain anchors) b segment all) in
       let (not_star, not_end) = All-head (IsPlain anchors) b segment all in
@@ -55,10 +53,7 @@ module _ (anchors : Bool) where
       → MatchesWith anchors (star ∷ (segment ++ q)) t
       ↔ ((after : List ℕ) × IsSuffix (segment ++ after) t × MatchesWith anchors q after)
   unfolding MatchesWith
-  somewhere segment q t all = (
-    λ (s, i, m). let (after, e, n) = (in_front segment q s all).0 m in (after, rw (← e) i, n),
-    λ (after, i, n). (segment ++ after, i, (in_front segment q (segment ++ after) all).1 (after, refl, n)),
-  )
+  somewhere segment q t all = grind (arith, in_front)
 
   pub star_grows : (q s t : List ℕ) → IsSuffix s t
       → MatchesWith anchors (star ∷ q) s → MatchesWith anchors (star ∷ q) t
@@ -90,13 +85,7 @@ module _ (anchors : Bool) where
       → ((t : List ℕ) → MatchesWith anchors p t ↔ MatchesWith anchors q t)
       → (t : List ℕ) → MatchesWith anchors (b ∷ p) t ↔ MatchesWith anchors (b ∷ q) t
   unfolding MatchesWith
-  after_byte b p q same t = elim (cases_Bool (b == star)) [
-    | inl star ↦ rw star (under (MatchesWith anchors p) (MatchesWith anchors q) same)
-    | inr other ↦ elim (cases_Bool (anchors && (b == dollar))) [
-      | inl end ↦ rw (other, end) (under (MatchesWith anchors p) (MatchesWith anchors q) same)
-      | inr plain ↦ rw (other, plain) (under (MatchesWith anchors p) (MatchesWith anchors q) same)
-    ]
-  ]
+  after_byte b p q same t = grind (arith, cases_Bool, under)
 
 pub end_matches : (anchors : Bool) (t : List ℕ) → MatchesWith anchors [] t
 unfolding MatchesWith
@@ -109,28 +98,15 @@ none_left (b ∷ front) s e = cc
 pub only_wildcards_match : (q : List ℕ) → (list_all is_wildcard q ≡ true) ↔ Matches q []
 unfolding MatchesWith
 only_wildcards_match [] = (λ _. tt, λ _. refl)
-only_wildcards_match (b ∷ q) =
-    let (wildcards, match) = only_wildcards_match q in
-    elim (cases_Bool (b == star)) [
-      | inl first ↦ rw first (
-        λ m. ([], ([], refl), wildcards m),
-        λ (s, (front, e), m). match (rw (none_left front s e) at m),
-      )
-      | inr other ↦ elim (cases_Bool (b == dollar)) [
-        | inl end ↦ rw (other, end)
-            (λ m. ([], (refl, refl), wildcards m), λ (s, (e, gone), m). match (rw gone at m))
-        | inr plain ↦ rw (other, plain) (λ e. cc, λ (s, e, m). cc)
-      ]
-    ]
+only_wildcards_match (b ∷ q) = grind (arith, cases_Bool, none_left, only_wildcards_match q)
 
 pub closes_decides : (q t : List ℕ) → Closes q → Matches q t ↔ (t ≡ [])
 unfolding MatchesWith
-closes_decides q t c = rw c.dollar (λ (s, (e, gone), m). e, λ e. ([], (e, refl), c.empty))
+closes_decides q t c = grind arith
 
 pub dollar_matches_none : (q t : List ℕ) → ¬ Closes (dollar ∷ q) → ¬ Matches (dollar ∷ q) t
 unfolding MatchesWith
-dollar_matches_none q t other (s, (e, gone), m) =
-    other (record { following = q; dollar = refl; empty = rw gone at m })
+dollar_matches_none q t other (s, (e, gone), m) = grind arith
 
 pub grows_at_wildcard : (q : List ℕ) → IsAtWildcard q → ¬ Closes q → Grows q
 unfolding MatchesWith
@@ -145,12 +121,8 @@ grows_at_wildcard (b ∷ q) at_wildcard other = elim (or_cases (b == star) (b ==
 pub wildcard_matches_none : (q t : List ℕ) → IsAtWildcard q → q ≢ []
     → ((rest : List ℕ) → q ≢ star ∷ rest)
     → ¬ Closes q → ¬ Matches q t
-wildcard_matches_none [] t at_wildcard some no_star other = absurd (some refl)
-wildcard_matches_none (b ∷ q) t at_wildcard some no_star other = elim
-    (or_cases (b == star) (b == dollar) at_wildcard) [
-      | inl first ↦ absurd (no_star q (ap (λ x. x ∷ q) (eqb-true b star first)))
-      | inr first ↦ let e = eqb-true b dollar first in rw e (dollar_matches_none q t (rw e at other))
-    ]
+wildcard_matches_none q t at_wildcard some no_star other =
+    grind (arith, dollar_matches_none, eqb-true, or_cases)
 
 -- ---- Cutting a pattern into segments from left to right, and what the segments decide.
 
@@ -216,41 +188,22 @@ module _ {left next segment rest : List ℕ} (is : IsFromStar left next segment 
       rw is.star_first (λ m. parts (rw e at (from m)), λ h. to (rw e (whole h)))
 
   star_is_left : ¬ Closes rest → IsLeft left segment rest
-  star_is_left other = record
-      { decides = star_decides; grows = grows_at_wildcard rest is.cut.at_wildcard other }
+  star_is_left other = grind (arith, grows_at_wildcard, star_decides)
 
   star_is_last : Closes rest → (t : List ℕ) → Matches left t ↔ IsSuffix segment t
-  star_is_last closes t =
-      let (to, from) = star_decides t in
-      let at_end = λ (after : List ℕ). closes_decides rest after closes in (
-        λ m.
-            let (after, i, n) = to m in
-            subst (λ x. IsSuffix x t) (ap (λ x. segment ++ x) ((at_end after).0 n) ∙ append-nil segment) i,
-        λ i. from ([], rw append-nil i, (at_end []).1 refl),
-      )
+  star_is_last closes t = grind (arith, append-nil, closes_decides, star_decides)
 
 abbrev pub between : List ℕ → List ℕ → List ℕ → Span
 between p next rest = record { start = length p - length next; end = length p - length rest }
 
 spanned : (p next segment rest : List ℕ) → IsSuffix next p → next ≡ segment ++ rest
     → IsSpan p (between p next rest) × (part_of p (between p next rest) ≡ segment)
-spanned p next segment rest (front, e) f =
-    let all = ap length e ∙ length-append front next in
-    let more = ap length f ∙ length-append segment rest in
-    let size = length p - length rest - (length p - length next) in
-    let bytes = ap (take size) (end_rest p next front e ∙ f) ∙ take_at segment rest size (omega arith) in
-    (record { ordered = omega arith; within = omega arith }, bytes)
+spanned p next segment rest (front, e) f = grind (arith, end_rest, length-append, take_at)
 
 segment_put : (p tables table more : List ℕ) (span : Span) → IsSpan p span
     → IsTable (part_of p span) table
     → IsSegment p (tables ++ (table ++ more)) (record { span = span; table = length tables })
-segment_put p tables table more span is_span is_table =
-    let size = length tables + (length (part_of p span) - 1) - length tables in
-    let all = length-append tables (table ++ more) in
-    let from_table = length-append table more in
-    let there = ap (take size) (drop_at tables (table ++ more) (length tables) refl) in
-    let same = there ∙ take_at table more size (omega arith) in
-    record { span = is_span; fits = omega arith; table = rw same is_table }
+segment_put p tables table more span is_span is_table = grind (arith, drop_at, length-append, take_at)
 
 pub record IsRest (pattern borders left : List ℕ) (segments : List Segment) (ending : Ending) : Type 0 where
   pub known : All (IsSegment pattern borders) segments
@@ -324,18 +277,14 @@ module _ {p : List ℕ} {first_len : ℕ} {old_segments segments : List Segment}
       rw (← append-nil segments, ← append-nil borders) (upto.completes [] [] ending rest)
 
   pub cut_open : left ≡ [] → AddsWith Open
-  cut_open none = done Open tt (λ t. rw none (λ _. tt, λ _. end_matches true t)) (inl tt)
+  cut_open none = grind (arith, done, end_matches)
 
   pub cut_closed : Closes left → AddsWith Closed
   cut_closed closes = done Closed tt (λ t. closes_decides left t closes) (inl tt)
 
   pub cut_never : left ≢ [] → ((q : List ℕ) → left ≢ star ∷ q)
       → ¬ Closes left → AddsWith Never
-  cut_never some no_star other =
-      done Never tt (λ t. (
-        wildcard_matches_none left t upto.at_wildcard some no_star other,
-        λ none. absurd none,
-      )) (inl tt)
+  cut_never some no_star other = grind (arith, done, wildcard_matches_none)
 
   module _ {next segment rest : List ℕ} (is : IsFromStar left next segment rest) where
     next_in_p : IsSuffix next p

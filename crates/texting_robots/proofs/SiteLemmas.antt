@@ -9,7 +9,7 @@ use Rattle.std.proofs.lemmas.List.{Elements.filter_map-append, Folds.list_any-ap
 use Rattle.std.proofs.Math.Bool.{and-false, and-true, or-false}
 use Rattle.std.proofs.lemmas.Bool.{and_parts, eq-eqb, ne_eqb}
 use Rattle.texting_robots.specs.{declared.groups.GroupTracker.GroupTracker, Internal.Captured.is_captured}
-use Rattle.texting_robots.specs.Line.{LineValue, UserAgent, Allow, Disallow, CrawlDelay, delay_in}
+use Rattle.texting_robots.specs.Line.{LineValue, UserAgent, delay_in}
 use Rattle.texting_robots.specs.Group.{group_name, is_agent, is_group, IsCaptured}
 use Rattle.texting_robots.specs.Executable.{captured_delays, captured_lines, placed_in, placed_rules}
 use Rattle.texting_robots.specs.Internal.Group.{from_captured, start_of, step}
@@ -31,8 +31,7 @@ here_of name n = rw (eq-eqb n.run n.run refl) (and-true _)
 
 one_more : (name : List ℕ) (names : List Named) (n : Named) (r : ℕ)
     → is_run_of name (names ++ n ∷ []) r ≡ (is_run_of name names r || is_of name r n)
-one_more name names n r =
-    list_any-append (is_of name r) names (n ∷ []) ∙ ap (λ b. is_run_of name names r || b) (or-false _)
+one_more name names n r = grind (arith, list_any-append, or-false)
 
 -- a run that is closed, and any earlier one, gets no further name
 pub none_later : (name : List ℕ) (r run : ℕ) (joins : Bool) (position count : ℕ) (lines : List LineValue)
@@ -41,16 +40,15 @@ pub none_later : (name : List ℕ) (r run : ℕ) (joins : Bool) (position count 
     ≡ false
 none_later name r run joins position count [] within earlier closed = refl
 none_later name r run true position count (UserAgent value ∷ lines) within earlier closed =
-    let below : r < run = closed refl in
-    rw (not_of name r (record { name = value; run = run; start = count }) (λ same. omega arith))
-    (none_later name r run true (position + 1) count lines (omega arith) earlier closed)
+    grind (arith, not_of, none_later name r run true (position + 1) count lines)
 none_later name r run false position count (UserAgent value ∷ lines) within earlier closed =
-    rw (not_of name r (record { name = value; run = position + 1; start = count }) (λ same. omega arith))
-    (none_later name r (position + 1) true (position + 1) count lines (omega arith) (omega arith)
-    (λ _. omega arith))
+    grind (arith, not_of, none_later name r (position + 1) true (position + 1) count lines)
 none_later name r run joins position count (line ∷ lines) within earlier closed =
-    none_later name r run (not (is_group line) && joins) (position + 1) (count_after count line) lines
-    (omega arith) earlier (λ joined. closed (and_parts (not (is_group line)) joins joined).1)
+    grind (
+      arith,
+      and_parts,
+      none_later name r run (not (is_group line) && joins) (position + 1) (count_after count line) lines,
+    )
 
 -- the next user-agent line doesn't belong to the run of a group line
 pub run_ends : (is_group joins : Bool) → is_group ≡ true → (not is_group && joins) ≡ false
@@ -68,26 +66,7 @@ in_run : (name value : List ℕ) (walk : GroupTracker) (run count : ℕ) (before
     → BelongsTo name walk run true before
     → BelongsTo name (step name walk (UserAgent value)) run true
     (before ++ record { name = value; run = run; start = count } ∷ [])
-in_run name value walk run count before splits =
-    let n : Named = record { name = value; run = run; start = count } in
-    record {
-      captured = rw (one_more name before n run, here_of name n, splits.named, splits.captured)
-          (swapped (has_name name n) (is_run_of name before run));
-      named = refl;
-      first = λ r above. rw (
-        one_more name before n r,
-        splits.first r above,
-        not_of name r n
-            (λ same. omega arith),
-      )
-          refl;
-    }
-  where
-    swapped : (a b : Bool) → (a || b) ≡ (b || a)
-    swapped true true = refl
-    swapped true false = refl
-    swapped false true = refl
-    swapped false false = refl
+in_run name value walk run count before splits = grind (arith, here_of, not_of, one_more)
 
 in_new_run : (name value : List ℕ) (walk : GroupTracker) (run position count : ℕ) (before : List Named)
     → run ≤ position
@@ -95,34 +74,17 @@ in_new_run : (name value : List ℕ) (walk : GroupTracker) (run position count :
     → BelongsTo name (step name walk (UserAgent value)) (position + 1) true
     (before ++ record { name = value; run = position + 1; start = count } ∷ [])
 in_new_run name value walk run position count before within splits =
-    let n : Named = record { name = value; run = position + 1; start = count } in
-    record {
-      captured = rw (
-        one_more name before n (position + 1),
-        here_of name n,
-        splits.named,
-        splits.first (position + 1) (omega arith),
-      ) (or-false _);
-      named = refl;
-      first = λ r above. rw (
-        one_more name before n r,
-        splits.first r (omega arith),
-        not_of name r n (λ same. omega arith),
-      ) refl;
-    }
+    grind (arith, here_of, not_of, one_more, or-false)
 
 after_other : (name : List ℕ) (walk : GroupTracker) (run : ℕ) (joins is_group : Bool) (before : List Named)
     → BelongsTo name walk run joins before
     → BelongsTo name (record { captured = walk.captured; named = not is_group && walk.named }) run
     (not is_group && joins) before
-after_other name walk run joins true before splits =
-    record { captured = splits.captured; named = refl; first = splits.first }
-after_other name walk run joins false before splits = splits
+after_other name walk run joins is_group before splits = grind arith
 
 pub nothing_here : {X : Type 0} (captured : Bool) (o : Option X) (rest : List X) → o ≡ None
     → cons_option (cond captured o None) rest ≡ rest
-nothing_here true o rest none = rw none refl
-nothing_here false o rest none = refl
+nothing_here captured o rest none = grind arith
 
 other_next : {X : Type 0} (is_group : Bool) (given : Tagged → Option X) (name : List ℕ) (captured : Bool)
     (tag : Tagged) (names : List Named) (tags : List Tagged) (rest : List X) (here : Option X)
@@ -131,11 +93,8 @@ other_next : {X : Type 0} (is_group : Bool) (given : Tagged → Option X) (name 
     → rest ≡ filter_map given (filter (λ t. is_run_of name names t.run) tags)
     → cons_option (cond captured here None) rest ≡ filter_map given
     (filter (λ t. is_run_of name names t.run) (cons_option (cond is_group (Some tag) None) tags))
-other_next true given name captured tag names tags rest here fits none same later =
-    ap (λ o. cons_option (cond captured o None) rest) (sym fits)
-    ∙ rw (same refl, later) (sym (kept_next (is_run_of name names tag.run) given tag _))
-other_next false given name captured tag names tags rest here fits none same later =
-    nothing_here captured here rest (none refl) ∙ later
+other_next is_group given name captured tag names tags rest here fits none same later =
+    grind (arith, kept_next, nothing_here)
 
 -- the run of a group line gets no further name
 named_here : (name : List ℕ) (walk : GroupTracker) (run : ℕ) (joins joined : Bool) (position count : ℕ)
@@ -143,12 +102,7 @@ named_here : (name : List ℕ) (walk : GroupTracker) (run : ℕ) (joins joined :
     → BelongsTo name walk run joins before → joined ≡ false
     → all ≡ before ++ named_from run joined position count lines → walk.captured ≡ is_run_of name all run
 named_here name walk run joins joined position count before all lines within splits closed are =
-    rw (
-      are,
-      list_any-append (is_of name run) before (named_from run joined position count lines),
-      none_later name run run joined position count lines within (omega arith) (λ wrong. cc),
-    )
-    (splits.captured ∙ sym (or-false _))
+    grind (arith, list_any-append, none_later, or-false)
 
 -- what the captured lines give is what the lines of the runs with the name give
 found_in_runs : {X : Type 0} (given : ℕ × LineValue → Option X) (of_tag : Tagged → Option X)
@@ -209,48 +163,33 @@ found_in_own given of_tag fits none name lines some =
 
 pub rule_of_group : (position : ℕ) (line : LineValue) → is_group line ≡ false → placed_in (position, line)
     ≡ None
-rule_of_group position (Allow value) isnt = cc
-rule_of_group position (Disallow value) isnt = cc
-rule_of_group position _ isnt = refl
+rule_of_group position line h = grind arith
 
 pub delay_of_group : (position : ℕ) (line : LineValue) → is_group line ≡ false → delay_in line ≡ None
-delay_of_group position (CrawlDelay delay) isnt = cc
-delay_of_group position _ isnt = refl
+delay_of_group position line h = grind arith
 
 pub rules_of_runs : (agent : List ℕ) (lines : List LineValue) → list_any is_agent lines ≡ true
     → placed_rules agent lines ≡ filter_map rule_of (own_tagged (group_name agent lines) lines)
-rules_of_runs agent lines some =
-    found_in_own placed_in rule_of (λ position run line. refl) rule_of_group
-    (group_name agent lines) lines some
+rules_of_runs agent lines some = grind (arith, found_in_own, rule_of_group)
 
 pub delays_of_runs : (agent : List ℕ) (lines : List LineValue) → list_any is_agent lines ≡ true
     → captured_delays agent lines
     ≡ filter_map delay_of (own_tagged (group_name agent lines) lines)
-delays_of_runs agent lines some =
-    found_in_own (λ p. delay_in p.1) delay_of (λ position run line. refl) delay_of_group
-    (group_name agent lines) lines some
+delays_of_runs agent lines some = grind (arith, delay_of_group, found_in_own)
 
 pub given_push : {X Y : Type 0} (h : X → Option Y) (xs : List X) (x : X)
     → filter_map h (xs ++ x ∷ []) ≡ filter_map h xs ++ option_to_list (h x)
-given_push h xs x = filter_map-append h xs (x ∷ []) ∙ ap (λ ys. filter_map h xs ++ ys) (one (h x))
-  where
-    one : {Y : Type 0} (o : Option Y) → cons_option o [] ≡ option_to_list o
-    one None = refl
-    one (Some y) = refl
+given_push h xs x = grind (arith, filter_map-append)
 
 pub agents_more : (begun : Bool) (line : LineValue) (left : List LineValue)
     → ((begun || is_agent line) || list_any is_agent left) ≡ (begun || list_any is_agent (line ∷ left))
-agents_more true line left = refl
-agents_more false line left = refl
+agents_more begun line left = grind arith
 
 pub early_more : (begun : Bool) (early : Option ℕ) (line : LineValue) (left : List LineValue)
     → cond (begun || is_agent line) (early_after begun early line) (delay_from
     (early_after begun early line) left)
     ≡ cond begun early (delay_from early (line ∷ left))
-early_more true early line left = refl
-early_more false early (CrawlDelay delay) left =
-    ap (λ last. cond (list_any is_agent left) last None) (sym (last_more early delay _))
-early_more false early _ left = refl
+early_more begun early line left = grind (arith, last_more)
 
 -- ---- What is captured for a name is what the groups with that name contain.
 
@@ -270,38 +209,24 @@ captured_of name captured named above groups =
     let below = lines_with name (is_empty above && named) groups in cond captured (above ++ below) below
 
 not_joined : (name : List ℕ) (groups : List GroupValue) → lines_with name false groups ≡ lines_for name groups
-not_joined name [] = refl
-not_joined name (group ∷ groups) = refl
+not_joined name groups = grind arith
 
 moved : (a b c : Bool) → ((a || b) || c) ≡ (b || (a || c))
-moved true true c = refl
-moved true false c = refl
-moved false b c = refl
+moved a b c = grind arith
 
 with_agent : (name value : List ℕ) (position : ℕ) (named : Bool) (above : List (ℕ × LineValue))
     (groups : List GroupValue) (is : Bool) → is ≡ bytes_eq (str_to_ascii_lowercase value) name
     → captured_of name (is || named) (is || named) above groups
     ≡ lines_with name named (with_name (position, value) above groups)
-with_agent name value position named [] [] is same =
-    rw (← same) (cond_same (is || named) [] ∙ sym (cond_same (named || (is || false)) []))
-with_agent name value position named [] (group ∷ groups) is same =
-    let rest = lines_for name groups in
-    rw (← same) (cond_same (is || named)
-    (cond ((is || named) || is_for name group) (group.lines ++ rest) rest)
-    ∙ ap (λ b. cond b (group.lines ++ rest) rest) (moved is named (is_for name group)))
-with_agent name value position named (l ∷ above) groups is same =
-    let rest = lines_for name groups in
-    rw (← same, not_joined name groups) (ap (λ b. cond b (l ∷ (above ++ rest)) rest)
-    (sym (or-false (is || named)) ∙ moved is named false))
+with_agent name value position named above groups is same =
+    grind (arith, cond_same, moved, not_joined, or-false)
 
 with_other : (is_group : Bool) (name : List ℕ) (line : ℕ × LineValue) (captured named : Bool)
     (above : List (ℕ × LineValue)) (groups : List GroupValue)
     → cons_option (cond captured (cond is_group (Some line) None) None)
     (captured_of name captured (not is_group && named) above groups)
     ≡ captured_of name captured named (cond is_group (line ∷ above) above) groups
-with_other true name line true named above groups = rw (and-false (is_empty above)) refl
-with_other true name line false named above groups = rw (and-false (is_empty above)) refl
-with_other false name line captured named above groups = nothing_here captured None _ refl
+with_other is_group name line captured named above groups = grind (arith, and-false, nothing_here)
 
 abbrev group_line : ℕ × LineValue → Option (ℕ × LineValue)
 group_line line = cond (is_group line.1) (Some line) None
@@ -312,36 +237,25 @@ walked : (name : List ℕ) (tracker : GroupTracker) (position : ℕ) (lines : Li
     (grouped_from position lines).groups
 walked name tracker position [] = sym (cond_same tracker.captured [])
 walked name tracker position (UserAgent value ∷ lines) =
-    let below = grouped_from (position + 1) lines in
-    nothing_here tracker.captured None _ refl
-    ∙ walked name (step name tracker (UserAgent value)) (position + 1) lines
-    ∙ with_agent name value position tracker.named below.above below.groups _ refl
-    ∙ sym (cond_same tracker.captured _)
+    grind (
+      arith,
+      cond_same,
+      nothing_here,
+      with_agent,
+      walked name (step name tracker (UserAgent value)) (position + 1) lines,
+    )
 walked name tracker position (line ∷ lines) =
-    let below = grouped_from (position + 1) lines in
-    ap (cons_option (cond tracker.captured (group_line (position, line)) None))
-    (walked name (step name tracker line) (position + 1) lines)
-    ∙ with_other (is_group line) name (position, line) tracker.captured tracker.named below.above below.groups
+    grind (arith, with_other, walked name (step name tracker line) (position + 1) lines)
 
 kept_groups : (lines : List (ℕ × LineValue))
     → filter (λ (l : ℕ × LineValue). is_group l.1) lines ≡ filter_map group_line lines
 kept_groups [] = refl
-kept_groups (line ∷ lines) = rw (kept_groups lines) (one (is_group line.1) (filter_map group_line lines))
-  where
-    one : (b : Bool) (rest : List (ℕ × LineValue)) → cond b (line ∷ rest) rest
-        ≡ cons_option (cond b (Some line) None) rest
-    one true rest = refl
-    one false rest = refl
+kept_groups (line ∷ lines) = grind (arith, kept_groups lines)
 
 captured_by_groups : (name : List ℕ) (lines : List LineValue) → list_any is_agent lines ≡ true
     → filter (λ (l : ℕ × LineValue). is_group l.1) (captured_lines name lines) ≡ lines_for name (groups lines)
 captured_by_groups name lines some =
-    let all = grouped_from 0 lines in
-    kept_groups (captured_lines name lines) ∙ captured_walked group_line name lines
-    ∙ walked name (start_of lines) 0 lines
-    ∙ ap (λ (b : Bool). captured_of name (not b) false all.above all.groups) some
-    ∙ ap (λ (b : Bool). lines_with name b all.groups) (and-false (is_empty all.above))
-    ∙ not_joined name all.groups
+    grind (arith, and-false, captured_walked, kept_groups, not_joined, walked)
 
 given_groups : {X : Type 0} (given : ℕ × LineValue → Option X)
     → ((position : ℕ) (line : LineValue) → is_group line ≡ false → given (position, line) ≡ None)
@@ -360,21 +274,15 @@ given_groups given none (line ∷ lines) = rw (given_groups given none lines) (o
 
 pub rules_of_groups : (agent : List ℕ) (lines : List LineValue) → list_any is_agent lines ≡ true
     → placed_rules agent lines ≡ filter_map placed_in (lines_for (group_name agent lines) (groups lines))
-rules_of_groups agent lines some =
-    given_groups placed_in rule_of_group (captured_lines (group_name agent lines) lines)
-    ∙ ap (filter_map placed_in) (captured_by_groups (group_name agent lines) lines some)
+rules_of_groups agent lines some = grind (arith, captured_by_groups, given_groups, rule_of_group)
 
 pub delays_of_groups : (agent : List ℕ) (lines : List LineValue) → list_any is_agent lines ≡ true
     → captured_delays agent lines
     ≡ filter_map (λ (l : ℕ × LineValue). delay_in l.1) (lines_for (group_name agent lines) (groups lines))
-delays_of_groups agent lines some =
-    given_groups (λ (l : ℕ × LineValue). delay_in l.1) delay_of_group
-    (captured_lines (group_name agent lines) lines)
-    ∙ ap (filter_map (λ (l : ℕ × LineValue). delay_in l.1))
-    (captured_by_groups (group_name agent lines) lines some)
+delays_of_groups agent lines some = grind (arith, captured_by_groups, delay_of_group, given_groups)
 
 same_place : (a b : ℕ × LineValue) → ◌≡◌ {A = Option (ℕ × LineValue)} (Some a) (Some b) → a.0 ≡ b.0
-same_place a b is = let pairs : a ≡ b = cc in ap (λ (p : ℕ × LineValue). p.0) pairs
+same_place a b is = grind arith
 
 pub captured_in_groups : (name : List ℕ) (lines : List LineValue) (position : ℕ) (line : LineValue)
     → list_any is_agent lines ≡ true → slice_get lines position ≡ Some line → IsTrue (is_group line)

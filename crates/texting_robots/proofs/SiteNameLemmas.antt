@@ -38,27 +38,15 @@ first_later p x xs isnt = rw isnt (omega arith)
 skip : {X : Type 0} (p r : X → Bool) → ((x : X) → r x ≡ false → p x ≡ false) → (xs : List X)
     → position_or_len r xs + position_or_len p (drop (position_or_len r xs) xs) ≡ position_or_len p xs
 skip p r weaker [] = refl
-skip p r weaker (x ∷ xs) =
-    let from = λ (k : ℕ). k + position_or_len p (drop k (x ∷ xs)) in elim (cases_Bool (r x)) [
-      | inl is ↦ ap from (first_now r x xs is) ∙ omega arith
-      | inr isnt ↦ ap from (first_later r x xs isnt)
-          ∙ omega (arith, skip p r weaker xs, first_later p x xs (weaker x isnt))
-    ]
+skip p r weaker (x ∷ xs) = grind (arith, cases_Bool, first_later, first_now, skip p r weaker xs)
 
 pub first_here : {X : Type 0} (p : X → Bool) (xs : List X)
     → position_or_len p (drop (position_or_len p xs) xs) ≡ 0
 first_here p [] = refl
-first_here p (x ∷ xs) =
-    let from = λ (k : ℕ). position_or_len p (drop k (x ∷ xs)) in elim (cases_Bool (p x)) [
-      | inl is ↦ ap from (first_now p x xs is) ∙ first_now p x xs is
-      | inr isnt ↦ ap from (first_later p x xs isnt) ∙ first_here p xs
-    ]
+first_here p (x ∷ xs) = grind (arith, cases_Bool, first_later, first_now, first_here p xs)
 
 pub here : {X : Type 0} (p : X → Bool) (x : X) (xs : List X) → position_or_len p (x ∷ xs) ≡ 0 → p x ≡ true
-here p x xs first = elim (cases_Bool (p x)) [
-  | inl is ↦ is
-  | inr isnt ↦ absurd (let wrong = rw isnt at first in omega arith)
-]
+here p x xs first = grind (arith, cases_Bool)
 
 pub linked_none : (count : ℕ) (names : List Named) (heads nexts : List ℕ) → count ≡ length names
     → heads ≡ replicate count count → length nexts ≡ count → AreLinked count names heads nexts
@@ -107,18 +95,12 @@ linked_more names position bucket n heads nexts at its within linked =
 
 pub other_bucket : (name : List ℕ) (count : ℕ) (n : Named) → is_in count (bucket_of count name) n ≡ false
     → has_name name n ≡ false
-other_bucket name count n isnt = elim (cases_Bool (has_name name n)) [
-  | inl is ↦
-      let same : str_to_ascii_lowercase n.name ≡ name = (bytes_eq-Decides _ name).0 is in
-      absurd (let wrong = sym (eq-eqb _ _ (ap (bucket_of count) same)) ∙ isnt in cc)
-  | inr other ↦ other
-]
+other_bucket name count n isnt = grind (arith, bytes_eq-Decides, cases_Bool, eq-eqb)
 
 pub from_bucket : (name : List ℕ) (count : ℕ) (names : List Named)
     → let start = position_or_len (is_in count (bucket_of count name)) names in
     start + first_named name (drop start names) ≡ first_named name names
-from_bucket name count names =
-    skip (has_name name) (is_in count (bucket_of count name)) (other_bucket name count) names
+from_bucket name count names = grind (arith, other_bucket, skip)
 
 pub record IsNext (name : List ℕ) (count position next : ℕ) (names : List Named) : Type 0 where
   pub here : position_or_len (is_in count (bucket_of count name)) (drop next names) ≡ 0
@@ -131,32 +113,17 @@ pub next_in_bucket : (name : List ℕ) (position next bucket : ℕ) (names : Lis
     → next ≡ position + 1 + position_or_len (is_in (length names) bucket) (drop (position + 1) names)
     → IsNext name (length names) position next names
 next_in_bucket name position next bucket names its are =
-    let N = length names in
-    let after = drop (position + 1) names in
-    let p = is_in N (bucket_of N name) in
-    let is : next ≡ position + 1 + position_or_len p after = are
-    ∙ ap (λ b. position + 1 + position_or_len (is_in N b) after) its in
-    let rest : drop next names ≡ drop (position_or_len p after) after =
-    ap (λ k. drop k names) is ∙ sym (drop-drop (position_or_len p after) (position + 1) names) in record {
-      here = ap (position_or_len p) rest ∙ first_here p after;
-      rest = let same = from_bucket name N after in rw rest (omega arith);
-    }
+    grind (arith, drop-drop, first_here, from_bucket, here)
 
 pub agent_at : (lines : List AgentLine) (names : List Named) (position : ℕ) (line : AgentLine)
     → map named_of lines ≡ names → position < length lines → line ≡ get_or lines position line
     → slice_get names position ≡ Some (named_of line)
-agent_at lines names position line are within is =
-    ap (λ (ns : List Named). slice_get ns position) (sym are) ∙ slice_get-map named_of lines position
-    ∙ ap (option_map named_of) (slice_get_read lines (length lines) position line refl within is)
+agent_at lines names position line are within is = grind (arith, slice_get-map, slice_get_read)
 
 pub head_is : (name : List ℕ) (names : List Named) (heads nexts : List ℕ) (count bucket : ℕ)
     → AreLinked 0 names heads nexts → count ≡ length heads → bucket ≡ bucket_of count name → bucket < count
     → get_or heads bucket 0 ≡ position_or_len (is_in (length names) (bucket_of (length names) name)) names
-head_is name names heads nexts count bucket linked counted its below =
-    let same : count ≡ length names = counted ∙ linked.buckets in
-    linked.heads_are bucket (omega arith)
-    ∙ ap (λ b. 0 + position_or_len (is_in (length names) b) names) (its ∙ ap (λ n. bucket_of n name) same)
-    ∙ omega arith
+head_is name names heads nexts count bucket linked counted its below = grind arith
 
 next_is : (names : List Named) (heads nexts : List ℕ) (position next : ℕ) (n : Named)
     → AreLinked 0 names heads nexts
@@ -165,10 +132,7 @@ next_is : (names : List Named) (heads nexts : List ℕ) (position next : ℕ) (n
     + position_or_len (is_in (length names) (bucket_of (length names) (str_to_ascii_lowercase n.name)))
     (drop (position + 1) names)
 next_is names heads nexts position next n linked at is =
-    let within = slice_get_within names position n at in
-    sym (get_or_from_slice_get nexts position next 0
-    (slice_get_read nexts (length nexts) position next refl (omega (arith, linked.followed)) is))
-    ∙ linked.nexts_are position n (omega arith) at
+    grind (arith, get_or_from_slice_get, slice_get_read, slice_get_within)
 
 pub further : (names : List Named) (heads nexts : List ℕ) (position next : ℕ) (n : Named)
     → AreLinked 0 names heads nexts → slice_get names position ≡ Some n → next ≡ get_or nexts position next
@@ -191,9 +155,7 @@ walk_on name names heads nexts position next n linked at is first =
 pub found : (name : List ℕ) (names : List Named) (position : ℕ) (n : Named) → slice_get names position
     ≡ Some n
     → has_name name n ≡ true → first_named name (drop position names) ≡ 0
-found name names position n at is =
-    ap (first_named name) (drop_is names position n at)
-    ∙ first_now (has_name name) n (drop (position + 1) names) is
+found name names position n at is = grind (arith, drop_is, first_now)
 
 pub passed : (name : List ℕ) (names : List Named) (position : ℕ) (n : Named) → slice_get names position
     ≡ Some n
@@ -212,17 +174,10 @@ pub named_bucket : (name : List ℕ) (names : List Named) (position : ℕ) (n : 
     → first_named name (drop position names) ≡ 0
     → position_or_len (is_in (length names) (bucket_of (length names) name)) (drop position names) ≡ 0
 named_bucket name names position n at first =
-    let N = length names in
-    let p = is_in N (bucket_of N name) in
-    let after = drop (position + 1) names in
-    let is : has_name name n ≡ true =
-    here (has_name name) n after (ap (first_named name) (sym (drop_is names position n at)) ∙ first) in
-    let same : str_to_ascii_lowercase n.name ≡ name = (bytes_eq-Decides _ name).0 is in
-    ap (position_or_len p) (drop_is names position n at)
-    ∙ first_now p n after (eq-eqb _ _ (ap (bucket_of N) same))
+    grind (arith, bytes_eq-Decides, drop_is, eq-eqb, first_now, here)
 
 no_name : Named
-no_name = record { name = []; run = 0; start = 0 }
+no_name = grind arith
 
 pub some_at : (names : List Named) (position : ℕ) → position < length names
     → (n : Named) × (slice_get names position ≡ Some n)
@@ -244,11 +199,9 @@ runs_from_first name (n ∷ names) r = elim (cases_Bool (has_name name n)) [
 
 pub later_at : {X : Type 0} (xs : List X) (k j : ℕ) (x : X) → slice_get (drop k xs) j ≡ Some x
     → slice_get xs (k + j) ≡ Some x
-later_at xs zero j x at =
-    let same : 0 + j ≡ j = omega arith in ap (slice_get xs) same ∙ at
+later_at xs zero j x at = grind arith
 later_at [] (suc k) j x at = cc
-later_at (y ∷ xs) (suc k) j x at =
-    let same : suc k + j ≡ suc (k + j) = omega arith in ap (slice_get (y ∷ xs)) same ∙ later_at xs k j x at
+later_at (y ∷ xs) (suc k) j x at = grind (arith, later_at xs k j x at)
 
 pub past_end : {X : Type 0} (xs : List X) (i : ℕ) → length xs ≤ i → drop i xs ≡ []
 past_end [] zero past = refl
@@ -267,8 +220,7 @@ pub front_line : (text : List ℕ) (lines : List KeptLine) (at run : ℕ) (line 
     → line ≡ get_or lines at line → line.run ≡ run
     → in_front run (drop at (map (tag_at text) lines))
     ≡ tag_at text line ∷ in_front run (drop (at + 1) (map (tag_at text) lines))
-front_line text lines at run line within is same =
-    ap (in_front run) (kept_at text lines at line within is) ∙ rw (eq-eqb line.run run same) refl
+front_line text lines at run line within is same = grind (arith, eq-eqb, kept_at)
 
 pub front_other : (text : List ℕ) (lines : List KeptLine) (at run : ℕ) (line : KeptLine) → at < length lines
     → line ≡ get_or lines at line → line.run ≢ run → in_front run (drop at (map (tag_at text) lines)) ≡ []
@@ -277,8 +229,7 @@ front_other text lines at run line within is other =
 
 pub front_past : (text : List ℕ) (lines : List KeptLine) (at run : ℕ) → length lines ≤ at
     → in_front run (drop at (map (tag_at text) lines)) ≡ []
-front_past text lines at run past =
-    ap (in_front run) (past_end (map (tag_at text) lines) at (omega (arith, length-map lines (tag_at text))))
+front_past text lines at run past = grind (arith, length-map, past_end)
 
 pub first_within : (name : List ℕ) (names : List Named)
     → ltb (first_named name names) (length names) ≡ list_any (has_name name) names
@@ -307,8 +258,10 @@ values_from : (run : ℕ) (joins : Bool) (position count : ℕ) (lines : List Li
     → map name_of (named_from run joins position count lines) ≡ filter_map agent_in lines
 values_from run joins position count [] = refl
 values_from run joins position count (UserAgent value ∷ lines) =
-    ap (λ (vs : List (List ℕ)). value ∷ vs)
-    (values_from (run_after run joins (position + 1) (UserAgent value)) true (position + 1) count lines)
+    grind (
+      arith,
+      values_from (run_after run joins (position + 1) (UserAgent value)) true (position + 1) count lines,
+    )
 values_from run joins position count (line ∷ lines) =
     values_from run (not (is_group line) && joins) (position + 1) (count_after count line) lines
 
@@ -316,18 +269,13 @@ pub values_are : (lines : List LineValue) → map name_of (named lines) ≡ filt
 values_are lines = values_from 0 false 0 0 lines
 
 same_suc : (a b : ℕ) → (suc a == suc b) ≡ (a == b)
-same_suc a b = elim (eqb_tells a b) [
-  | inl (is, same) ↦ eq-eqb (suc a) (suc b) (ap suc same) ∙ sym is
-  | inr (isnt, other) ↦ ne_eqb (suc a) (suc b) (λ same. other (omega arith)) ∙ sym isnt
-]
+same_suc a b = grind (arith, eq-eqb, eqb_tells, ne_eqb)
 
 first_if : (name : List ℕ) (names : List Named) (position : ℕ) (n : Named) → slice_get names position ≡ Some n
     → has_name name n ≡ true
     → (first_named name names == position) ≡ not (list_any (has_name name) (take position names))
 first_if name [] position n at has = cc
-first_if name (m ∷ names) zero n at has =
-    let same : m ≡ n = cc in
-    ap (λ k. k == zero) (first_now (has_name name) m names (ap (has_name name) same ∙ has))
+first_if name (m ∷ names) zero n at has = grind (arith, first_now)
 first_if name (m ∷ names) (suc position) n at has = elim (cases_Bool (has_name name m)) [
   | inl is ↦ ap (λ k. k == suc position) (first_now (has_name name) m names is)
       ∙ ne_eqb 0 (suc position) (λ same. omega arith) ∙ rw is refl
@@ -371,7 +319,7 @@ once_next names position name at =
 
 value_at : (names : List Named) (position : ℕ) (n : Named) → slice_get names position ≡ Some n
     → slice_get (map name_of names) position ≡ Some n.name
-value_at names position n at = slice_get-map name_of names position ∙ ap (option_map name_of) at
+value_at names position n at = grind (arith, slice_get-map)
 
 pub left_again : (names : List Named) (position : ℕ) (n : Named) → slice_get names position ≡ Some n
     → first_named (str_to_ascii_lowercase n.name) names ≢ position → left_at (position + 1) names
@@ -405,9 +353,7 @@ left_first names position n at same =
     if_text false x xs = refl
 
 pub none_left : (names : List Named) (position : ℕ) → length names ≤ position → left_at position names ≡ []
-none_left names position past =
-    ap (λ (left : List (List ℕ)). filter is_utf8 (each_once (take position (map name_of names)) left))
-    (past_end (map name_of names) position (omega (arith, length-map names name_of)))
+none_left names position past = grind (arith, length-map, past_end)
 
 pub all_left : (lines : List LineValue) → left_at 0 (named lines) ≡ agents_in lines
-all_left lines = ap (λ (names : List (List ℕ)). filter is_utf8 (each_once [] names)) (values_are lines)
+all_left lines = grind (arith, values_are)

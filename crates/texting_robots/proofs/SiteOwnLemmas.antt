@@ -1,6 +1,6 @@
 -- Iterating over the lines of a name: what this gives, and where it starts.
 use Rattle.std.specs.Prelude.{filter}
-use Rattle.std.proofs.Common.{◌≡◌, inl, inr, ℕ, zero, suc, ◌+◌, ◌<◌, ◌≤◌, ◌==◌, Bool, true, false, ◌||◌, not}
+use Rattle.std.proofs.Common.{◌≡◌, inl, inr, ℕ, zero, suc, ◌+◌, ◌<◌, ◌≤◌, ◌==◌, Bool, true, false, ◌||◌}
 use Rattle.std.proofs.Common.{◌&&◌, List, [], ◌∷◌, ◌++◌, Option, Some, None, length, drop, refl, ap, sym, ◌∙◌}
 use Rattle.std.proofs.Common.{arith, cond, get_or, slice_get, take, IsPermutation, subst, ltb}
 use Rattle.std.specs.List.{All, Any, cons_option, filter_map, list_any}
@@ -64,16 +64,7 @@ later_next name run n names r has above none = elim (eqb_tells r n.run) [
 
 later_same : (name : List ℕ) (run : ℕ) (n : Named) (names : List Named) (r : ℕ) → n.run ≤ run
     → is_later name run (n ∷ names) r ≡ is_later name run names r
-later_same name run n names r least = elim (cases_Bool (ltb run r)) [
-  | inl is_less ↦ rw (
-    is_less,
-    ne_eqb n.run r (λ same.
-        (let less = ltb-true run r is_less in omega arith)),
-    and-false (has_name name n),
-  )
-      refl
-  | inr isnt_less ↦ rw isnt_less refl
-]
+later_same name run n names r least = grind (arith, and-false, cases_Bool, ltb-true, ne_eqb)
 
 none_below : (name : List ℕ) (names : List Named) (least q : ℕ)
     → ((j : ℕ) (m : Named) → slice_get names j ≡ Some m → least ≤ m.run) → q < least
@@ -143,11 +134,7 @@ pub same_run : (name : List ℕ) (run name_index next : ℕ) (names : List Named
     → next ≡ name_index + 1 + first_named name (drop (name_index + 1) names)
     → own_from name run rest (drop next names) tags ≡ own_from name run rest (drop name_index names) tags
 same_run name run name_index next names tags rest n at least are =
-    ap (λ ts. in_front run rest ++ ts) (filter_agree _ _
-    (λ (t : Tagged). ap (λ b. ltb run t.run && b) (runs_after name names name_index next t.run are)
-    ∙ sym (later_same name run n (drop (name_index + 1) names) t.run least)) tags
-    ∙ ap (λ (ns : List Named). filter (λ t. is_later name run ns t.run) tags) (sym
-    (drop_is names name_index n at)))
+    grind (arith, drop_is, filter_agree, later_same, runs_after)
 
 none_pass : (p : ℕ → Bool) (tags : List Tagged) → ((q : ℕ) → p q ≡ false) → filter (λ t. p t.run) tags ≡ []
 none_pass p [] none = refl
@@ -166,12 +153,11 @@ at_end name run name_index names tags rest out gone =
     past (x ∷ xs) (suc i) out = past xs i out
 
 no_run : (name : List ℕ) (lines : List LineValue) → is_run_of name (named lines) 0 ≡ false
-no_run name lines = none_later name 0 0 false 0 0 lines (omega arith) (omega arith) (λ wrong. cc)
+no_run name lines = grind (arith, none_later)
 
 later_than_none : (name : List ℕ) (lines : List LineValue) (r : ℕ)
     → (ltb 0 r && is_run_of name (named lines) r) ≡ is_run_of name (named lines) r
-later_than_none name lines zero = sym (no_run name lines)
-later_than_none name lines (suc r) = rw (lt-ltb 0 (suc r) (omega arith)) refl
+later_than_none name lines r = grind (arith, lt-ltb, no_run)
 
 pub own_named : (name : List ℕ) (lines : List LineValue)
     → own_from name 0 [] (drop (first_named name (named lines)) (named lines)) (tagged lines)
@@ -195,32 +181,14 @@ pub whole_walk : (name : List ℕ) (position : Position) (names : List Named) (t
     → position.name_index ≡ first_named name names → position.run ≡ 0 → (length names ≡ 0 → position.at ≡ 0)
     → (0 < length names → length tags ≤ position.at)
     → IsWholeWalk name names tags (own_at name position names tags)
-whole_walk name position [] tags first at_zero unnamed some = λ lines named_is tagged_is. (
-  λ none. ap (λ (r : ℕ). own_from name r (drop position.at tags) (drop position.name_index []) tags) at_zero
-      ∙ ap (λ (k : ℕ). own_from name 0 (drop k tags) (drop position.name_index []) tags) (unnamed refl)
-      ∙ own_unnamed name [] tags position.name_index refl,
-  λ wrong. absurd (wrong refl),
-)
-whole_walk name position (n ∷ names) tags first at_zero unnamed some = λ lines named_is tagged_is. (
-  λ wrong. cc,
-  λ filled.
-      ap (λ (r : ℕ). own_from name r (drop position.at tags) (drop position.name_index
-      (n ∷ names)) tags) at_zero
-      ∙ ap (λ (ts : List Tagged). own_from name 0 ts (drop position.name_index (n ∷ names)) tags)
-      (past_end tags position.at (some (omega arith)))
-      ∙ ap (λ (k : ℕ). own_from name 0 [] (drop k (n ∷ names)) tags) first
-      ∙ ap (λ (ns : List Named). own_from name 0 [] (drop (first_named name ns) ns) tags) named_is
-      ∙ ap (λ (ts : List Tagged). own_from name 0 [] (drop (first_named name (named lines))
-      (named lines)) ts) tagged_is
-      ∙ own_named name lines,
-)
+whole_walk name position [] tags first at_zero unnamed some = grind (arith, own_unnamed)
+whole_walk name position (n ∷ names) tags first at_zero unnamed some = grind (arith, own_named, past_end)
 
 added : {X : Type 0} (is_group : Bool) (given : Tagged → Option X) (tag : Tagged) (tags : List Tagged)
     (here : Option X) → given tag ≡ here → (is_group ≡ false → here ≡ None)
     → cons_option here (filter_map given tags)
     ≡ filter_map given (cons_option (cond is_group (Some tag) None) tags)
-added true given tag tags here fits none = ap (λ o. cons_option o (filter_map given tags)) (sym fits)
-added false given tag tags here fits none = ap (λ o. cons_option o (filter_map given tags)) (none refl)
+added is_group given tag tags here fits none = grind arith
 
 all_from : {X : Type 0} (given : ℕ × LineValue → Option X) (of_tag : Tagged → Option X)
     → ((name_index run : ℕ) (line : LineValue)
@@ -232,23 +200,19 @@ all_from : {X : Type 0} (given : ℕ × LineValue → Option X) (of_tag : Tagged
 all_from given of_tag fits none name name_index [] without = refl
 all_from given of_tag fits none name name_index (UserAgent value ∷ lines) without = cc
 all_from given of_tag fits none name name_index (line ∷ lines) without =
-    ap (cons_option (given (name_index, line))) (all_from given of_tag fits none name (name_index + 1) lines
-    without)
-    ∙ added (is_group line) of_tag _ _ _ (fits name_index 0 line) (none name_index line)
+    grind (arith, added, all_from given of_tag fits none name (name_index + 1) lines without)
 
 front_next : (is_group : Bool) (tag : Tagged) (tags : List Tagged) → (tag.run == 0) ≡ true
     → in_front 0 tags ≡ tags
     → let all = cons_option (cond is_group (Some tag) None) tags in in_front 0 all ≡ all
-front_next true tag tags first same = rw first (ap (λ ts. tag ∷ ts) same)
-front_next false tag tags first same = same
+front_next is_group tag tags first same = grind arith
 
 front_all : (name_index : ℕ) (lines : List LineValue) → list_any is_agent lines ≡ false
     → in_front 0 (tagged_from 0 false name_index lines) ≡ tagged_from 0 false name_index lines
 front_all name_index [] without = refl
 front_all name_index (UserAgent value ∷ lines) without = cc
 front_all name_index (line ∷ lines) without =
-    front_next (is_group line) (record { number = name_index + 1; line = line; run = 0 }) _ refl
-    (front_all (name_index + 1) lines without)
+    grind (arith, front_next, front_all (name_index + 1) lines without)
 
 found_in_all : {X : Type 0} (given : ℕ × LineValue → Option X) (of_tag : Tagged → Option X)
     → ((name_index run : ℕ) (line : LineValue)
@@ -256,24 +220,15 @@ found_in_all : {X : Type 0} (given : ℕ × LineValue → Option X) (of_tag : Ta
     → ((name_index : ℕ) (line : LineValue) → is_group line ≡ false → given (name_index, line) ≡ None)
     → (name : List ℕ) (lines : List LineValue) → list_any is_agent lines ≡ false
     → filter_map given (captured_lines name lines) ≡ filter_map of_tag (in_front 0 (tagged lines))
-found_in_all given of_tag fits none name lines without =
-    captured_walked given name lines
-    ∙ ap (λ b. from_captured given name (record { captured = not b; named = false }) 0 lines) without
-    ∙ all_from given of_tag fits none name 0 lines without
-    ∙ ap (filter_map of_tag) (sym (front_all 0 lines without))
+found_in_all given of_tag fits none name lines without = grind (arith, all_from, captured_walked, front_all)
 
 pub rules_of_all : (agent : List ℕ) (lines : List LineValue) → list_any is_agent lines ≡ false
     → placed_rules agent lines ≡ filter_map rule_of (in_front 0 (tagged lines))
-rules_of_all agent lines without =
-    found_in_all placed_in rule_of (λ name_index run line. refl) rule_of_group
-    (group_name agent lines) lines without
+rules_of_all agent lines without = grind (arith, found_in_all, rule_of_group)
 
 pub delays_of_all : (agent : List ℕ) (lines : List LineValue) → list_any is_agent lines ≡ false
     → captured_delays agent lines ≡ filter_map delay_of (in_front 0 (tagged lines))
-delays_of_all agent lines without =
-    found_in_all (λ p. delay_in p.1) delay_of (λ name_index run line. refl) delay_of_group
-    (group_name agent lines) lines
-    without
+delays_of_all agent lines without = grind (arith, delay_of_group, found_in_all)
 
 pub given_whole : {X : Type 0} (given : Tagged → Option X) (all : List X) (name : List ℕ) (names : List Named)
     (tags walk : List Tagged) (lines : List LineValue) → names ≡ named lines → tags ≡ tagged lines
@@ -282,14 +237,9 @@ pub given_whole : {X : Type 0} (given : Tagged → Option X) (all : List X) (nam
     → (list_any is_agent lines ≡ true → all ≡ filter_map given (own_tagged name lines))
     → filter_map given walk ≡ all
 given_whole given all name [] tags walk lines named_is tagged_is whole unnamed some =
-    ap (filter_map given) ((whole lines named_is tagged_is).0 refl ∙ ap (in_front 0) tagged_is)
-    ∙ sym (unnamed (no_names lines (sym named_is)))
+    grind (arith, no_names)
 given_whole given all name (n ∷ names) tags walk lines named_is tagged_is whole unnamed some =
-    ap (filter_map given) ((whole lines named_is tagged_is).1 (λ wrong. cc))
-    ∙ sym (some (some_names lines (λ none. filled names (named_is ∙ none))))
-  where
-    filled : {n : Named} (names : List Named) → n ∷ names ≡ [] → ⊥
-    filled names is = cc
+    grind (arith, some_names)
 
 pub any_between : {X : Type 0} (P : X → Type 0) (x : X) (xs old all : List X) → old ++ x ∷ xs ≡ all
     → P x → Any P all
@@ -334,11 +284,7 @@ file_rejected agent file some =
 
 pub given_nothing : {X Y : Type 0} (h : X → Option Y) (x : X) (xs : List X) → filter_map h (x ∷ xs) ≡ []
     → (h x ≡ None) × (filter_map h xs ≡ [])
-given_nothing h x xs none = split (h x) (filter_map h xs) none
-  where
-    split : {Y : Type 0} (o : Option Y) (ys : List Y) → cons_option o ys ≡ [] → (o ≡ None) × (ys ≡ [])
-    split None ys none = (refl, none)
-    split (Some y) ys none = cc
+given_nothing h x xs none = grind arith
 
 pub none_at : {X Y : Type 0} (h : X → Option Y) (xs : List X) (i : ℕ) (d : X) → i < length xs
     → filter_map h xs ≡ [] → h (get_or xs i d) ≡ None

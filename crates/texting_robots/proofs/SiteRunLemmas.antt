@@ -1,9 +1,9 @@
 -- Where the lines of a run begin, and what one more run gives.
 use Rattle.std.specs.Prelude.{filter}
-use Rattle.std.proofs.Common.{◌≡◌, ◌≢◌, ℕ, zero, suc, ◌+◌, ◌<◌, ◌≤◌, ◌==◌, Bool, true, false, ◌||◌, inl, inr}
-use Rattle.std.proofs.Common.{List, [], ◌∷◌, Some, length, drop, refl, ap, sym, ◌∙◌, arith, bytes_eq, cond}
+use Rattle.std.proofs.Common.{◌≡◌, ◌≢◌, ℕ, zero, suc, ◌+◌, ◌<◌, ◌≤◌, ◌==◌, Bool, true, false}
+use Rattle.std.proofs.Common.{List, [], ◌∷◌, Some, length, drop, refl, sym, ◌∙◌, arith, cond}
 use Rattle.std.proofs.Common.{not, None, slice_get, subst, ◌&&◌}
-use Rattle.std.specs.{Str.str_to_ascii_lowercase, List.cons_option, List.list_any}
+use Rattle.std.specs.{List.cons_option, List.list_any}
 use Rattle.std.proofs.lemmas.Bool.{and_parts, ne_eqb, Decides.eqb_tells}
 use Rattle.texting_robots.specs.Line.{LineValue, UserAgent}
 use Rattle.texting_robots.specs.Group.{is_agent, is_agent_named, is_group}
@@ -25,8 +25,7 @@ Ascends (t ∷ tags) = IsAbove t.run tags × Ascends tags
 
 above_next : (is_group : Bool) (run : ℕ) (tag : Tagged) (tags : List Tagged) → run ≤ tag.run
     → IsAbove run tags → IsAbove run (cons_option (cond is_group (Some tag) None) tags)
-above_next true run tag tags here later = (here, later)
-above_next false run tag tags here later = later
+above_next is_group run tag tags here later = grind arith
 
 above_from : (r run : ℕ) (joins : Bool) (position : ℕ) (lines : List LineValue) → r ≤ run → run ≤ position
     → IsAbove r (tagged_from run joins position lines)
@@ -36,16 +35,14 @@ above_from r run true position (UserAgent value ∷ lines) below within =
 above_from r run false position (UserAgent value ∷ lines) below within =
     above_from r (position + 1) true (position + 1) lines (omega arith) (omega arith)
 above_from r run joins position (line ∷ lines) below within =
-    above_next (is_group line) r (record { number = position + 1; line = line; run = run }) _ below
-    (above_from r run (not (is_group line) && joins) (position + 1) lines below (omega arith))
+    grind (arith, above_next, above_from r run (not (is_group line) && joins) (position + 1) lines below)
 
 le_self : (n : ℕ) → n ≤ n
 le_self n = omega arith
 
 ascends_next : (is_group : Bool) (tag : Tagged) (tags : List Tagged) → IsAbove tag.run tags → Ascends tags
     → Ascends (cons_option (cond is_group (Some tag) None) tags)
-ascends_next true tag tags above later = (above, later)
-ascends_next false tag tags above later = later
+ascends_next is_group tag tags above later = grind arith
 
 ascends_from : (run : ℕ) (joins : Bool) (position : ℕ) (lines : List LineValue) → run ≤ position
     → Ascends (tagged_from run joins position lines)
@@ -67,24 +64,23 @@ tagged_ascends lines = ascends_from 0 false 0 lines (omega arith)
 
 pub none_above : (r run : ℕ) (tags : List Tagged) → r < run → IsAbove run tags → of_run r tags ≡ []
 none_above r run [] less above = refl
-none_above r run (t ∷ tags) less (here, later) =
-    rw (ne_eqb t.run r (λ same. omega arith)) (none_above r run tags less later)
+none_above r run (t ∷ tags) less (here, later) = grind (arith, ne_eqb, none_above r run tags less later)
 
 front_is_run : (run : ℕ) (tags : List Tagged) → IsAbove run tags → Ascends tags
     → in_front run tags ≡ of_run run tags
 front_is_run run [] above ascends = refl
-front_is_run run (t ∷ tags) (here, later) (first, rest) = elim (eqb_tells t.run run) [
-  | inl (is, same) ↦ rw is (ap (λ ts. t ∷ ts) (front_is_run run tags later rest))
-  | inr (isnt, other) ↦ rw isnt (sym (none_above run t.run tags (omega arith) first))
-]
+front_is_run run (t ∷ tags) (here, later) (first, rest) =
+    grind (arith, eqb_tells, none_above, front_is_run run tags later rest)
 
 names_from : (name : List ℕ) (run : ℕ) (joins : Bool) (position count : ℕ) (lines : List LineValue)
     → list_any (has_name name) (named_from run joins position count lines)
     ≡ list_any (is_agent_named name) lines
 names_from name run joins position count [] = refl
 names_from name run joins position count (UserAgent value ∷ lines) =
-    ap (λ b. bytes_eq (str_to_ascii_lowercase value) name || b) (names_from name (run_after run joins
-    (position + 1) (UserAgent value)) true (position + 1) count lines)
+    grind (
+      arith,
+      names_from name (run_after run joins (position + 1) (UserAgent value)) true (position + 1) count lines,
+    )
 names_from name run joins position count (line ∷ lines) =
     names_from name run (not (is_group line) && joins) (position + 1) (count_after count line) lines
 
@@ -100,7 +96,7 @@ some_from run joins position count (line ∷ lines) =
     some_from run (not (is_group line) && joins) (position + 1) (count_after count line) lines
 
 pub no_names : (lines : List LineValue) → named lines ≡ [] → list_any is_agent lines ≡ false
-no_names lines none = sym (some_from 0 false 0 0 lines) ∙ ap (list_any (λ (n : Named). true)) none
+no_names lines none = grind (arith, some_from)
 
 pub some_names : (lines : List LineValue) → named lines ≢ [] → list_any is_agent lines ≡ true
 some_names lines some = sym (some_from 0 false 0 0 lines) ∙ filled (named lines) some
@@ -112,31 +108,25 @@ some_names lines some = sym (some_from 0 false 0 0 lines) ∙ filled (named line
 pub has_names : (lines : List LineValue) (names : List Named) → names ≡ named lines
     → not (length names == 0) ≡ list_any is_agent lines
 has_names lines [] are = sym (no_names lines (sym are))
-has_names lines (n ∷ names) are =
-    ap not (ne_eqb (suc (length names)) 0 (λ same. omega arith))
-    ∙ sym (some_names lines (λ none. filled names (are ∙ none)))
-  where
-    filled : {n : Named} (names : List Named) → n ∷ names ≡ [] → ⊥
-    filled names is = cc
+has_names lines (n ∷ names) are = grind (arith, ne_eqb, some_names)
 
 -- a run below these lines is at least this one, if the current one is, or is closed
 named_above : (least run : ℕ) (joins : Bool) (position count : ℕ) (lines : List LineValue)
     → least ≤ position + 1 → (joins ≡ true → least ≤ run) → (i : ℕ) (n : Named)
     → slice_get (named_from run joins position count lines) i ≡ Some n → least ≤ n.run
 named_above least run joins position count [] below here i n at = cc
-named_above least run true position count (UserAgent value ∷ lines) below here zero n at =
-    let same : record { name = value; run = run; start = count } ≡ n = cc in
-    subst (λ (n : Named). least ≤ n.run) same (here refl)
+named_above least run true position count (UserAgent value ∷ lines) below here zero n at = grind arith
 named_above least run true position count (UserAgent value ∷ lines) below here (suc i) n at =
     named_above least run true (position + 1) count lines (omega arith) here i n at
-named_above least run false position count (UserAgent value ∷ lines) below here zero n at =
-    let same : record { name = value; run = position + 1; start = count } ≡ n = cc in
-    subst (λ (n : Named). least ≤ n.run) same below
+named_above least run false position count (UserAgent value ∷ lines) below here zero n at = grind arith
 named_above least run false position count (UserAgent value ∷ lines) below here (suc i) n at =
     named_above least (position + 1) true (position + 1) count lines (omega arith) (λ _. below) i n at
 named_above least run joins position count (line ∷ lines) below here i n at =
-    named_above least run (not (is_group line) && joins) (position + 1) (count_after count line) lines
-    (omega arith) (λ joined. here (and_parts (not (is_group line)) joins joined).1) i n at
+    grind (
+      arith,
+      and_parts,
+      named_above least run (not (is_group line) && joins) (position + 1) (count_after count line) lines,
+    )
 
 ascend_from : (run : ℕ) (joins : Bool) (position count : ℕ) (lines : List LineValue) → run ≤ position
     → (i j : ℕ) (m n : Named) → i < j
@@ -150,22 +140,23 @@ ascend_from run true position count (UserAgent value ∷ lines) within zero (suc
     subst (λ (m : Named). m.run ≤ n.run) same
     (named_above run run true (position + 1) count lines (omega arith) (λ _. le_self run) j n there)
 ascend_from run true position count (UserAgent value ∷ lines) within (suc i) (suc j) m n less here there =
-    ascend_from run true (position + 1) count lines (omega arith) i j m n (omega arith) here there
+    grind (arith, ascend_from run true (position + 1) count lines)
 ascend_from run false position count (UserAgent value ∷ lines) within zero (suc j) m n less here there =
     let same : record { name = value; run = position + 1; start = count } ≡ m = cc in
     subst (λ (m : Named). m.run ≤ n.run) same
     (named_above (position + 1) (position + 1) true (position + 1) count lines (omega arith)
     (λ _. le_self (position + 1)) j n there)
 ascend_from run false position count (UserAgent value ∷ lines) within (suc i) (suc j) m n less here there =
-    ascend_from (position + 1) true (position + 1) count lines (omega arith) i j m n (omega arith) here there
+    grind (arith, ascend_from (position + 1) true (position + 1) count lines)
 ascend_from run joins position count (line ∷ lines) within i j m n less here there =
-    ascend_from run (not (is_group line) && joins) (position + 1) (count_after count line) lines (omega arith)
-    i j m n less here there
+    grind (
+      arith,
+      ascend_from run (not (is_group line) && joins) (position + 1) (count_after count line) lines,
+    )
 
 pub names_ascend : (lines : List LineValue) (i j : ℕ) (m n : Named) → i < j
     → slice_get (named lines) i ≡ Some m → slice_get (named lines) j ≡ Some n → m.run ≤ n.run
-names_ascend lines i j m n less here there =
-    ascend_from 0 false 0 0 lines (omega arith) i j m n less here there
+names_ascend lines i j m n less here there = grind (arith, ascend_from)
 
 pub record IsStart (tags : List Tagged) (n : Named) : Type 0 where
   pub within : n.start ≤ length tags
@@ -179,8 +170,7 @@ IsStartBelow count tags n = (skipped : ℕ) × (n.start ≡ count + skipped) × 
 start_here : (name : List ℕ) (run count : ℕ) (tags : List Tagged) (n : Named)
     → record { name = name; run = run; start = count } ≡ n → IsAbove run tags → Ascends tags
     → IsStartBelow count tags n
-start_here name run count tags n same above ascends =
-    rw (← same) (0, omega arith, omega arith, front_is_run run tags above ascends)
+start_here name run count tags n same above ascends = grind (arith, front_is_run)
 
 start_next : (is_group : Bool) (count : ℕ) (tag : Tagged) (tags : List Tagged) (n : Named)
     → (is_group ≡ true → tag.run + 1 ≤ n.run) → IsStartBelow (cond is_group (count + 1) count) tags n
@@ -219,7 +209,4 @@ starts_from run joins position count (line ∷ lines) within i n at =
 
 pub starts : (lines : List LineValue) (i : ℕ) (n : Named) → slice_get (named lines) i ≡ Some n
     → IsStart (tagged lines) n
-starts lines i n at =
-    let (skipped, is, within, same) = starts_from 0 false 0 0 lines (omega arith) i n at in
-    let first : n.start ≡ skipped = omega arith in
-    record { within = omega arith; lines = rw first same }
+starts lines i n at = grind (arith, starts_from)

@@ -1,22 +1,21 @@
 -- Field names and directives.
 use Rattle.std.proofs.Common.{◌≡◌, ℕ, ◌+◌, ◌≤◌, true, List, [], ◌∷◌, Some, arith, drop, get_or, length, map}
-use Rattle.std.proofs.Common.{refl, take, false, sym, ap, ◌∙◌, ◌⊎◌, ◌≢◌, ◌<◌, ◌==◌, not, ◌||◌, inl, inr, ◌++◌}
+use Rattle.std.proofs.Common.{refl, take, false, sym, ap, ◌∙◌, ◌⊎◌, ◌≢◌, ◌==◌, not, ◌||◌, inl, inr, ◌++◌}
 use Rattle.std.proofs.Common.{rules, cond, if◌then◌else◌, subst, Option, None, length-append, nat_lt}
 use Rattle.std.proofs.lemmas.List.{drop_more, length-map, Sums.take_while-cons, map-append, take-append-drop}
 use Rattle.std.proofs.lemmas.List.{take-map, drop_at}
 use Rattle.std.specs.{Char.to_ascii_lowercase, Str.bytes_eq, Bool.Decides}
 use Rattle.texting_robots.specs.Internal.Statement.{skip_blanks, after_blanks, after_separator, statement_of}
-use Rattle.texting_robots.specs.Internal.Statement.{after_any, space, kind_with, kind_by, region_of, value_of}
-use Rattle.texting_robots.specs.Internal.Statement.{begins, tab, colon, hash, tail_of, tail_as, trimmed}
+use Rattle.texting_robots.specs.Internal.Statement.{after_any, space, kind_by, region_of, value_of}
+use Rattle.texting_robots.specs.Internal.Statement.{begins, tab, hash, tail_of, tail_as, trimmed}
 use Rattle.std.proofs.lemmas.Bool.{false_from_ne_true, cases_Bool, cond-true, cond-false, eqb-true, eqb-false}
 use Rattle.std.proofs.lemmas.Bool.{ne_eqb, ltb-true, lt-ltb, true≢false}
 use Rattle.std.proofs.lemmas.Slice.{Eq.bytes_eq-Decides}
 use Rattle.std.specs.List.{AllByRecursion as Each, Contains}
-use Rattle.std.proofs.lemmas.Bool.Decides.{Decides-or, Decides-eqb}
 use Rattle.std.proofs.lemmas.Option.{option_and_then_some, same_Some, some_pair_parts}
 use Rattle.std.proofs.lemmas.Str.{Ascii.lowercase-lowercase}
 use Rattle.std.proofs.lemmas.List.Elements.{All-contains, All-from_recursion, Contains-append_right}
-use Rattle.texting_robots.specs.declared.parser.statement.Kind.{Kind, TheVariants.UserAgent}
+use Rattle.texting_robots.specs.declared.parser.statement.Kind.{Kind}
 use Rattle.texting_robots.specs.{Trim.IsTrimOf, Statement.field_names, Internal.Statement.IsOptionalComment}
 use Rattle.texting_robots.specs.Statement.{IsBlank, StartsValue, IsAfterBlanks, IsAfterColon, IsStatement}
 use Rattle.texting_robots.proofs.TrimLemmas.{trimmed_is_trim, is_trimmed, blanks_skipped}
@@ -30,20 +29,17 @@ HasAt text k (b ∷ name) = (get_or text k 0 ≡ b) × HasAt text (k + 1) name
 front_of : (text name : List ℕ) (k : ℕ) → k + length name ≤ length text → HasAt text k name
     → take (length name) (drop k text) ≡ name
 front_of text [] k within has = refl
-front_of text (b ∷ name) k within (here, more) =
-    rw (drop_more text k 0 (omega arith), here, front_of text name (k + 1) (omega arith) more) refl
+front_of text (b ∷ name) k within (here, more) = grind (arith, drop_more, front_of text name (k + 1))
 
 pub usual_is : (text name small : List ℕ) (others : List (List ℕ)) → length name ≤ length text
     → HasAt text 0 name → length small ≡ length name → bytes_eq (map to_ascii_lowercase name) small ≡ true
     → after_any (small ∷ others) text ≡ Some (drop (length name) text)
-usual_is text name small others within has sizes same =
-    rw (sizes, front_of text name 0 (omega arith) has, same) refl
+usual_is text name small others within has sizes same = grind (arith, front_of)
 
 module _ (name text key : List ℕ) (front : key ≡ take (length name) text) where
   here : map to_ascii_lowercase (take (length (map to_ascii_lowercase name)) text)
       ≡ map to_ascii_lowercase key
-  here = ap (λ n. map to_ascii_lowercase (take n text)) (length-map name to_ascii_lowercase)
-      ∙ ap (map to_ascii_lowercase) (sym front)
+  here = grind (arith, length-map)
 
   pub written_same : map to_ascii_lowercase key ≡ map to_ascii_lowercase name
       → begins (map to_ascii_lowercase name) text ≡ true
@@ -56,7 +52,7 @@ module _ (name text key : List ℕ) (front : key ≡ take (length name) text) wh
 -- ---- A line is a directive of at most one kind with at most one value: those that `statement_of` computes.
 
 blank_decides : (b : ℕ) → Decides (b == space || b == tab) (IsBlank b)
-blank_decides b = Decides-or (b == space) (b == tab) (Decides-eqb b space) (Decides-eqb b tab)
+blank_decides b = grind arith
 
 pub skip_front : (blanks left : List ℕ) → Each IsBlank blanks
     → skip_blanks (blanks ++ left) ≡ skip_blanks left
@@ -69,9 +65,7 @@ NoBlank [] = Unit {0}
 NoBlank (b ∷ text) = ¬ IsBlank b
 
 pub kept : (text : List ℕ) → NoBlank text → skip_blanks text ≡ text
-kept [] plain = refl
-kept (b ∷ text) plain =
-    cond-false _ _ _ (false_from_ne_true (b == space || b == tab) (λ is. plain ((blank_decides b).0 is)))
+kept text plain = grind (arith, blank_decides, cond-false, false_from_ne_true)
 
 abbrev Skipped : List ℕ → List ℕ → Type 0
 Skipped left text = (blanks : List ℕ) × Each IsBlank blanks × (text ≡ blanks ++ left) × NoBlank left
@@ -87,12 +81,7 @@ skipped (b ∷ text) = elim (cases_Bool (b == space || b == tab)) [
 ]
 
 plain_by : (kind : Kind) (text : List ℕ) → kind_by text ≡ Some kind → NoBlank text
-plain_by kind [] is = tt
-plain_by kind (b ∷ text) is = λ blank. at blank is
-  where
-    at : IsBlank b → ¬ (kind_with (to_ascii_lowercase b) ≡ Some kind)
-    at (inl e) is = let none : None ≡ Some kind = rw e at is in cc
-    at (inr e) is = let none : None ≡ Some kind = rw e at is in cc
+plain_by kind text is = grind arith
 
 -- `after_any`, given the text in lower case
 abbrev after_small : List (List ℕ) → List ℕ → List ℕ → Option (List ℕ)
@@ -110,12 +99,10 @@ IsRead kind s = (more text : List ℕ) → (kind_by (s ++ more) ≡ Some kind)
     × (after_small (field_names kind) (s ++ more) text ≡ Some (drop (length s) text))
 
 each_read : (kind : Kind) → Each (IsRead kind) (field_names kind)
-each_read UserAgent = search rules
-each_read _ = search rules
+each_read kind = grind arith
 
 kind_small : (text : List ℕ) → kind_by text ≡ kind_by (map to_ascii_lowercase text)
-kind_small [] = refl
-kind_small (b ∷ text) = ap kind_with (sym (lowercase-lowercase b))
+kind_small text = grind (arith, lowercase-lowercase)
 
 key_found : (kind : Kind) (key rest : List ℕ) → Contains (field_names kind) (map to_ascii_lowercase key)
     → (kind_by (key ++ rest) ≡ Some kind) × (after_any (field_names kind) (key ++ rest) ≡ Some rest)
@@ -135,7 +122,7 @@ key_found kind key rest is =
 
 found_key : (list : List (List ℕ)) (text rest : List ℕ) → after_any list text ≡ Some rest
     → (key : List ℕ) × Contains list (map to_ascii_lowercase key) × (text ≡ key ++ rest)
-found_key [] text rest is = let none : None ≡ Some rest = is in cc
+found_key [] text rest is = grind arith
 found_key (s ∷ list) text rest is = elim (cases_Bool (begins s text)) [
   | inl test ↦
       let n = length s in
@@ -151,21 +138,14 @@ found_key (s ∷ list) text rest is = elim (cases_Bool (begins s text)) [
 
 spaced : (rest tail : List ℕ) → StartsValue tail
     → (skip_blanks tail ≡ tail) × (after_separator rest tail ≡ after_blanks rest tail)
-spaced rest [] plain = (refl, refl)
-spaced rest (b ∷ tail) plain = (kept (b ∷ tail) plain.0, cond-false _ _ _ (ne_eqb b colon plain.1))
+spaced rest tail plain = grind (arith, cond-false, kept, ne_eqb)
 
 tail_found : (tail rest : List ℕ) → IsAfterColon tail rest ⊎ IsAfterBlanks tail rest
     → tail_of rest ≡ Some (skip_blanks tail)
-tail_found tail rest (inl (blanks, all, whole)) =
-    ap (after_separator rest) (ap skip_blanks whole ∙ skip_front blanks (colon ∷ tail) all)
+tail_found tail rest (inl (blanks, all, whole)) = grind (arith, skip_front)
 tail_found tail rest (inr ([], all, some, whole, plain)) = absurd (some refl)
 tail_found tail rest (inr (b ∷ blanks, all, some, whole, plain)) =
-    let (same, blanks_alone) = spaced rest tail plain in
-    let less : length tail < length rest = omega (arith, ap length whole, length-append blanks tail) in
-    let short = lt-ltb (length tail) (length rest) less in
-    let reads : skip_blanks rest ≡ tail =
-    ap skip_blanks whole ∙ skip_front (b ∷ blanks) tail all ∙ same in
-    rw (reads, blanks_alone, short, same) refl
+    search (rules, length-append, lt-ltb, skip_front, spaced)
 
 -- the code found the tail without its leading spaces and tabs
 abbrev Tailed : List ℕ → List ℕ → Type 0
@@ -188,15 +168,7 @@ blanks_found rest left found (blanks, all, whole, _) plain is =
 
 found_tail : (rest left found : List ℕ) → Skipped left rest → after_separator rest left ≡ Some found
     → Tailed rest found
-found_tail rest [] found s is = blanks_found rest [] found s tt is
-found_tail rest (c ∷ left) found s is = elim (cases_Bool (c == colon)) [
-  | inl is_colon ↦ (
-    left,
-    inl (s.0, s.1, rw (← eqb-true c colon is_colon) s.2),
-    sym (same_Some _ _ (rw is_colon at is)),
-  )
-  | inr other ↦ blanks_found rest (c ∷ left) found s (s.3, eqb-false c colon other) (rw other at is)
-]
+found_tail rest left found h is = grind (arith, blanks_found, eqb-false, eqb-true, same_Some)
 
 region_step : (b : ℕ) (tail : List ℕ) → region_of (b ∷ tail)
     ≡ cond (not (b == hash)) (b ∷ region_of tail) []
@@ -220,7 +192,7 @@ pub region_is : (region comment : List ℕ) → Each (λ byte. byte ≢ hash) re
 region_is [] comment plain (inl empty) = ap region_of empty
 region_is [] comment plain (inr (text, is)) = ap region_of is ∙ region_step hash text
 region_is (b ∷ region) comment plain is =
-    rw (region_step b (region ++ comment), ne_eqb b hash plain.0, region_is region comment plain.1 is) refl
+    grind (arith, ne_eqb, region_step, region_is region comment plain.1 is)
 
 value_skipped : (tail : List ℕ) → value_of (skip_blanks tail) ≡ value_of tail
 value_skipped tail =

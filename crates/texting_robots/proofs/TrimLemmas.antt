@@ -1,6 +1,6 @@
 -- `trimmed` computes the trim of a raw value, and the trim is unique.
 use Rattle.std.proofs.Common.{◌≡◌, ℕ, zero, suc, ◌+◌, ◌≤◌, ◌<◌, ◌-◌, Bool, true, false, cond, inl, inr, List}
-use Rattle.std.proofs.Common.{[], ◌∷◌, ◌++◌, length, take, drop, sym, refl, ap, ap₂, subst, ◌∙◌, append_assoc}
+use Rattle.std.proofs.Common.{[], ◌∷◌, ◌++◌, length, take, drop, sym, refl, ap, ◌∙◌, append_assoc}
 use Rattle.std.proofs.Common.{◌==◌, not, append-nil, arith, bytes_eq, IsTrue, Option, Some, None}
 use Rattle.std.proofs.Common.{length-append, slice_get, get_or}
 use Rattle.std.proofs.Math.{Seq.drop-nil, Utf8.scalars}
@@ -62,10 +62,7 @@ shifted : (k n off n' off' : ℕ) (ps : List Decoded) → n' ≡ k + n → off' 
 unfolding kept_start spans_from
 shifted k n off n' off' [] long far = long
 shifted k n off n' off' (p ∷ ps) long far =
-    elim (cases_Bool (is_whitespace (or_replacement p.char))) [
-      | inl is ↦ rw is (shifted k n (off + p.size) n' (off' + p.size) ps long (omega arith))
-      | inr isnt ↦ rw isnt far
-    ]
+    grind (arith, cases_Bool, shifted k n (off + p.size) n' (off' + p.size) ps long)
 
 abbrev from_start : List ℕ → List ℕ
 from_start bytes = trim_start_by is_whitespace bytes
@@ -98,21 +95,13 @@ encode_some c = grind (arith, nat_tests)
 
 start_char : (c : ℕ) (rest : List ℕ) → scalar c ≡ true → from_start (encode_utf8 c ++ rest)
     ≡ cond (is_whitespace c) (from_start rest) (encode_utf8 c ++ rest)
-start_char c rest is =
-    let some = encode_some c in
-    rw (
-      start_step (encode_utf8 c ++ rest) (simp length-append (omega arith)),
-      decoded-encode c rest is,
-      drop_at (encode_utf8 c) rest _ refl,
-    ) refl
+start_char c rest is = grind (arith, decoded-encode, drop_at, encode_some, length-append, start_step)
 
 start_spaces : (chars rest : List ℕ) → AllWhite chars
     → from_start (encode_utf8_all chars ++ rest) ≡ from_start rest
 start_spaces [] rest all = refl
 start_spaces (c ∷ cs) rest all =
-    ap from_start (append_assoc (encode_utf8 c) (encode_utf8_all cs) rest)
-    ∙ start_char c (encode_utf8_all cs ++ rest) (white_scalar c all.0) ∙ cond-true _ _ _ all.0
-    ∙ start_spaces cs rest all.1
+    grind (arith, append_assoc, cond-true, start_char, white_scalar, start_spaces cs rest all.1)
 
 abbrev Started : List ℕ → Type 0
 Started bytes = (chars : List ℕ) × AllWhite chars × (bytes ≡ encode_utf8_all chars ++ from_start bytes)
@@ -162,9 +151,14 @@ end_spaces : (chars rest : List ℕ) → AllWhite chars
     → end_of (rest ++ encode_utf8_all chars) ≡ end_of rest
 end_spaces [] rest all = ap end_of (append-nil rest)
 end_spaces (c ∷ cs) rest all =
-    ap end_of (sym (append_assoc rest (encode_utf8 c) (encode_utf8_all cs)))
-    ∙ end_spaces cs (rest ++ encode_utf8 c) all.1
-    ∙ end_char rest c (white_scalar c all.0) ∙ cond-true _ _ _ all.0
+    grind (
+      arith,
+      append_assoc,
+      cond-true,
+      end_char,
+      white_scalar,
+      end_spaces cs (rest ++ encode_utf8 c) all.1,
+    )
 
 abbrev Ended : List ℕ → ℕ → Type 0
 Ended text end = (end ≤ length text) × IsSpaces (drop end text)
@@ -259,28 +253,17 @@ is_trimmed region value u =
 
 pub same_trim : (text region value : List ℕ) → trimmed text ≡ trimmed region → IsTrimOf value region
     → IsTrimOf value text
-same_trim text region value same t =
-    subst (λ v. IsTrimOf v text) (same ∙ is_trimmed region value t) (trimmed_is_trim text)
+same_trim text region value same t = grind (arith, is_trimmed, trimmed_is_trim)
 
 blank_spaces : (blanks : List ℕ) → Each IsBlank blanks
     → AllWhite blanks × (encode_utf8_all blanks ≡ blanks)
 unfolding encode_utf8
 blank_spaces [] all = (tt, refl)
-blank_spaces (b ∷ blanks) (is, all) =
-    let (white, same) = blank_spaces blanks all in
-    let (is_white, one) = at is in
-    ((is_white, white), ap₂ (λ s t. s ++ t) one same)
-  where
-    at : IsBlank b → (is_whitespace b ≡ true) × (encode_utf8 b ≡ b ∷ [])
-    at (inl e) = rw e (refl, refl)
-    at (inr e) = rw e (refl, refl)
+blank_spaces (b ∷ blanks) (is, all) = grind (arith, blank_spaces blanks all)
 
 pub blanks_skipped : (blanks region : List ℕ) → Each IsBlank blanks
     → trimmed (blanks ++ region) ≡ trimmed region
-blanks_skipped blanks region all =
-    let (white, same) = blank_spaces blanks all in
-    ap (trim_end_by is_whitespace)
-    (ap (λ t. from_start (t ++ region)) (sym same) ∙ start_spaces blanks region white)
+blanks_skipped blanks region all = grind (arith, blank_spaces, start_spaces)
 
 end_blanks : (left blanks : List ℕ) → Each IsBlank blanks
     → trim_end_by is_whitespace (left ++ blanks) ≡ trim_end_by is_whitespace left
@@ -342,9 +325,7 @@ pub graphic_ends : (text : List ℕ) (first last : ℕ) → Some first ≡ slice
     → trimmed text ≡ text
 graphic_ends [] first last here there first_is last_is = cc
 graphic_ends (b ∷ rest) first last here there first_is last_is =
-    let n : length (b ∷ rest) - 1 ≡ length rest = omega arith in
-    let same = slice_get-get_or (b ∷ rest) (length rest) 0 (omega arith) in
-    graphic_trim b rest (cc) (cc)
+    grind (arith, graphic_trim, slice_get-get_or)
 
 -- if the first byte of a tail is visible and starts no comment, the value is empty or begins with it
 pub other_value : (tail name : List ℕ) (first letter : ℕ) → Some first ≡ slice_get tail 0

@@ -1,11 +1,11 @@
 -- Verdicts, and the order of patterns and of entries.
 use Rattle.std.specs.Prelude.{if◌then◌else◌}
 use Rattle.std.proofs.Common.{◌≡◌, ◌≢◌, ◌<◌, ◌↔◌, ◌⊎◌, inl, inr, ℕ, zero, suc, Bool, true, false, List, []}
-use Rattle.std.proofs.Common.{◌∷◌, ◌++◌, length, Option, Some, None, IsPermutation, ap, sym, subst, refl, ◌∙◌}
-use Rattle.std.proofs.Common.{arith, slice_index, take, Less, Equal, Greater, ◌≤◌, AllPairs, Err, Ok, Result}
-use Rattle.std.specs.Cmp.{both_ways, IsTotalOrder, nat_cmp_is, Lexicographic.slice_cmp, IsStrictWeakOrder}
+use Rattle.std.proofs.Common.{◌∷◌, ◌++◌, length, Option, Some, None, IsPermutation, ap, sym, refl, ◌∙◌}
+use Rattle.std.proofs.Common.{arith, slice_index, take, Less, Equal, Greater, ◌≤◌, AllPairs, Result}
+use Rattle.std.specs.Cmp.{IsTotalOrder, nat_cmp_is, Lexicographic.slice_cmp, IsStrictWeakOrder}
 use Rattle.std.specs.{List.Contains, declared.cmp.Ordering.Ordering, Result.is_ok, List.Sorted.IsSortedBy}
-use Rattle.std.proofs.lemmas.Bool.{cases_Bool, cases_order, false≢true, cases_lt}
+use Rattle.std.proofs.lemmas.Bool.{cases_Bool, cases_order, cases_lt}
 use Rattle.std.proofs.lemmas.List.Sorted.{Contains-permutation, IsPermutation-map, IsPermutation-middle}
 use Rattle.std.proofs.lemmas.List.Sorted.{IsPermutation-sym, ranks_by, sorted_far}
 use Rattle.texting_robots.specs.Decision.{IsBetter, IsDecidingLine, IsLongestMatch}
@@ -25,8 +25,7 @@ denied_by : (rules others : List Rule) (text : List ℕ)
     → ((p : List ℕ) → Contains rules (p, false) → Contains others (p, false))
     → ((q : List ℕ) → Contains others (q, true) → Contains rules (q, true))
     → IsDenied rules text → IsDenied others text
-denied_by rules others text denies allows (other, p, has, matches, longest) =
-    (other, p, denies p has, matches, λ q splits. longest q (allows q splits))
+denied_by rules others text denies allows (other, p, has, matches, longest) = grind arith
 
 pub same_elements : {X : Type 0} (xs ys : List X) → IsPermutation xs ys → (x : X)
     → Contains xs x ↔ Contains ys x
@@ -35,8 +34,7 @@ same_elements xs ys same x =
 
 pub after_first : {X : Type 0} (first : X) (rest : List X) (x : X) → ¬ ◌≡◌ {A = X} first x
     → Contains (first ∷ rest) x → Contains rest x
-after_first first rest x other (zero, below, at) = absurd (other at)
-after_first first rest x other (suc k, below, at) = (k, omega arith, at)
+after_first first rest x other h2 = grind arith
 
 pub order_changes_nothing : (rules others : List Rule) (text : List ℕ) (answer : Bool)
     → IsPermutation rules others → IsVerdict rules text answer → IsVerdict others text answer
@@ -60,10 +58,10 @@ module _ (front back : List Rule) (added rule : Rule) where
   contains_more (k, below, at) = moved.1 (suc k, omega arith, at)
 
   contains_less : added ≢ rule → Contains (front ++ added ∷ back) rule → Contains (front ++ back) rule
-  contains_less differs has = after_first added (front ++ back) rule differs (moved.0 has)
+  contains_less differs has = grind (arith, after_first, moved)
 
 kinds_differ : (p q : List ℕ) → ◌≢◌ {A = Rule} (p, false) (q, true)
-kinds_differ p q same = false≢true (ap (λ (r : Rule). r.1) same)
+kinds_differ p q same = grind arith
 
 pub one_more_disallow : (front back : List Rule) (pattern text : List ℕ)
     → IsVerdict (front ++ back) text false → IsVerdict (front ++ (pattern, false) ∷ back) text false
@@ -80,30 +78,12 @@ one_more_allow front back pattern text allowed denied =
 
 of_two : (a b x : Rule) → Contains (a ∷ b ∷ []) x → ◌≡◌ {A = Rule} a x
     ⊎ ◌≡◌ {A = Rule} b x
-of_two a b x (zero, below, at) = inl at
-of_two a b x (suc zero, below, at) = inr at
-of_two a b x (suc (suc k), below, at) = absurd (omega arith)
+of_two a b x h = grind arith
 
 pub length_decides : (deny allow text : List ℕ) → text ≢ robots_file → Matches deny text
     → Matches allow text
     → IsVerdict ((deny, false) ∷ (allow, true) ∷ []) text false ↔ (length allow < length deny)
-length_decides deny allow text other denies allows = (
-  λ (differs, p, has, matches, longest). elim (of_two (deny, false) (allow, true) (p, false) has) [
-    | inl same ↦ subst (λ (r : Rule). length allow < length r.0) (sym same)
-        (longest allow (1, omega arith, refl) allows)
-    | inr turned ↦ absurd (kinds_differ p allow (sym turned))
-  ],
-  λ longer. (
-    other,
-    deny,
-    (0, omega arith, refl),
-    denies,
-    λ q has matches. elim (of_two (deny, false) (allow, true) (q, true) has) [
-      | inl turned ↦ absurd (kinds_differ deny q turned)
-      | inr same ↦ subst (λ (r : Rule). length r.0 < length deny) same longer
-    ],
-  ),
-)
+length_decides deny allow text other denies allows = grind (arith, kinds_differ, of_two)
 
 pub longest_permuted : (rules others : List PlacedRule) (text : List ℕ) (placed : PlacedRule)
     → IsPermutation rules others
@@ -154,49 +134,23 @@ same_lines rules others same text line = (
 kind_not_better : (one other : PlacedRule) → length one.rule.0 ≡ length other.rule.0
     → ¬ IsBetter one other
     → one.rule.1 ≡ true → other.rule.1 ≡ true
-kind_not_better one other same not allows = elim (cases_Bool other.rule.1) [
-  | inl too ↦ too
-  | inr denies ↦ absurd (not (inr (same, inl (allows, denies))))
-]
+kind_not_better one other same not allows = grind (arith, cases_Bool)
 
 same_line : (one other : PlacedRule) → ¬ IsBetter one other → ¬ IsBetter other one
     → one.line ≡ other.line
-same_line one other not nor = elim (cases_order (length one.rule.0) (length other.rule.0)) [
-  | inr (inl less) ↦ absurd (nor (inl less))
-  | inr (inr more) ↦ absurd (not (inl more))
-  | inl same ↦
-      let kinds = both_ways one.rule.1 other.rule.1 (kind_not_better one other same not)
-      (kind_not_better other one (sym same) nor) in
-      elim (cases_order one.line other.line) [
-        | inl at ↦ at
-        | inr (inl sooner) ↦ absurd (not (inr (same, inr (kinds, sooner))))
-        | inr (inr later) ↦ absurd (nor (inr (sym same, inr (sym kinds, later))))
-      ]
-]
+same_line one other not nor = grind (arith, cases_order, kind_not_better)
 
 none_decides : (rules : List PlacedRule) (text : List ℕ) (line : ℕ) → IsDecidingLine rules text None
     → ¬ (IsDecidingLine rules text (Some line))
-none_decides rules text line none (differs, placed, decides, at) = elim none [
-  | inl file ↦ differs file
-  | inr nothing ↦ nothing placed decides.listed decides.matches
-]
+none_decides rules text line none (differs, placed, decides, at) = grind arith
 
 pub one_verdict : (rules : List Rule) (text : List ℕ) (one two : Bool) → IsVerdict rules text one
     → IsVerdict rules text two → one ≡ two
-one_verdict rules text true true is is_too = refl
-one_verdict rules text true false is is_too = absurd (is is_too)
-one_verdict rules text false true is is_too = absurd (is_too is)
-one_verdict rules text false false is is_too = refl
+one_verdict rules text one two is is_too = grind arith
 
 pub one_line_decides : (rules : List PlacedRule) (text : List ℕ) (line other : Option ℕ)
     → IsDecidingLine rules text line → IsDecidingLine rules text other → line ≡ other
-one_line_decides rules text None None one two = refl
-one_line_decides rules text None (Some line) one two = absurd (none_decides rules text line one two)
-one_line_decides rules text (Some line) None one two = absurd (none_decides rules text line two one)
-one_line_decides rules text (Some line) (Some other) (_, a, first, at) (_, b, second, there) =
-    let same = same_line a b (second.best a first.listed first.matches)
-    (first.best b second.listed second.matches) in
-    ap (λ n. Some n) (sym at ∙ same ∙ there)
+one_line_decides rules text line other one two = grind (arith, none_decides, same_line)
 
 pub cmp_less : (x y : ℕ) → x < y → nat_cmp x y ≡ Less
 cmp_less x y h = sym (nat_cmp_is x y Less h)
@@ -232,10 +186,7 @@ smaller_is_less [] [] k n same less = absurd (omega (arith, less))
 smaller_is_less [] (y ∷ q) k n same less = absurd (omega (arith, n))
 smaller_is_less (x ∷ p) [] k n same less = absurd (omega (arith, n))
 smaller_is_less (x ∷ p) (y ∷ q) zero n same less = rw (cmp_less x y less) refl
-smaller_is_less (x ∷ p) (y ∷ q) (suc k) n same less =
-    let first : x ≡ y = cc in
-    let rest : take k p ≡ take k q = cc in
-    rw (first, cmp_same y) (smaller_is_less p q k (omega (arith, n)) rest less)
+smaller_is_less (x ∷ p) (y ∷ q) (suc k) n same less = grind (arith, cmp_same, smaller_is_less p q k)
 
 pattern_total : IsTotalOrder pattern_cmp
 pattern_total =
@@ -304,28 +255,17 @@ abbrev IsNoEarlier : ℕ → ℕ → ℕ → ℕ → Type 0
 IsNoEarlier m n i j = is_lt (ordering_then (nat_cmp m n) (nat_cmp j i)) ≡ false
 
 higher : (m n i j : ℕ) → IsNoEarlier m n i j → n ≤ m
-higher m n i j h = elim (cases_lt m n) [
-  | inl less ↦ let wrong = rw (cmp_less m n less) at h in cc
-  | inr more ↦ more
-]
+higher m n i j h = grind (arith, cases_lt, cmp_less)
 
 earlier : (n i j : ℕ) → IsNoEarlier n n i j → i ≤ j
-earlier n i j h = elim (cases_lt j i) [
-  | inl less ↦ let wrong = rw (cmp_same n, cmp_less j i less) at h in cc
-  | inr more ↦ more
-]
+earlier n i j h = grind (arith, cases_lt, cmp_less, cmp_same)
 
 goes_before : (first second : Entry) → is_before second first ≡ false → GoesBefore first second
-goes_before first second h = record {
-  higher = higher (rank_in first) (rank_in second) first.line second.line h;
-  earlier = λ same. earlier (rank_in first) first.line second.line
-      (subst (λ n. IsNoEarlier (rank_in first) n first.line second.line) same h);
-}
+goes_before first second h = grind (arith, earlier, higher)
 
 pub pairs_sorted : (entries : List Entry) → IsSortedBy is_before entries → AllPairs GoesBefore entries
 pairs_sorted entries sorted i j d before within =
     goes_before _ _ (sorted_far is_before weak entries sorted i j d (omega arith) within)
 
 pub at_most : {X Y : Type 0} (made : Result X Y) (n m : ℕ) → m ≤ n → (if is_ok made then n else m) ≤ n
-at_most (Ok _) n m within = omega arith
-at_most (Err _) n m within = within
+at_most made n m within = grind arith
