@@ -10,6 +10,7 @@ ghost use Rattle.texting_robots.specs.Rules.{HasNoRulesOrSitemaps, unplaced};
 
 pub use crate::decision::Decision;
 use crate::error::{Error, TooCostly};
+use crate::prefilter::bigrams::BigramSet;
 use crate::prepared::{prepare, target};
 use crate::reading::read_file;
 use crate::rules::Rules;
@@ -216,6 +217,31 @@ impl Robot {
         ensures ample { cost_of self.now.rules (length view.old.text) ≤ budget
             → view.old.looks + cost_of self.now.rules (length view.old.text) < 2 ^ 64 → IsOk result }
     {
-        self.rules.decide_within(view, budget)
+        self.rules.decide_within(view, None, budget)
+    }
+
+    /// The same for a view of `text`. It passes over rules with a pair of adjacent bytes that the text doesn't
+    /// contain, and counts one look for each. Reading the text once for its pairs isn't counted.
+    ///
+    /// # Errors
+    ///
+    /// As for [`Robot::decision_within`].
+    pub fn decision_of_text(
+        &self,
+        text: &str,
+        view: &mut View<'_>,
+        budget: u64,
+    ) -> Result<Decision, TooCostly>
+        requires { view.old.text ≡ text.now }
+        ensures decision { IfOk result (IsDecisionOn self.now.rules text.now) }
+        ensures looks { LooksAtMost view.old view.new budget }
+        ensures visits { IfOk result (λ _. text.now ≢ robots_file
+            → IsDecidingLine self.now.rules text.now None
+            → view.old.looks + length self.now.rules ≤ view.new.looks) }
+        ensures ample { cost_of self.now.rules (length text.now) ≤ budget
+            → view.old.looks + cost_of self.now.rules (length text.now) < 2 ^ 64 → IsOk result }
+    {
+        let pairs = BigramSet::of(text.as_bytes());
+        self.rules.decide_within(view, Some(pairs), budget)
     }
 }
