@@ -64,6 +64,18 @@ def test_many_urls_may_be_few():
     assert shop.matrix({"/": 1}, iter(["a\nb", "SlowBot"])) == [[Verdict(True, None)], [Verdict(False, 7)]]
 
 
+def test_rules_whose_adjacent_bytes_a_url_lacks_cost_one():
+    """Compared with all of this path, one of these rules would cost thousands."""
+    robots = Robots(b"User-agent: *\nDisallow: *ab\nDisallow: *cd\n")
+    path = "/" + "e" * 2000
+    assert robots.cost(len(path), "x") == 2 * (1 + 2 * 2001)
+    assert robots.verdict_within(path, "x", 2) == Verdict(True, None)
+    with pytest.raises(TooCostlyError):
+        robots.verdict_within(path, "x", 1)
+    with pytest.raises(TooCostlyError):
+        robots.verdict_within(path + "ab", "x", 2)
+
+
 def test_verdicts_within_a_budget():
     """The longer rule is tried first, and no byte is compared if it is longer than the URL's path."""
     shop = Robots(SHOP)

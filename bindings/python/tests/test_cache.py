@@ -377,7 +377,7 @@ def test_sitemaps_are_told_once(caches):
 
 def test_a_file_that_takes_too_long(caches):
     """10,000 rules with a star: each may be compared with all of a long URL."""
-    body = b"User-agent: *\n" + b"".join(b"Disallow: *a%db\n" % number for number in range(10_000))
+    body = b"User-agent: *\n" + b"".join(b"Disallow: *a*%d*b\n" % number for number in range(10)) + b"Disallow: *a*c*b\n" * 9_990
     cache = caches()
     site, _ = fetched(cache, A, file(body))
     assert cache.decide(site, "http://a.example/short", "x").allowed

@@ -72,7 +72,8 @@ fn result_within(alloc: Global, robot: &Robot, url: &[u8], budget: u64) -> Resul
     ensures fault { IfErr result (IsWhyNotWithin robot.now.rules url.now budget) }
 {
     let target = target_of(alloc, text_of(url)?)?;
-    match robot.decision_within(&mut View::new(&target), budget) {
+    let text = target.as_str();
+    match robot.decision_of_text(text, &mut View::new(text), budget) {
         Ok(decision) => Ok(number_of(decision)),
         Err(TooCostly) => Err(Fault::TooCostly),
     }

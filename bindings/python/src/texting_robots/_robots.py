@@ -261,7 +261,7 @@ class Robots:
 
     def allowed(self, url: str, agent: str) -> bool:
         """Whether the crawler may fetch the URL."""
-        # with the lookup and the query of its robot written out, as two calls would take half as long as the query
+        # the lookup of its robot and that robot's query, written out to save two calls
         robot = (type(agent) is str and self._site.robots.get(agent)) or self._site.robot(agent)
         try:
             text = str.encode(url)
