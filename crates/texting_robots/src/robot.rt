@@ -220,7 +220,7 @@ impl Robot {
         self.rules.decide_within(view, None, budget)
     }
 
-    /// The same for a view of `text`. It passes over rules with a pair of adjacent bytes that the text doesn't
+    /// The same for a view of `text`. It passes over most rules with a pair of adjacent bytes that the text doesn't
     /// contain, and counts one look for each. Reading the text once for its pairs isn't counted.
     ///
     /// # Errors

@@ -46,12 +46,13 @@ loop-at-preserved c =
     let most = rw (pattern, c.len-len.ensures) at c.most_looks.ensures in
     let under = under_limit _ _ _ _ _ _ c.saturating_add.ensures c.seen-in-loop-at.ensures most
     c.if-saturating_add-limit.false (omega arith) in
-    let one : c.count_one-in-loop-at.new.self.looks ≡ c.loop-at.view.looks + 1 = c.count_one-in-loop-at.ensures.looks in
-    let same = c.count_one-in-loop-at.ensures.text ∙ i.tried.text in
+    let counted = c.count_one-in-loop-at.ensures in
+    let one : c.count_one-in-loop-at.new.self.looks ≡ c.loop-at.view.looks + 1 = counted.looks in
+    let same = counted.text ∙ i.tried.text in
     let is = rw (pattern, same) at c.matches.ensures in
     record {
       tried = tried_more all _ _ _ c.loop-at.at entry (omega arith) c.index-entry.ensures
-          (iff_false is.answer c.if-matches.false) (c.matches.ensures.looks.text ∙ c.count_one-in-loop-at.ensures.text)
+          (iff_false is.answer c.if-matches.false) (c.matches.ensures.looks.text ∙ counted.text)
           (omega (arith, one, is.looks.looks)) (omega (arith, one, is.cost)) i.tried;
       visits = omega (arith, i.visits, one, is.looks.looks);
       within = omega (arith, one, is.cost, under);
