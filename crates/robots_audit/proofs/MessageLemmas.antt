@@ -8,11 +8,11 @@ use Rattle.printable_text.specs.{declared.level.Level.Level, Sanitize.IsPrintabl
 use Rattle.printable_text.specs.Text.{IsReport, IsShownReport, reaches}
 use Rattle.robots_warnings.specs.{Table.level_of, Message.WarningValue}
 use Rattle.robots_audit.specs.Answer.{Answers, AnswersAudit, AnswersOptions, AreAnnotations, HasUrls, IsAsked}
-use Rattle.robots_audit.specs.Answer.{IsListedIn, IsOutput, IsSafe, IsSafeAnswer, is_warned}
+use Rattle.robots_audit.specs.Answer.{IsListedIn, IsOutput, IsSafe, IsSafeAnswer, is_warned, reported}
 use Rattle.robots_audit.specs.{Command.value_of}
 use Rattle.clap.specs.{declared.parser.matches.ArgMatches.ArgMatches}
 use Rattle.printable_text.proofs.ReportLemmas.{report_printable, shown_colored, shown_nil}
-use Rattle.audit_core.specs.Request.{RequestValue, requested_by, requested_colors}
+use Rattle.audit_core.specs.Request.{RequestValue, has_rows, requested_by, requested_colors}
 use Rattle.audit_core.specs.{Answer.IsText, Audit.AuditValue, declared.answer.Answer.Answer, Findings.Found}
 use Rattle.audit_core.specs.{declared.findings.Finding.Finding, declared.request.Format.Format}
 use Rattle.audit_core.specs.declared.request.Format.TheVariants.{Github, Html, Json, Sarif}
@@ -85,7 +85,8 @@ lined text line is safe = inl (subst IsReport (sym is) safe)
 
 output_safe : (format : Format) (requested : RequestValue) (audit : AuditValue) (text : List ℕ)
     → IsOutput format requested audit text → IsSafe text
-output_safe Json requested audit text is = lined text _ is.text_is (audit_report _ _ is.warnings)
+output_safe Json requested audit text is =
+    lined text _ is.text_is (audit_report (has_rows requested) (reported requested audit) is.warnings)
 output_safe Html requested audit text is = inr (inl is)
 output_safe Github requested audit text is = annotated _ text _ is
 output_safe Sarif requested audit text is = lined text _ is.text_is (log_report _ is.findings)
