@@ -1,4 +1,3 @@
--- `robots_close` frees a robot, unless the pointer is null.
 use Rattle.c_calls.proofs.Borrowing.{[], ◌∷◌, refl, ‵, ◌⊛◌, ◌$◌, ◌∵◌, ! }
 use Rattle.c_calls.proofs.Borrowing as m
 use Rattle.c_calls.proofs.Keeping.{lit<, id⊢}

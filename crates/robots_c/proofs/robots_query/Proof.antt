@@ -1,4 +1,3 @@
--- `robots_query` reads a borrowed robot.
 use Rattle.c_calls.proofs.Borrowing.{ℕ, refl, [], ◌∷◌, ◌$◌, ◌∵◌, ! }
 use Rattle.c_calls.proofs.Borrowing as m
 use Rattle.c_calls.proofs.urls.query.Met.{met}

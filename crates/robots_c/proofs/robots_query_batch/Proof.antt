@@ -1,4 +1,3 @@
--- `robots_query_batch` reads a borrowed robot.
 use Rattle.c_calls.proofs.Borrowing.{ℕ, [], ◌∷◌, refl, ◌$◌, ◌∵◌, ! }
 use Rattle.c_calls.proofs.Borrowing as m
 use Rattle.c_calls.specs.Kept.{Robots}

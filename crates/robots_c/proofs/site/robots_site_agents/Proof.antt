@@ -1,4 +1,3 @@
--- `robots_site_agents` reads a borrowed site.
 use Rattle.c_calls.proofs.Borrowing.{ℕ, [], ◌∷◌, refl, ◌$◌, ◌∵◌, ! }
 use Rattle.c_calls.proofs.Borrowing as m
 use Rattle.c_calls.specs.Kept.{Sites}

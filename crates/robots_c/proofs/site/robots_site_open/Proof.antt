@@ -1,4 +1,3 @@
--- `robots_site_open` writes a pointer to a site, which C owns from then on.
 use Rattle.c_calls.proofs.Borrowing.{◌≡◌, [], ◌∷◌, refl, ‵, ◌⊛◌, ◌$◌, ◌∵◌, ! }
 use Rattle.c_calls.proofs.Borrowing as m
 use Rattle.c_calls.proofs.Keeping.{id⊢, ℤ, ◌≢◌}
