@@ -48,6 +48,7 @@ def build_archive():
         words += ["-L", f"dependency={rlib(name).parent}"]
     words += ["--antt-project", kit() / "rattle/logic/antt-project.json", "--logic-built", kit() / "logic_built"]
     words += ["--toolchain", kit() / "toolchain", "--backend", "llvm", "-o", ARCHIVE, "--jobs", str(len(os.sched_getaffinity(0)))]
+    words += ["--incremental", ARCHIVE.parent / "incremental"]  # so that a later build proves what changed
     ARCHIVE.parent.mkdir(exist_ok=True)
     ended = subprocess.run(words, cwd=LIBRARY, capture_output=True, text=True)
     assert ended.returncode == 0, ended.stdout[-2000:] + ended.stderr[-2000:]
