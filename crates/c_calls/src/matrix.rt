@@ -153,13 +153,7 @@ fn matrix_in(
     Ok(numbers)
 }
 
-pub fn matrix_by(
-    alloc: Global,
-    site: &Site,
-    agents: &[u8],
-    urls: &[u8],
-    out: &mut [i64],
-) -> i32
+pub fn matrix_by(alloc: Global, site: &Site, agents: &[u8], urls: &[u8], out: &mut [i64]) -> i32
     requires { IsSiteOfSomeFile site.now }
     ensures written { result ≡ pos 0 → IsMatrixPutIn site.now agents.now urls.now out.old out.new }
     ensures kept { result ≢ pos 0 → out.new ≡ out.old }

@@ -159,13 +159,7 @@ pub fn query(alloc: Global, robot: &Robot, url: &[u8], out: &mut i64) -> i32
     }
 }
 
-pub fn query_within(
-    alloc: Global,
-    robot: &Robot,
-    url: &[u8],
-    budget: u64,
-    out: &mut i64,
-) -> i32
+pub fn query_within(alloc: Global, robot: &Robot, url: &[u8], budget: u64, out: &mut i64) -> i32
     requires { IsRobotOfSomeFile robot.now }
     ensures written { result ≡ pos 0 → HasResult robot.now.rules url.now out.new }
     ensures kept { result ≢ pos 0 → out.new ≡ out.old }
