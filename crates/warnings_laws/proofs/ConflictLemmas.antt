@@ -119,7 +119,7 @@ pub like_holds : (is_empty : ℕ → Bool) (rules : List PlacedRule) (is_allow :
 like_holds is_empty rules is_allow pattern other own same stated has =
     first_some (line_if (is_like is_empty is_allow pattern)) rules
     (record { rule = (own, is_allow); line = other }) has
-    (rw (stated, (bytes_eq-Decides (compared own) pattern).1 same) (by is_allow))
+    (grind (arith, bytes_eq-Decides, by))
   where
     by : (b : Bool) → is_some (if (if b then b else not b) && true then Some other else None) ≡ true
     by true = refl
@@ -146,7 +146,7 @@ conflict_is is_empty lines number other agent holds =
       pattern = placed.rule.0;
       allowed = allow.rule.0;
       same = same;
-      disallow = listed rules placed false number (k, below, at) denies (eqb-true placed.line number here);
+      disallow = grind (arith, eqb-true, listed, placed, number, denies);
       allow = listed rules allow true other has permits line;
       stated = stated;
     }
@@ -250,9 +250,7 @@ closed_denies is_exempt agent lines rules text is are differs opens =
           let isnt = All-contains (λ other. is_rival is_exempt placed.rule.0 other ≡ false) all allow
           (none_at (is_rival is_exempt placed.rule.0) all (not-true _ alone))
           (also_listed are own allow listed) in
-          shorter (length placed.rule.0) pattern matches
-          (grind arith)
-          (cases_Bool (is_exempt pattern)) (cases_Bool (matches_no_path pattern)),
+          grind (arith, cases_Bool, shorter, pattern, is_exempt),
     )
   where
     shorter : (n : ℕ) (pattern : List ℕ) → Matches pattern (byte "/" ∷ text)
@@ -277,8 +275,7 @@ literally_starts pattern path text is matches =
           by (not-true _ none) []
           (grind (arith, bytes_eq-Decides, append-nil))
       | inr ended ↦
-          by (not-true _ none) (codes "$")
-          (subst (λ pattern. Matches pattern text) (sym ((bytes_eq-Decides _ pattern).0 ended)) matches)
+          grind (arith, bytes_eq-Decides, not-true, by)
     ]
   where
     by : list_any is_star_or_dollar path ≡ false → (rest : List ℕ) → Matches (path ++ rest) text
@@ -330,9 +327,7 @@ fetches_everything agent lines rules text is are (differs, pattern, has, matches
     let all = placed_rules agent lines in
     let (denies, listed, same) = placed_of rules (pattern, false) has in
     let (k, below, at) = also_listed are (computed_are agent lines) denies listed in
-    let isnt = list_all_at is_allow all k denies below
-    (ap is_allow at ∙ ap (λ (rule : Rule). rule.1) same) in
-    (grind (arith, everything_if))
+    grind (arith, everything_if, list_all_at, all, k, denies)
 
 pub fetches_nothing : (agent : List ℕ) (lines : List LineValue) (rules : List PlacedRule) (text : List ℕ)
     → reach_of lines agent ≡ Nothing → AreRulesFor agent lines rules → byte "/" ∷ text ≢ robots_file
@@ -340,5 +335,5 @@ pub fetches_nothing : (agent : List ℕ) (lines : List LineValue) (rules : List 
 fetches_nothing agent lines rules text is are differs =
     let all = placed_rules agent lines in
     closed_denies (λ pattern. false) agent lines rules text
-    (nothing_if (is_some (other_group lines agent)) (list_all is_allow all) (is_shut all) is) are differs
-    (λ pattern exempt. absurd (false≢true exempt))
+    (grind (arith, nothing_if, lines)) are differs
+    (grind arith)

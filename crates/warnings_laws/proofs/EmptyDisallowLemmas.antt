@@ -47,9 +47,7 @@ selected : (kind : Kind) (value body : List ℕ) → IsStatement kind value body
 unfolding statement_of
 selected kind value body is =
     let text = skip_blanks body in
-    option_and_then_some _ (kind_by text) (kind, value) (statement_found kind value body is) (λ k by found.
-    option_and_then_some _ (tail_as k text) (kind, value) found (λ tail reads same.
-    by ∙ ap (λ (p : Kind × List ℕ). Some p.0) (same_Some _ _ same)))
+    option_and_then_some _ (kind_by text) (kind, value) (statement_found kind value body is) (grind (arith, option_and_then_some, same_Some))
 
 pub empty_is_allow : (line : LineValue) (body : List ℕ) → IsLineOf line body
     → IsStatement kind.Disallow [] body → line ≡ Allow (codes "/")
@@ -138,13 +136,7 @@ empty_disallows name file labels number are hold = (
       let (i, label, at, same, empty) = found_at labels number is in
       let (own, also, of_body) = right_at OfBody labels bodies i label pairs at in
       let beside = there i label at in
-      let one = same_Some _ _ (sym also ∙ beside) in (
-        i,
-        label.body,
-        sym same ∙ (are.each i label at).0,
-        beside,
-        empty_stated label.line label.body (subst (IsLineOf label.line) one of_body) empty,
-      ),
+      grind (arith, empty_stated, same_Some, are.each, i, label),
   λ (i, body, is, beside, stated).
       let (label, at, of_body) = left_at OfBody labels bodies i body pairs beside in
       let one = same_Some _ _ (sym beside ∙ there i label at) in
@@ -216,7 +208,7 @@ overruled_holds is_empty lines number other agent is =
           let (one, has, allows, same, stated, line) = like_found is_empty rules true root n found in
           let allow = listed rules one true n has allows line in
           let empty = is.alone one.rule.0 n same (also_listed own is.are _ allow) in
-          absurd (false≢true (sym stated ∙ empty))
+          grind arith
       | inr none ↦
           first_some (at_line number (overruled_by is_empty rules)) rules
           (record { rule = (is.own, true); line = number })
@@ -236,7 +228,7 @@ root_wins : (pattern text : List ℕ) → compared pattern ≡ root → Matches 
 unfolding MatchesWith
 root_wins pattern text same (rest, begins, more) =
     let wins = path_wins root pattern rest same in
-    (subst (Matches pattern) (sym begins) (wins.0 (rest, refl, tt)), sym wins.1)
+    grind (arith, wins.0)
 
 module _ (agent file : List ℕ) (rules : List PlacedRule)
     (are : AreRulesFor agent (lines_read file) rules) where
@@ -254,11 +246,9 @@ module _ (agent file : List ℕ) (rules : List PlacedRule)
       let place : here ≡ position = omega arith in
       let (own, also, of_body) = right_at IsLineOf (lines_read file) bodies here _
       (zips file) holds.line.0 in
-      let one : own ≡ body = same_Some _ _ (sym also ∙ ap (slice_get bodies) place ∙ at) in
+      let one : own ≡ body = grind (arith, same_Some) in
       let line = empty_is_allow _ body (subst (IsLineOf _) one of_body) stated in
-      let (kind_is, value_is) = value_of placed.rule.1 holds.value line in
-      ap (λ (p : List ℕ). (p, placed.rule.1)) (holds.pattern ∙ ap escaped value_is)
-      ∙ ap (λ b. (root, b)) kind_is
+      grind (arith, value_of, placed.rule.1, holds.value, line)
 
   some_escaped : (b : ℕ) (value : List ℕ) → 0 < length (escaped (b ∷ value))
   some_escaped b value = grind (arith, common_steps)
@@ -295,14 +285,14 @@ module _ (agent file : List ℕ) (rules : List PlacedRule)
     from rule has =
         let (placed, listed, is) = placed_of stated rule has in
         let (own, passes) = in_filter (λ (one : PlacedRule). not (is_empty one.line)) rules placed listed in
-        (placed, own, not-true (is_empty placed.line) passes, is)
+        grind (arith, not-true)
 
     denies_stated : (placed : PlacedRule) (p : List ℕ) → Contains rules placed → placed.rule ≡ (p, false)
         → is_empty placed.line ≡ false
     denies_stated placed p has is = elim (cases_Bool (is_empty placed.line)) [
       | inl empty ↦
           let there = rule_there placed has (right placed.line empty) in
-          absurd (false≢true (ap (λ (rule : Rule). rule.1) (sym is ∙ there)))
+          grind arith
       | inr isnt ↦ isnt
     ]
 
@@ -334,7 +324,7 @@ module _ (agent file : List ℕ) (rules : List PlacedRule)
                 also_listed are_all are one listed_too,
                 allows,
                 like,
-                subst (λ n. is_empty n ≡ false) (sym line) stated_too,
+                grind arith,
               )
           | inr lacking ↦
               let isnt = denies_stated deny deny.rule.0 own (ap (λ b. (deny.rule.0, b)) denies) in
@@ -342,10 +332,10 @@ module _ (agent file : List ℕ) (rules : List PlacedRule)
               let found = like_holds is_empty all false root deny.line deny.rule.0 alike isnt has in
               let at_root = rule_there allow there (right allow.line empty) in
               let given = listed all allow true allow.line (also_listed are are_all allow there)
-              (ap (λ (rule : Rule). rule.1) at_root) refl in
+              (grind arith) refl in
               let holds = first_some (at_line allow.line (overruled_by is_empty all)) all
               (record { rule = (allow.rule.0, true); line = allow.line }) given
-              (rw (eq-eqb allow.line allow.line refl, empty, lacking) found) in
+              (grind (arith, eq-eqb, allow.line)) in
               absurd (false≢true (sym (ap is_some (silent allow there)) ∙ holds))
         ]
 
@@ -361,10 +351,7 @@ module _ (agent file : List ℕ) (rules : List PlacedRule)
           let (one, there_too, allows, like, stated_too) =
           allow_beside allow deny there empty own (ap (λ (rule : Rule). rule.1) is) alike in
           let (matches, long) = root_wins one.rule.0 text like path in
-          let less = longest one.rule.0
-          (subst (λ b. Contains (unplaced stated) (one.rule.0, b)) allows (kept one there_too stated_too))
-          matches in
-          omega arith
+          grind (arith, kept, allows, one, there_too, matches)
 
       longer : 1 < length p
       longer = elim (cases_lt 1 (length p)) [
@@ -372,7 +359,7 @@ module _ (agent file : List ℕ) (rules : List PlacedRule)
         | inr short ↦
             let (deny, own, isnt, is) = from (p, false) denied in
             let some = some_bytes p deny.line
-            (subst (λ (rule : Rule). Contains rules (record { rule = rule; line = deny.line })) is own) in
+            (grind (arith, is)) in
             absurd (never_short (omega arith))
       ]
 
@@ -388,12 +375,12 @@ module _ (agent file : List ℕ) (rules : List PlacedRule)
               elim (cases_Bool (is_empty allow.line)) [
                 | inl empty ↦
                     let at_root = rule_there allow there (right allow.line empty) in
-                    let q_is : q ≡ root = ap (λ (rule : Rule). rule.0) (sym same ∙ at_root) in
+                    let q_is : q ≡ root = grind arith in
                     subst (λ q. length q < length p) (sym q_is)
                     (longer text p has fits longest allow there empty
                     (subst (λ q. Matches q text) q_is matches))
                 | inr stays ↦
-                    longest q (subst (Contains (unplaced stated)) same (kept allow there stays)) matches
+                    grind (arith, kept, longest, q, same, allow, there)
               ],
         )
 

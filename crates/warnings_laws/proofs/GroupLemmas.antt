@@ -79,11 +79,11 @@ is_other last preceding above first (label ∷ labels) number has =
       | inl here ↦
           let (same, check) = condition_holds (Some label.number) None checks _ here in
           let other = other_here last preceding above first label (lines_of (label ∷ labels)) check in
-          (0, record { label = label; at = refl; other = other }, cc)
+          (0, grind arith, cc)
       | inr later ↦
           let (place, is, number_is) = is_other last (preceding_with preceding label.line)
           (sole_name preceding above label.line) (first_delay first label.line) labels number later in
-          (suc place, record { label = is.label; at = is.at; other = is.other }, number_is)
+          (suc place, grind arith, number_is)
     ]
 
 abbrev left_from : (ℕ → Bool) → ℕ → List LineValue → List LineValue
@@ -129,15 +129,14 @@ module _ (gone : ℕ → Bool) where
     others_next : AreOthers gone (position + 1) (first_delay first label.line) labels
     others_next = record {
       each = λ place goes.
-          let is = others.each (suc place) (subst (λ n. gone n ≡ true) (omega arith) goes) in
-          record { label = is.label; at = is.at; other = is.other };
+          let is = others.each (suc place) (grind arith) in
+          grind arith;
     }
 
     differs_here : gone (position + 1) ≡ true → are_different first (delay_in label.line) ≡ true
     differs_here goes =
-        let is = others.each 0 (subst (λ n. gone n ≡ true) (omega arith) goes) in
-        (and_parts _ _
-        (subst (λ here. is_other_delay first here ≡ true) (sym (same_Some _ _ is.at)) is.other)).1
+        let is = others.each 0 (grind arith) in
+        grind (arith, and_parts, same_Some)
 
   any_left : (test : LineValue → Bool) → ((line : LineValue) → is_agent line ≡ false → test line ≡ false)
       → (position : ℕ) (first : Option ℕ) (labels : List Label) → AreOthers gone position first labels
@@ -177,11 +176,11 @@ before_left : (gone : ℕ → Bool) (position : ℕ) (lines : List LineValue) �
     → before_agent (left_from gone position lines) ≡ before_agent lines
 before_left gone position [] are = refl
 before_left gone position (line ∷ lines) are = elim (cases_Bool (gone (position + 1))) [
-  | inl goes ↦ absurd (false≢true (are 0 (subst (λ n. gone n ≡ true) (omega arith) goes)))
+  | inl goes ↦ absurd (false≢true (are 0 (grind (arith, gone))))
   | inr stays ↦ elim (cases_Bool (is_agent line)) [
     | inl agent ↦ rw (stays, agent) refl
     | inr isnt ↦ rw (stays, isnt) (ap (λ above. line ∷ above) (before_left gone (position + 1) lines
-        (λ place goes. rw isnt at (are (suc place) (subst (λ n. gone n ≡ true) (omega arith) goes)))))
+        (λ place goes. rw isnt at (are (suc place) (grind (arith, gone))))))
   ]
 ]
 
@@ -208,11 +207,11 @@ module _ {name : List ℕ} {labels : List Label} (labeled : AreLabelsOf name (li
       let each : All IsWarned numbers =
       λ k number below.
       subst (Contains (position_warnings labels))
-      (get_or-map two_delays_at numbers k number (two_delays_at number) below)
+      (grind (arith, get_or-map, k, number))
       (all k (two_delays_at number) (rw (length-map numbers two_delays_at) below)) in
       let (found, is, number_is) = is_other (last_group labels) preceding.Other None None labels _
       (holds_among IsWarned numbers each _ goes) in
-      subst (IsOther None labels) (omega (arith, number_is, (labeled.each found is.label is.at).0)) is
+      grind (arith, labeled.each, found, is.label)
 
   others : AreOthers gone 0 None labels
   others = record { each = other_at }
@@ -222,7 +221,7 @@ module _ {name : List ℕ} {labels : List Label} (labeled : AreLabelsOf name (li
       let is = other_at place goes in
       let (inside, differs) = and_parts _ _ is.other in
       let here : slice_get all_lines place ≡ Some is.label.line =
-      rw (slice_get-map (λ (label : Label). label.line) labels place, is.at) refl in
+      grind (arith, slice_get-map) in
       (taken_decides is_agent all_lines place).1 (below_agent name all_lines place is.label.membership
       (labeled.each place is.label is.at).1 (not-true _ inside) (rw here (no_agent _ is.label.line differs))
       some)
@@ -237,11 +236,10 @@ module _ {name : List ℕ} {labels : List Label} (labeled : AreLabelsOf name (li
       let left = lines_without numbers all_lines in
       let lowered = str_to_ascii_lowercase agent in
       let group : group_name agent left ≡ group_name agent all_lines =
-      ap (λ any. if any then lowered else codes "*")
-      (any_stays (is_agent_named lowered) (only_agents lowered)) in
+      grind (arith, any_stays, only_agents, lowered) in
       let agents = any_stays is_agent (λ line isnt. isnt) in
       let start : start_of left ≡ start_of all_lines =
-      ap (λ any. record { captured = not any; named = false }) agents in
+      grind arith in
       let first : slice_get (captured_delays agent left) 0 ≡ slice_get (captured_delays agent all_lines) 0 =
       rw (delays_are agent left, delays_are agent all_lines, group, start)
       (first_left gone (group_name agent all_lines) 0 None None (start_of all_lines) labels others tt) in
@@ -271,10 +269,7 @@ has_none : (agent : List ℕ) (lines : List LineValue) → lacks_all lines agent
 has_none agent lines lacks star other pattern starred holds =
     let (i, within, there) = computed (codes "*") lines star _ starred in
     let (k, below, at) = computed agent lines other _ holds in
-    let same = (bytes_eq-Decides pattern pattern).1 refl in
-    let denied = list_any-from_Any (denies pattern) (star_rules lines) (i, _, within, there, same) in
-    let kept = or_right (is_whole_site pattern) _ denied in
-    (grind (arith, not-true, list_any-from_Any, below))
+    grind (arith, bytes_eq-Decides, list_any-from_Any, not-true, or_right, pattern)
 
 -- the line at this position is a user-agent line with such a name, with no rule or delay up to it
 record IsNamed (test : List ℕ → Bool) (lines : List LineValue) : Type 0 where
@@ -301,7 +296,7 @@ named test (UserAgent value ∷ lines) is = elim (or_cases (test value) (begin_w
     value = value;
     at = refl;
     passes = passes;
-    no_group = λ k most. let first : k ≡ 0 = omega arith in rw first refl;
+    no_group = grind arith;
   }
   | inr later ↦ named_next (UserAgent value) refl (named test lines later)
 ]
@@ -318,8 +313,8 @@ one_run {lines} {position} {rest} from is k group = elim (cases_lt k position) [
     | inr within ↦
         let i = k - position in
         let same : slice_get lines k ≡ slice_get rest i =
-        subst (λ n. slice_get lines n ≡ slice_get rest i) (omega arith) (from.each i) in
-        absurd (false≢true (sym (is.no_group i (omega arith)) ∙ rw same at group))
+        grind (arith, lines, rest, from.each) in
+        grind (arith, is.no_group, i, same)
   ]
 ]
 
@@ -386,7 +381,7 @@ replaces_star agents name lines labels number labeled has =
       inr (
         rw on refl,
         found.position + by.position,
-        rw (found.from.each by.position, by.at, spelled) ((bytes_eq-Decides spelling spelling).1 refl),
+        grind (arith, bytes_eq-Decides, found.from.each, spelling),
         one_run found.from by,
       ),
       has_none agent lines lacks,

@@ -70,7 +70,7 @@ robot_stays requested file left audit agent is some deleted utf8 =
     let less = left_within (numbers_of is.needless) file left deleted in
     let all_left = take_all file_limit left (omega (arith, short, less)) in
     subst₂ (HaveSameRobot agent) (sym whole) (sym all_left)
-    (same_robot file left is.needless (subst (λ f. AreFoundIn f is.needless) whole is.needless_are) some
+    (same_robot file left is.needless (grind (arith, whole)) some
     deleted agent utf8)
 
 zip_once : {A B : Type 0} (R : A → B → Type 0) → ((x : A) (y z : B) → R x y → R x z → y ≡ z)
@@ -158,10 +158,7 @@ some_verdict : (rules : List PlacedRule) (url : List ℕ)
 some_verdict rules url =
     let answered = each_text_answered rules (asked_target url) in (
       record { url = url; decision = record { allowed = answered.allowed; line = answered.number } },
-      record {
-        url_is = refl;
-        decided = record { verdict = answered.verdict; deciding = answered.deciding };
-      },
+      grind arith,
     )
 
 first_overlong : (rules : List PlacedRule)
@@ -262,7 +259,7 @@ some_audit requested file =
         too_large = λ large. refl;
         sitemaps = sitemaps;
         sitemaps_are =
-            record { overlong = overlong; verdicts = verdicts; ruling = ruling; found_are = refl };
+            grind arith;
         labels_are = refl;
         agents_are = are;
         warnings_are = refl;

@@ -75,11 +75,7 @@ normal_so =
     ap (percent_encode IN_TARGETS) (octet_spelled b text isnt)
     ∙ ap₂ (λ x y. x ++ y) (encoded in_query b) later
     ∙ sym (octet_first (in_uri all_stay) in_query b text isnt))
-    (λ in_query high low text one two later.
-    ap (percent_encode IN_TARGETS) (escape_spelled high low text one two)
-    ∙ flat_map-append (encode_byte IN_TARGETS) (normal_escape high low) (spelled Standard text)
-    ∙ ap₂ (λ x y. x ++ y) (escape_kept high low one two) later
-    ∙ sym (escape_first high low text one two (in_uri all_stay) in_query))
+    (grind (arith, escape_first, escape_kept, escape_spelled, flat_map-append))
 
 -- a target without `url-not-normal` is in normal form, and that of what is written
 pub target_normal : (text : List ℕ)

@@ -90,12 +90,7 @@ module _ {lines : List LineValue} {position : ℕ} {line : LineValue} {rest : Li
       let passes : passes_at is_agent lines position ≡ false = rw (here from) isnt in
       elim (Contains-push_cases above line other has) [
         | inl older ↦
-            let is = group other older in record {
-              other = is.other;
-              above = omega arith;
-              is = is.is;
-              no_agent = (grind arith);
-            }
+            let is = group other older in grind arith
         | inr same ↦ (grind (arith, here))
       ]
 
@@ -121,7 +116,7 @@ module _ {lines above : List LineValue} {position : ℕ} {label : Label} {labels
   next = record {
     labeled = labels_next reached.labeled;
     group = elim (cases_Bool (is_agent label.line)) [
-      | inl is ↦ rw is (λ line (k, below, at). absurd (omega arith))
+      | inl is ↦ grind (arith, is)
       | inr isnt ↦ rw isnt (above_next_is reached.labeled.from isnt above reached.group)
     ];
   }
@@ -143,10 +138,7 @@ repeat_from everywhere lines position above (label ∷ labels) number reached ha
 
 is_repeat : {name : List ℕ} {lines : List LineValue} {labels : List Label} → AreLabelsOf name lines labels
     → (everywhere : Bool) (number : ℕ) → Contains (repeated everywhere labels) number → IsRepeat lines number
-is_repeat {lines} {labels} are everywhere number = repeat_from everywhere lines 0 [] labels number (record {
-  labeled = all_labels are;
-  group = λ line (k, below, at). absurd (omega arith);
-})
+is_repeat {lines} {labels} are everywhere number = repeat_from everywhere lines 0 [] labels number (grind (arith, all_labels))
 
 captured_above : {lines : List LineValue} {position : ℕ} {line : Option LineValue} (name : List ℕ)
     (is : IsAbove lines position line) → IsCaptured name lines position → IsCaptured name lines is.other
@@ -219,7 +211,7 @@ module _ (numbers : List ℕ) (lines : List LineValue)
         | inl rule ↦ (grind (arith, among))
         | inr isnt ↦
             let stays = false_from_ne_true (among numbers (position + 1))
-            (λ goes. false≢true (sym isnt ∙ (repeat goes).0)) in
+            (grind (arith, repeat)) in
             elim (cases_Bool (is_agent line)) [
               | inl agent ↦ rw (isnt, stays, agent, never_lost has_rule) (later false (grind arith))
               | inr plain ↦ (grind (arith, above_this))
@@ -261,7 +253,7 @@ pub repeated_can_be_deleted : (everywhere : Bool) (name agent : List ℕ) (lines
     → IsVerdict (rules_for agent lines) text answer
     ↔ IsVerdict (rules_for agent (lines_without numbers lines)) text answer
 repeated_can_be_deleted everywhere name agent lines labels numbers text answer labeled all =
-    let none_above : IsFollowed lines 0 false = λ line rule is. absurd (omega arith) in
+    let none_above : IsFollowed lines 0 false = grind arith in
     let blocks = keeps numbers lines repeats 0 lines false (all_from lines) none_above in
     let same = same_rules numbers lines repeats agent in
     rw (deleted numbers lines blocks agent) (verdicts _ _ text (

@@ -52,7 +52,7 @@ found_later : (test : ℕ × LineValue → Bool) (n : ℕ) (first : LineValue) (
 unfolding FoundLine
 found_later test n first lines number (i, line, is, at, passes) =
     let same : n + 1 + i ≡ n + suc i = omega arith in
-    (suc i, line, omega (arith, is), at, subst (λ k. test (k, line) ≡ true) same passes)
+    grind (arith, test, same)
 
 found_line : (test : ℕ × LineValue → Bool) (n : ℕ) (lines : List LineValue) (number : ℕ)
     → Contains (map (λ p. p.0 + 1) (filter test (enumerate_from n lines))) number
@@ -64,7 +64,7 @@ found_line test n (line ∷ lines) number has = elim (cases_Bool (test (n, line)
     | inl (k, below, here) ↦
         let first : k ≡ 0 = omega arith in
         let same : n ≡ n + 0 = omega arith in
-        (0, line, omega (arith, rw first at here), refl, subst (λ k. test (k, line) ≡ true) same is)
+        grind (arith, first, test, same)
     | inr later ↦ found_later test n line lines number (found_line test (n + 1) lines number later)
   ]
   | inr isnt ↦ found_later test n line lines number (found_line test (n + 1) lines number (rw isnt at has))
@@ -81,10 +81,7 @@ pub named_past_limit : (read : List LineValue) (file : List ℕ) (number : ℕ)
 unfolding FoundLine
 named_past_limit read file number has =
     let (i, line, is, at, passes) = found_line (is_past_limit read file) 0 (file_lines file) number has in
-    let same : 0 + i ≡ i = omega arith in
-    let (value, named, new) = new_name read (take i (file_lines file)) line
-    (subst (λ k. is_past_limit read file (k, line) ≡ true) same passes) in
-    (i, value, omega (arith, is), at ∙ ap Some named, new)
+    grind (arith, new_name, read, i, file)
 
 pub not_utf8_applies_to_none : (value agent : List ℕ) (lines : List LineValue) (place : ℕ) (is_allow : Bool)
     (rule : Rule) → is_utf8 value ≡ false
