@@ -86,7 +86,7 @@ kind_plain (o ∷ opened) are =
     let plain = and_parts (is_ordinary o.tag.name) (not (is_title o.tag.name)) named.1 in
     let styled = not-true (is_style o.tag.name) (and_parts (not (is_style o.tag.name)) _ plain.0).0 in
     let kind = kind_inside o.tag.name styled in
-    (kind.0, kind.1 ∙ plain.1)
+    (kind.0, cc)
 
 nil_open : IsOpen [] []
 nil_open = record { safe = ascii_safe [] refl; state = refl; names_are = refl; are_tags = refl }
@@ -108,11 +108,11 @@ module _ (names : List (List ℕ)) (old new : List ℕ) (is : IsOpen names old) 
   kept_open : (last : Reader) → so_far new ≡ last → last.state ≡ data_state
       → last.opened ≡ (so_far old).opened → IsSafe new → IsOpen names new
   kept_open last same state opened safe =
-      let both : (so_far new).opened ≡ (so_far old).opened = ap (λ (r : Reader). r.opened) same ∙ opened in
+      let both : (so_far new).opened ≡ (so_far old).opened = cc in
       record {
         safe = safe;
-        state = ap (λ (r : Reader). r.state) same ∙ state;
-        names_are = is.names_are ∙ ap (λ (o : List Opened). map name_in o) (sym both);
+        state = cc;
+        names_are = cc;
         are_tags =
             subst (λ (o : List Opened). IsTrue (list_all is_tag (map name_in o))) (sym both) is.are_tags;
       }
@@ -130,8 +130,8 @@ module _ (names : List (List ℕ)) (old new : List ℕ) (is : IsOpen names old) 
       record {
         safe = subst IsSafe (sym added)
             (both_safe is.safe (value_safe line (line_printable line plain)));
-        state = ap (λ (r : Reader). r.state) same;
-        names_are = is.names_are ∙ ap (λ (r : Reader). map name_in r.opened) (sym same);
+        state = cc;
+        names_are = cc;
         are_tags =
             subst (λ (r : Reader). IsTrue (list_all is_tag (map name_in r.opened))) (sym same) is.are_tags;
       }
@@ -184,10 +184,7 @@ module _ (names : List (List ℕ)) (old new : List ℕ) (is : IsOpen names old) 
     whole : (end : List ℕ) → new ≡ mid ++ end
         → new ≡ old ++ (tag_open name ++ (flat_map attribute_bytes attributes ++ end))
     whole end added =
-        added ∙ ap (λ (t : List ℕ). t ++ end) adds.added
-        ∙ append_assoc old (tag_open name ++ flat_map attribute_bytes attributes) end
-        ∙ ap (λ (t : List ℕ). old ++ t)
-        (append_assoc (tag_open name) (flat_map attribute_bytes attributes) end)
+        cc (append_assoc old (tag_open name ++ flat_map attribute_bytes attributes) end, append_assoc (tag_open name) (flat_map attribute_bytes attributes) end)
 
     tag_safe : IsTrue (is_name name) → (end : List ℕ) → IsSafe end → new ≡ mid ++ end
         → IsSafe new
@@ -221,7 +218,7 @@ module _ (names : List (List ℕ)) (old new : List ℕ) (is : IsOpen names old) 
         let named = and_parts (is_name name) (is_ordinary name && not (is_title name)) tag in
         record {
           safe = tag_safe named.0 tag_close close_safe added;
-          state = ap (λ (r : Reader). r.state) same;
+          state = cc;
           names_are =
               reverse-append names (name ∷ []) ∙ ap (λ (l : List (List ℕ)). name ∷ l) is.names_are
               ∙ ap (λ (r : Reader). map name_in r.opened) (sym same);
@@ -250,8 +247,8 @@ module _ (names : List (List ℕ)) (old new : List ℕ) (is : IsOpen names old) 
         let both = and_parts (is_name name) (is_among void_names name) is_one in
         record {
           safe = tag_safe both.0 void_close void_close_safe added;
-          state = ap (λ (r : Reader). r.state) same;
-          names_are = is.names_are ∙ ap (λ (r : Reader). map name_in r.opened) (sym same);
+          state = cc;
+          names_are = cc;
           are_tags =
               subst (λ (r : Reader). IsTrue (list_all is_tag (map name_in r.opened))) (sym same) is.are_tags;
         }
@@ -259,15 +256,15 @@ module _ (names : List (List ℕ)) (old new : List ℕ) (is : IsOpen names old) 
 -- ---- The innermost element ends.
 
 same_head : (one two : List ℕ) (rest more : List (List ℕ)) → one ∷ rest ≡ two ∷ more → one ≡ two
-same_head one two rest more is = ap (λ (l : List (List ℕ)). slice_index_or l 0 []) is
+same_head one two rest more is = cc
 
 same_tail : (one two : List ℕ) (rest more : List (List ℕ)) → one ∷ rest ≡ two ∷ more → rest ≡ more
-same_tail one two rest more is = ap (λ (l : List (List ℕ)). drop 1 l) is
+same_tail one two rest more is = cc
 
 module _ (names : List (List ℕ)) (name : List ℕ) (old new : List ℕ) (is : IsOpen (names ++ name ∷ []) old)
     (added : new ≡ old ++ end_tag name) where
   last_is : name ∷ reverse names ≡ map name_in (so_far old).opened
-  last_is = sym (reverse-append names (name ∷ [])) ∙ is.names_are
+  last_is = cc (reverse-append names (name ∷ []))
 
   ends : (opened : List Opened) → (so_far old).opened ≡ opened
       → name ∷ reverse names ≡ map name_in opened → IsTrue (list_all is_tag (map name_in opened))
@@ -286,14 +283,13 @@ module _ (names : List (List ℕ)) (name : List ℕ) (old new : List ℕ) (is : 
       piece_read old new (end_tag o.tag.name) now is.state
       (subst (λ (l : List Opened). Reads (reader data_state l (so_far old).content) (end_tag o.tag.name) now)
       (sym same) reads)
-      (added ∙ ap (λ (n : List ℕ). old ++ end_tag n) head) in (
-        result ∙ ap (λ (l : List Opened). closed_in l (so_far old).content) (sym same),
+      (cc) in (
+        cc,
         record {
-          safe = subst IsSafe (sym (added ∙ ap (λ (n : List ℕ). old ++ end_tag n) head))
+          safe = subst IsSafe (cc)
               (both_safe is.safe (end_safe o.tag.name (name_safe o.tag.name named.0)));
-          state = ap (λ (r : Reader). r.state) result;
-          names_are = same_tail name o.tag.name (reverse names) (map name_in outer) last
-              ∙ ap (λ (r : Reader). map name_in r.opened) (sym result);
+          state = cc;
+          names_are = cc (same_tail name o.tag.name (reverse names) (map name_in outer) last);
           are_tags =
               subst (λ (r : Reader). IsTrue (list_all is_tag (map name_in r.opened))) (sym result) both.1;
         },
@@ -309,7 +305,7 @@ module _ (names : List (List ℕ)) (name : List ℕ) (old new : List ℕ) (is : 
 
 cleared_line : (front line bytes : List ℕ) → front ≡ [] → line ≡ front ++ sanitized bytes
     → line ≡ sanitized bytes
-cleared_line front line bytes none added = added ∙ ap (λ (t : List ℕ). t ++ sanitized bytes) none
+cleared_line front line bytes none added = cc
 
 pub sanitized_line : (front line bytes : List ℕ) → front ≡ [] → line ≡ front ++ sanitized bytes
     → IsPrintableIn false line
@@ -321,8 +317,7 @@ pub text_written : (names : List (List ℕ)) (old new front line bytes : List �
     → front ≡ [] → line ≡ front ++ sanitized bytes → new ≡ old ++ escaped line
     → so_far new ≡ followed_by (text (sanitized bytes)) (so_far old)
 text_written names old new front line bytes is none line_is added =
-    text_is names old new is line (sanitized_line front line bytes none line_is) added
-    ∙ ap (λ (t : List ℕ). followed_by (text t) (so_far old)) (cleared_line front line bytes none line_is)
+    cc (text_is names old new is line (sanitized_line front line bytes none line_is) added, cleared_line front line bytes none line_is)
 
 pub element_begun : (names labels : List (List ℕ)) (name old new : List ℕ) → IsOpen names old
     → is_tag name ≡ true → are_names [] labels ≡ true → AddsStart name labels old new
@@ -336,7 +331,7 @@ pub begun_open : (before after : List (Bor (List ℕ))) (name : Bor (List ℕ)) 
     → IsOpen (names_of after) new
 begun_open before after name labels old new is tag labeled adds pushed =
     subst (λ (names : List (List ℕ)). IsOpen names new)
-    (sym (ap names_of pushed ∙ map-append (λ (n : Bor (List ℕ)). n.now) before (name ∷ [])))
+    (cc (map-append (λ (n : Bor (List ℕ)). n.now) before (name ∷ [])))
     (start_open (names_of before) old new is name.now labels adds.mid labeled adds.tag tag adds.added)
 
 pub void_added : (names labels : List (List ℕ)) (name old new : List ℕ) → IsOpen names old
@@ -355,7 +350,7 @@ popped : (before after : List (Bor (List ℕ))) (name : Bor (List ℕ)) (old : L
     → IsOpen (names_of after ++ name.now ∷ []) old
 popped before after name old is pops =
     subst (λ (names : List (List ℕ)). IsOpen names old)
-    (ap names_of pops ∙ map-append (λ (n : Bor (List ℕ)). n.now) after (name ∷ [])) is
+    (cc (map-append (λ (n : Bor (List ℕ)). n.now) after (name ∷ []))) is
 
 pub element_ended : (before after : List (Bor (List ℕ))) (name : Bor (List ℕ)) (old new : List ℕ)
     → IsOpen (names_of before) old → before ≡ after ++ name ∷ [] → new ≡ old ++ end_tag name.now
@@ -374,7 +369,7 @@ pub none_ended : (before : List (Bor (List ℕ))) (old : List ℕ) → IsOpen (n
     → so_far old ≡ closed (so_far old)
 none_ended before old is none =
     by (so_far old).opened refl
-    (sym (ap (λ (b : List (Bor (List ℕ))). reverse (names_of b)) none) ∙ is.names_are)
+    (cc)
   where
     by : (opened : List Opened) → (so_far old).opened ≡ opened → [] ≡ map name_in opened
         → so_far old ≡ closed (so_far old)
@@ -396,18 +391,12 @@ adds_more : (names : List (List ℕ)) (name value old mid new : List ℕ) → Ad
 adds_more names name value old mid new adds plain added = record {
   attributes = adds.attributes ++ attribute name value ∷ [];
   named = record {
-    names_are = map-append (λ (a : Attribute). a.name) adds.attributes (attribute name value ∷ [])
-        ∙ ap (λ (l : List (List ℕ)). l ++ name ∷ []) adds.named.names_are;
+    names_are = cc (map-append (λ (a : Attribute). a.name) adds.attributes (attribute name value ∷ []));
     printable =
         each_last adds.attributes (attribute name value) adds.named.printable (line_printable value plain);
   };
   added =
-      added ∙ ap (λ (t : List ℕ). t ++ attribute_bytes (attribute name value)) adds.added
-      ∙ append_assoc old (flat_map attribute_bytes adds.attributes) (attribute_bytes (attribute name value))
-      ∙ ap (λ (t : List ℕ). old ++ t) (sym (flat_map-append attribute_bytes adds.attributes
-      (attribute name value ∷ [])
-      ∙ ap (λ (t : List ℕ). flat_map attribute_bytes adds.attributes ++ t)
-      (append-nil (attribute_bytes (attribute name value)))));
+      cc (append_assoc old (flat_map attribute_bytes adds.attributes) (attribute_bytes (attribute name value)), flat_map-append attribute_bytes adds.attributes (attribute name value ∷ []), append-nil (attribute_bytes (attribute name value)));
 }
   where
     each_last : (attributes : List Attribute) (a : Attribute)
@@ -442,14 +431,13 @@ pub page_finished : (before : List (Bor (List ℕ))) (bytes front page : List �
 unfolding doctype
 page_finished before bytes front page is none first added =
     let opened = none_opened (so_far bytes).opened
-    (sym (ap (λ (b : List (Bor (List ℕ))). reverse (names_of b)) none) ∙ is.names_are) in
+    (cc) in
     let whole = both_safe (ascii_safe doctype refl) is.safe in
-    subst IsSomePage (sym (added ∙ ap (λ (t : List ℕ). t ++ bytes) first)) (
+    subst IsSomePage (cc) (
       (so_far bytes).content,
       record {
         printable = whole.0;
         quiet = bracketless_quiet (doctype ++ bytes) whole.1;
-        read = ap₂ (λ (state : State) (opened : List Opened). finished state opened (so_far bytes).content)
-            is.state opened;
+        read = cc;
       },
     )

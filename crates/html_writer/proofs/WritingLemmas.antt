@@ -56,10 +56,9 @@ with_text-followed bytes html two = refl
 pub followed_assoc : (one two three : Html) → (one ⊕ two) ⊕ three ≡ one ⊕ (two ⊕ three)
 followed_assoc (text bytes) two three = with_text-followed bytes two three
 followed_assoc (element before name attributes children after) two three =
-    ap (element before name attributes children) (followed_assoc after two three)
-followed_assoc (void before name attributes after) two three =
-    ap (void before name attributes) (followed_assoc after two three)
-followed_assoc (style before css after) two three = ap (style before css) (followed_assoc after two three)
+    cc (followed_assoc after two three)
+followed_assoc (void before name attributes after) two three = cc (followed_assoc after two three)
+followed_assoc (style before css after) two three = cc (followed_assoc after two three)
 
 module _ (P Q : List ℕ → Type 0) (weaker : (bytes : List ℕ) → P bytes → Q bytes) where
   pub attributes_weaker : (before attributes : List Attribute) → AreAttributes P before attributes
@@ -70,10 +69,9 @@ module _ (P Q : List ℕ → Type 0) (weaker : (bytes : List ℕ) → P bytes �
 
 followed-nil : (html : Html) → html ⊕ text [] ≡ html
 followed-nil (text bytes) = ap text (append-nil bytes)
-followed-nil (element before name attributes children after) =
-    ap (element before name attributes children) (followed-nil after)
-followed-nil (void before name attributes after) = ap (void before name attributes) (followed-nil after)
-followed-nil (style before css after) = ap (style before css) (followed-nil after)
+followed-nil (element before name attributes children after) = cc (followed-nil after)
+followed-nil (void before name attributes after) = cc (followed-nil after)
+followed-nil (style before css after) = cc (followed-nil after)
 
 -- ---- What is written is read back, piece by piece.
 
@@ -85,8 +83,7 @@ read_on : {from mid last : Reader} {one two : List ℕ} → Reads from one mid �
     → Reads from (one ++ two) last
 read_on {from = from} {one = one} {two = two} first second =
     record {
-      leads = λ more. ap (run from) (append_assoc one two more)
-          ∙ first.leads (two ++ more) ∙ second.leads more;
+      leads = λ more. cc (append_assoc one two more, first.leads (two ++ more), second.leads more);
     }
 
 -- bytes are read one by one, if each is as `form` writes it
@@ -283,7 +280,7 @@ pub kind_inside : (name : List ℕ) → is_style name ≡ false
     → (has_references (kind_in name) ≡ true) × (has_elements (kind_in name) ≡ not (is_title name))
 kind_inside name isnt =
     subst (λ (kind : Kind). (has_references kind ≡ true) × (has_elements kind ≡ not (is_title name)))
-    (sym (ap (λ (b : Bool). if b then raw_text else if is_title name then only_text else any_content) isnt))
+    (cc)
     (either (is_title name))
   where
     either : (b : Bool) → (has_references (if b then only_text else any_content) ≡ true)
