@@ -34,20 +34,20 @@ d_selects : (text : List ℕ) → begins_with_d text ≡ true → kind_by text �
 d_selects text h = grind arith
 
 lower_d : (b : ℕ) → to_ascii_lowercase b ≡ 100 → (b == byte "d" || b == byte "D") ≡ true
-lower_d b is = grind (arith, common_steps)
+lower_d b is = grind arith
 
 only_d : (letter : ℕ) → kind_with letter ≡ Some kind.Disallow → letter ≡ 100
-only_d letter is = grind (arith, common_steps)
+only_d letter is = grind arith
 
 selects_d : (text : List ℕ) → kind_by text ≡ Some kind.Disallow → begins_with_d text ≡ true
-selects_d text is = grind (arith, lower_d, only_d)
+selects_d text is = grind arith
 
 selected : (kind : Kind) (value body : List ℕ) → IsStatement kind value body
     → kind_by (skip_blanks body) ≡ Some kind
 unfolding statement_of
 selected kind value body is =
     let text = skip_blanks body in
-    option_and_then_some _ (kind_by text) (kind, value) (statement_found kind value body is) (grind (arith, option_and_then_some, same_Some))
+    option_and_then_some _ (kind_by text) (kind, value) (statement_found kind value body is) (grind arith)
 
 pub empty_is_allow : (line : LineValue) (body : List ℕ) → IsLineOf line body
     → IsStatement kind.Disallow [] body → line ≡ Allow (codes "/")
@@ -61,7 +61,7 @@ empty_stated : (line : LineValue) (body : List ℕ) → IsLineOf line body → i
 empty_stated (Allow own) body of_body holds = elim (is_stated (Allow own) body of_body) [
   | inr (same, is) ↦ is
   | inl is ↦
-      (grind (arith, d_selects, skipped, selected))
+      (grind (arith, selected))
 ]
 empty_stated line body of_body holds = cc
 
@@ -69,7 +69,7 @@ empty_holds : (line : LineValue) (body : List ℕ) → IsLineOf line body → Is
     → is_empty_disallow line body ≡ true
 empty_holds line body of_body is =
     let d : begins_with_d (without_front body) ≡ true =
-    ap begins_with_d (skipped body) ∙ selects_d (skip_blanks body) (selected kind.Disallow [] body is) in
+    cc (skipped body, selects_d (skip_blanks body) (selected kind.Disallow [] body is)) in
     rw (empty_is_allow line body of_body is) d
 
 abbrev OfBody : Label → List ℕ → Type 0
@@ -115,9 +115,9 @@ at_found : (labels : List Label) (number i : ℕ) (label : Label) → slice_get 
     → label.number ≡ number → is_empty_disallow label.line label.body ≡ true
     → is_empty_at labels number ≡ true
 at_found [] number i label at same empty = cc
-at_found (first ∷ labels) number zero label at same empty = grind (arith, common_steps)
+at_found (first ∷ labels) number zero label at same empty = grind arith
 at_found (first ∷ labels) number (suc i) label at same empty =
-    grind (arith, or_right, at_found labels number i label at same empty)
+    grind (arith, at_found labels number i label at same empty)
 
 pub zips : (file : List ℕ) → AllZip IsLineOf (lines_read file) (bodies_read file)
 zips file = search (rules, lines_of_file_bodies)
@@ -136,7 +136,7 @@ empty_disallows name file labels number are hold = (
       let (i, label, at, same, empty) = found_at labels number is in
       let (own, also, of_body) = right_at OfBody labels bodies i label pairs at in
       let beside = there i label at in
-      grind (arith, empty_stated, same_Some, are.each, i, label),
+      grind (arith, empty_stated),
   λ (i, body, is, beside, stated).
       let (label, at, of_body) = left_at OfBody labels bodies i body pairs beside in
       let one = same_Some _ _ (sym beside ∙ there i label at) in
@@ -185,8 +185,7 @@ overruled_is is_empty lines number other agent holds =
       alone = λ allowed there alike listed. elim (cases_Bool (is_empty there)) [
         | inl is ↦ is
         | inr isnt ↦
-            absurd (false≢true (sym no_allow
-            ∙ like_holds is_empty rules true root there allowed alike isnt listed))
+            absurd (false≢true (cc (like_holds is_empty rules true root there allowed alike isnt listed)))
       ];
     }
 
@@ -221,14 +220,14 @@ one_byte : (pattern text : List ℕ) → length pattern ≡ 1 → Matches patter
 unfolding MatchesWith
 one_byte [] text long matches path = absurd (omega arith)
 one_byte (b ∷ c ∷ pattern) text long matches path = absurd (omega arith)
-one_byte (b ∷ []) text long (s, takes, end) (rest, begins, more) = grind (arith, common_steps)
+one_byte (b ∷ []) text long (s, takes, end) (rest, begins, more) = grind arith
 
 root_wins : (pattern text : List ℕ) → compared pattern ≡ root → Matches root text
     → Matches pattern text × (length pattern ≡ 1)
 unfolding MatchesWith
 root_wins pattern text same (rest, begins, more) =
     let wins = path_wins root pattern rest same in
-    grind (arith, wins.0)
+    grind arith
 
 module _ (agent file : List ℕ) (rules : List PlacedRule)
     (are : AreRulesFor agent (lines_read file) rules) where
@@ -243,15 +242,14 @@ module _ (agent file : List ℕ) (rules : List PlacedRule)
       → placed.rule ≡ (root, true)
   rule_there placed has (position, body, is, at, stated) =
       let (here, on, holds) = (are.held placed).0 has in
-      let place : here ≡ position = omega arith in
       let (own, also, of_body) = right_at IsLineOf (lines_read file) bodies here _
       (zips file) holds.line.0 in
-      let one : own ≡ body = grind (arith, same_Some) in
+      let one : own ≡ body = grind arith in
       let line = empty_is_allow _ body (subst (IsLineOf _) one of_body) stated in
-      grind (arith, value_of, placed.rule.1, holds.value, line)
+      grind arith
 
   some_escaped : (b : ℕ) (value : List ℕ) → 0 < length (escaped (b ∷ value))
-  some_escaped b value = grind (arith, common_steps)
+  some_escaped b value = grind arith
 
   some_bytes : (pattern : List ℕ) (line : ℕ)
       → Contains rules (record { rule = (pattern, false); line = line }) → 0 < length pattern
@@ -285,7 +283,7 @@ module _ (agent file : List ℕ) (rules : List PlacedRule)
     from rule has =
         let (placed, listed, is) = placed_of stated rule has in
         let (own, passes) = in_filter (λ (one : PlacedRule). not (is_empty one.line)) rules placed listed in
-        grind (arith, not-true)
+        grind arith
 
     denies_stated : (placed : PlacedRule) (p : List ℕ) → Contains rules placed → placed.rule ≡ (p, false)
         → is_empty placed.line ≡ false
@@ -335,7 +333,7 @@ module _ (agent file : List ℕ) (rules : List PlacedRule)
               (grind arith) refl in
               let holds = first_some (at_line allow.line (overruled_by is_empty all)) all
               (record { rule = (allow.rule.0, true); line = allow.line }) given
-              (grind (arith, eq-eqb, allow.line)) in
+              (grind arith) in
               absurd (false≢true (sym (ap is_some (silent allow there)) ∙ holds))
         ]
 
@@ -349,9 +347,9 @@ module _ (agent file : List ℕ) (rules : List PlacedRule)
           let (deny, own, isnt, is) = from (p, false) denied in
           let alike = ap (λ (rule : Rule). compared rule.0) is ∙ one_byte p text short fits path in
           let (one, there_too, allows, like, stated_too) =
-          allow_beside allow deny there empty own (ap (λ (rule : Rule). rule.1) is) alike in
+          allow_beside allow deny there empty own (cc) alike in
           let (matches, long) = root_wins one.rule.0 text like path in
-          grind (arith, kept, allows, one, there_too, matches)
+          grind (arith, kept)
 
       longer : 1 < length p
       longer = elim (cases_lt 1 (length p)) [
@@ -359,7 +357,7 @@ module _ (agent file : List ℕ) (rules : List PlacedRule)
         | inr short ↦
             let (deny, own, isnt, is) = from (p, false) denied in
             let some = some_bytes p deny.line
-            (grind (arith, is)) in
+            (grind arith) in
             absurd (never_short (omega arith))
       ]
 
@@ -380,7 +378,7 @@ module _ (agent file : List ℕ) (rules : List PlacedRule)
                     (longer text p has fits longest allow there empty
                     (subst (λ q. Matches q text) q_is matches))
                 | inr stays ↦
-                    grind (arith, kept, longest, q, same, allow, there)
+                    grind (arith, kept)
               ],
         )
 

@@ -53,20 +53,20 @@ condition_holds : (line : Option ℕ) (about : Option (List ℕ)) (checks : List
     → Contains (warned line about checks) warning
     → (warning.line ≡ line) × Contains checks (warning.cause, true)
 condition_holds line about [] warning (k, below, at) = absurd (omega arith)
-condition_holds line about ((cause, true) ∷ checks) warning (zero, below, at) = grind (arith, common_steps)
+condition_holds line about ((cause, true) ∷ checks) warning (zero, below, at) = grind arith
 condition_holds line about ((cause, true) ∷ checks) warning (suc k, below, at) =
     let (same, has) = condition_holds line about checks warning (k, omega arith, at) in
-    (same, (suc has.0, omega (arith, has.1), has.2))
+    (same, (suc has.0, omega arith, has.2))
 condition_holds line about ((cause, false) ∷ checks) warning has =
     let (same, later) = condition_holds line about checks warning has in
-    (same, (suc later.0, omega (arith, later.1), later.2))
+    (same, (suc later.0, omega arith, later.2))
 
 -- of the checks of a position, only the last one gives this warning
 other_here : (last : Option ℕ) (preceding : Preceding) (above : Option (List ℕ)) (first : Option ℕ)
     (label : Label) (lines : List LineValue)
     → Contains (position_checks last preceding above first label lines) (TwoDelays, true)
     → is_other_delay first label ≡ true
-other_here last preceding above first label lines has = grind (arith, common_steps)
+other_here last preceding above first label lines has = grind arith
 
 is_other : (last : Option ℕ) (preceding : Preceding) (above : Option (List ℕ)) (first : Option ℕ)
     (labels : List Label) (number : ℕ)
@@ -93,7 +93,7 @@ left_from gone position lines =
 
 no_agent : (first : Option ℕ) (line : LineValue) → are_different first (delay_in line) ≡ true
     → is_agent line ≡ false
-no_agent first line differs = grind (arith, common_steps)
+no_agent first line differs = grind arith
 
 -- if the group has a delay above the next line, crawlers that get this group have found theirs, and a
 -- user-agent line begins another group
@@ -113,12 +113,12 @@ module _ (name : List ℕ) where
   settled_next : (first found : Option ℕ) (tracker : GroupTracker) (line : LineValue)
       → IsSettled first found tracker
       → IsSettled (first_delay first line) (found_next found tracker line) (step name tracker line)
-  settled_next first found tracker line is = grind (arith, common_steps)
+  settled_next first found tracker line is = grind arith
 
   nothing_lost : (first found : Option ℕ) (tracker : GroupTracker) (line : LineValue)
       → are_different first (delay_in line) ≡ true → IsSettled first found tracker
       → (found_next found tracker line ≡ found) × ◌≡◌ {A = GroupTracker} (step name tracker line) tracker
-  nothing_lost first found tracker line differs is = grind (arith, common_steps)
+  nothing_lost first found tracker line differs is = grind arith
 
 record AreOthers (gone : ℕ → Bool) (position : ℕ) (first : Option ℕ) (labels : List Label) : Type 0 where
   each : (place : ℕ) → gone (position + place + 1) ≡ true → IsOther first labels place
@@ -136,21 +136,14 @@ module _ (gone : ℕ → Bool) where
     differs_here : gone (position + 1) ≡ true → are_different first (delay_in label.line) ≡ true
     differs_here goes =
         let is = others.each 0 (grind arith) in
-        grind (arith, and_parts, same_Some)
+        grind arith
 
   any_left : (test : LineValue → Bool) → ((line : LineValue) → is_agent line ≡ false → test line ≡ false)
       → (position : ℕ) (first : Option ℕ) (labels : List Label) → AreOthers gone position first labels
       → list_any test (left_from gone position (lines_of labels)) ≡ list_any test (lines_of labels)
   any_left test others position first [] are = refl
   any_left test others position first (label ∷ labels) are =
-      grind (
-        arith,
-        others,
-        others_next,
-        no_agent,
-        differs_here,
-        any_left test others (position + 1) (first_delay first label.line) labels (others_next are),
-      )
+      grind (arith, differs_here, any_left test others (position + 1) (first_delay first label.line) labels (others_next are))
 
   first_left : (name : List ℕ) (position : ℕ) (first found : Option ℕ) (tracker : GroupTracker)
       (labels : List Label) → AreOthers gone position first labels → IsSettled first found tracker
@@ -162,11 +155,10 @@ module _ (gone : ℕ → Bool) where
       let given = if_captured tracker (delay_in line) in
       let now = found_next found tracker line in
       let moved = step name tracker line in
-      let left = left_from gone (position + 1) (lines_of labels) in
       let later = first_left name (position + 1) (first_delay first line) now moved labels (others_next are)
       (settled_next name first found tracker line is)
       ∙ first_more given found now (given_captured delay_in name moved (lines_of labels)) refl in
-      (grind (arith, nothing_lost, differs_here, first_more, given_captured))
+      (grind (arith, differs_here))
 
 abbrev AreBelow : (ℕ → Bool) → ℕ → List LineValue → Type 0
 AreBelow gone position lines =
@@ -176,11 +168,10 @@ before_left : (gone : ℕ → Bool) (position : ℕ) (lines : List LineValue) �
     → before_agent (left_from gone position lines) ≡ before_agent lines
 before_left gone position [] are = refl
 before_left gone position (line ∷ lines) are = elim (cases_Bool (gone (position + 1))) [
-  | inl goes ↦ absurd (false≢true (are 0 (grind (arith, gone))))
+  | inl goes ↦ absurd (false≢true (are 0 (grind arith)))
   | inr stays ↦ elim (cases_Bool (is_agent line)) [
     | inl agent ↦ rw (stays, agent) refl
-    | inr isnt ↦ rw (stays, isnt) (ap (λ above. line ∷ above) (before_left gone (position + 1) lines
-        (λ place goes. rw isnt at (are (suc place) (grind (arith, gone))))))
+    | inr isnt ↦ rw (stays, isnt) (cc (before_left gone (position + 1) lines (λ place goes. rw isnt at (are (suc place) (grind (arith, gone))))))
   ]
 ]
 
@@ -207,11 +198,11 @@ module _ {name : List ℕ} {labels : List Label} (labeled : AreLabelsOf name (li
       let each : All IsWarned numbers =
       λ k number below.
       subst (Contains (position_warnings labels))
-      (grind (arith, get_or-map, k, number))
+      (grind (arith, get_or-map))
       (all k (two_delays_at number) (rw (length-map numbers two_delays_at) below)) in
       let (found, is, number_is) = is_other (last_group labels) preceding.Other None None labels _
       (holds_among IsWarned numbers each _ goes) in
-      grind (arith, labeled.each, found, is.label)
+      grind arith
 
   others : AreOthers gone 0 None labels
   others = record { each = other_at }
@@ -236,14 +227,14 @@ module _ {name : List ℕ} {labels : List Label} (labeled : AreLabelsOf name (li
       let left = lines_without numbers all_lines in
       let lowered = str_to_ascii_lowercase agent in
       let group : group_name agent left ≡ group_name agent all_lines =
-      grind (arith, any_stays, only_agents, lowered) in
+      grind (arith, any_stays) in
       let agents = any_stays is_agent (λ line isnt. isnt) in
       let start : start_of left ≡ start_of all_lines =
       grind arith in
       let first : slice_get (captured_delays agent left) 0 ≡ slice_get (captured_delays agent all_lines) 0 =
       rw (delays_are agent left, delays_are agent all_lines, group, start)
       (first_left gone (group_name agent all_lines) 0 None None (start_of all_lines) labels others tt) in
-      ap₂ option_or first (early_left gone all_lines agents below)
+      cc (early_left gone all_lines agents below)
 
 pub two_delays_can_be_deleted : (name agent : List ℕ) (lines : List LineValue) (labels : List Label)
     (numbers : List ℕ) → AreLabelsOf name lines labels
@@ -269,7 +260,7 @@ has_none : (agent : List ℕ) (lines : List LineValue) → lacks_all lines agent
 has_none agent lines lacks star other pattern starred holds =
     let (i, within, there) = computed (codes "*") lines star _ starred in
     let (k, below, at) = computed agent lines other _ holds in
-    grind (arith, bytes_eq-Decides, list_any-from_Any, not-true, or_right, pattern)
+    grind (arith, bytes_eq-Decides, list_any-from_Any, or_right)
 
 -- the line at this position is a user-agent line with such a name, with no rule or delay up to it
 record IsNamed (test : List ℕ → Bool) (lines : List LineValue) : Type 0 where
@@ -301,7 +292,7 @@ named test (UserAgent value ∷ lines) is = elim (or_cases (test value) (begin_w
   | inr later ↦ named_next (UserAgent value) refl (named test lines later)
 ]
 named test (line ∷ lines) is =
-    grind (arith, and_parts, named_next, not-true, named test lines)
+    grind (arith, named_next, named test lines)
 
 one_run : {test : List ℕ → Bool} {lines : List LineValue} {position : ℕ} {rest : List LineValue}
     → IsFrom lines position rest → (is : IsNamed test rest)
@@ -313,8 +304,8 @@ one_run {lines} {position} {rest} from is k group = elim (cases_lt k position) [
     | inr within ↦
         let i = k - position in
         let same : slice_get lines k ≡ slice_get rest i =
-        grind (arith, lines, rest, from.each) in
-        grind (arith, is.no_group, i, same)
+        grind arith in
+        grind arith
   ]
 ]
 
@@ -370,7 +361,6 @@ replaces_star agents name lines labels number labeled has =
     let (k, agent, below, at, passes) = Any-from_list_any _ agents by.passes in
     let (lacks, same) = and_parts _ _ passes in
     let spelling = str_to_ascii_lowercase by.value in
-    let spelled = (bytes_eq-Decides (str_to_ascii_lowercase agent) spelling).0 same in
     let on = here found.from ∙ ap Some is in (
       found.position,
       value,
@@ -381,7 +371,7 @@ replaces_star agents name lines labels number labeled has =
       inr (
         rw on refl,
         found.position + by.position,
-        grind (arith, bytes_eq-Decides, found.from.each, spelling),
+        grind (arith, bytes_eq-Decides, spelling),
         one_run found.from by,
       ),
       has_none agent lines lacks,

@@ -68,9 +68,9 @@ robot_stays requested file left audit agent is some deleted utf8 =
     let short = all_read requested file audit is some in
     let whole = take_all file_limit file short in
     let less = left_within (numbers_of is.needless) file left deleted in
-    let all_left = take_all file_limit left (omega (arith, short, less)) in
+    let all_left = take_all file_limit left (omega arith) in
     subst₂ (HaveSameRobot agent) (sym whole) (sym all_left)
-    (same_robot file left is.needless (grind (arith, whole)) some
+    (same_robot file left is.needless (grind arith) some
     deleted agent utf8)
 
 zip_once : {A B : Type 0} (R : A → B → Type 0) → ((x : A) (y z : B) → R x y → R x z → y ≡ z)
@@ -85,11 +85,11 @@ zip_once R once (x ∷ xs) (y ∷ ys) (z ∷ zs) (one, more) (two, rest) =
 
 decided_once : (rules : List PlacedRule) (text : List ℕ) (one two : Decision)
     → IsDecisionOn rules text one → IsDecisionOn rules text two → one ≡ two
-decided_once rules text one two is too = grind (arith, one_verdict, one_line_decides)
+decided_once rules text one two is too = grind arith
 
 verdict_once : (rules : List PlacedRule) (url : List ℕ) (one two : VerdictValue)
     → IsVerdictOn rules url one → IsVerdictOn rules url two → one ≡ two
-verdict_once rules url one two is too = grind (arith, decided_once)
+verdict_once rules url one two is too = grind arith
 
 abbrev IsShort : PlacedRule → Type 0
 IsShort placed = ¬ IsOverlong placed.rule.0
@@ -99,8 +99,8 @@ cut_once : (front others : List PlacedRule) (one two : PlacedRule) (back after :
     → front ++ one ∷ back ≡ others ++ two ∷ after → Each IsShort front → Each IsShort others
     → IsOverlong one.rule.0 → IsOverlong two.rule.0 → one ≡ two
 cut_once [] [] one two back after same first second here there = cc
-cut_once [] (rule ∷ others) one two back after same first second here there = grind (arith, common_steps)
-cut_once (rule ∷ front) [] one two back after same first second here there = grind (arith, common_steps)
+cut_once [] (rule ∷ others) one two back after same first second here there = grind arith
+cut_once (rule ∷ front) [] one two back after same first second here there = grind arith
 cut_once (rule ∷ front) (other ∷ others) one two back after same first second here there =
     cut_once front others one two back after (cc) first.1 second.1 here there
 

@@ -34,7 +34,7 @@ escape_spelled high low text one two = rw (one, two) refl
 unreserved_kept : (b : ℕ) → is_unreserved b ≡ true → should_percent_encode IN_TARGETS b ≡ false
 unfolding should_percent_encode
 unreserved_kept b is =
-    let low : b < 128 = grind (arith, nat_tests) in
+    let low : b < 128 = grind arith in
     rw is at (agree_below_at (λ c. is_unreserved c && should_percent_encode IN_TARGETS c) (λ c. false) 128 b
     refl low)
 
@@ -63,7 +63,7 @@ digit_kept b is = hex_not (λ c. should_percent_encode IN_TARGETS (to_ascii_uppe
 escape_kept : (high low : ℕ) → is_ascii_hexdigit high ≡ true → is_ascii_hexdigit low ≡ true
     → percent_encode IN_TARGETS (normal_escape high low) ≡ normal_escape high low
 unfolding percent_encode
-escape_kept high low one two = grind (arith, cases_Bool, digit_kept, percent_kept, unreserved_kept)
+escape_kept high low one two = grind (arith, digit_kept, percent_kept, unreserved_kept)
 
 normal_so : (in_query : Bool) (text : List ℕ)
     → normal_target text ≡ normal_from (in_uri all_stay) in_query text
@@ -72,10 +72,8 @@ normal_so =
     by_escapes (λ in_query text. normal_target text ≡ normal_from (in_uri all_stay) in_query text)
     (λ in_query. refl)
     (λ in_query b text isnt later.
-    ap (percent_encode IN_TARGETS) (octet_spelled b text isnt)
-    ∙ ap₂ (λ x y. x ++ y) (encoded in_query b) later
-    ∙ sym (octet_first (in_uri all_stay) in_query b text isnt))
-    (grind (arith, escape_first, escape_kept, escape_spelled, flat_map-append))
+    cc (octet_spelled b text isnt, encoded in_query b, octet_first (in_uri all_stay) in_query b text isnt))
+    (grind (arith, escape_kept, flat_map-append))
 
 -- a target without `url-not-normal` is in normal form, and that of what is written
 pub target_normal : (text : List ℕ)

@@ -23,7 +23,7 @@ pub record IsFrom (lines : List LineValue) (position : ℕ) (rest : List LineVal
   pub each : (i : ℕ) → slice_get lines (position + i) ≡ slice_get rest i
 
 pub all_from : (lines : List LineValue) → IsFrom lines 0 lines
-all_from lines = grind (arith, common_steps)
+all_from lines = grind arith
 
 module _ {lines : List LineValue} {position : ℕ} {line : LineValue} {rest : List LineValue}
     (from : IsFrom lines position (line ∷ rest)) where
@@ -41,7 +41,7 @@ pub record AreFrom (lines : List LineValue) (position : ℕ) (labels : List Labe
 
 pub all_labels : {name : List ℕ} {lines : List LineValue} {labels : List Label}
     → AreLabelsOf name lines labels → AreFrom lines 0 labels
-all_labels {lines} are = grind (arith, common_steps)
+all_labels {lines} are = grind arith
 
 pub labels_next : {lines : List LineValue} {position : ℕ} {label : Label} {labels : List Label}
     → AreFrom lines position (label ∷ labels) → AreFrom lines (position + 1) labels
@@ -96,7 +96,7 @@ module _ {lines : List LineValue} {position : ℕ} {line : LineValue} {rest : Li
 
   above_this : (other : LineValue) → ◌≢◌ {A = LineValue} line other
       → IsAbove lines (position + 1) (Some other) → IsAbove lines position (Some other)
-  above_this other differs is = grind (arith, same_Some, here)
+  above_this other differs is = grind (arith, here)
 
 -- the labels of the lines from a position on, and the lines above it in its group
 record IsReached (lines : List LineValue) (position : ℕ) (above : List LineValue) (labels : List Label)
@@ -116,7 +116,7 @@ module _ {lines above : List LineValue} {position : ℕ} {label : Label} {labels
   next = record {
     labeled = labels_next reached.labeled;
     group = elim (cases_Bool (is_agent label.line)) [
-      | inl is ↦ grind (arith, is)
+      | inl is ↦ grind arith
       | inr isnt ↦ rw isnt (above_next_is reached.labeled.from isnt above reached.group)
     ];
   }
@@ -127,18 +127,11 @@ repeat_from : (everywhere : Bool) (lines : List LineValue) (position : ℕ) (abo
 repeat_from everywhere lines position above [] number reached (k, below, at) = absurd (omega arith)
 repeat_from everywhere lines position above (label ∷ labels) number reached has =
     let group = above_next above label.line in
-    (grind (
-      arith,
-      first_or_later,
-      first_repeat,
-      and_parts,
-      next,
-      repeat_from everywhere lines (position + 1) group labels number (next reached),
-    ))
+    (grind (arith, first_repeat, repeat_from everywhere lines (position + 1) group labels number (next reached)))
 
 is_repeat : {name : List ℕ} {lines : List LineValue} {labels : List Label} → AreLabelsOf name lines labels
     → (everywhere : Bool) (number : ℕ) → Contains (repeated everywhere labels) number → IsRepeat lines number
-is_repeat {lines} {labels} are everywhere number = repeat_from everywhere lines 0 [] labels number (grind (arith, all_labels))
+is_repeat {lines} {labels} are everywhere number = repeat_from everywhere lines 0 [] labels number (grind arith)
 
 captured_above : {lines : List LineValue} {position : ℕ} {line : Option LineValue} (name : List ℕ)
     (is : IsAbove lines position line) → IsCaptured name lines position → IsCaptured name lines is.other
@@ -158,7 +151,7 @@ rule_above {agent} {lines} are placed has is =
         refl,
         record {
           value = holds.value;
-          line = (above.is ∙ holds.line.0, captured_above (group_name agent lines) above holds.line.1);
+          line = (cc, captured_above (group_name agent lines) above holds.line.1);
           utf8 = holds.utf8;
           pattern = holds.pattern;
         },
@@ -192,7 +185,7 @@ denied_by_same rules others text same (differs, p, has, fits, longest) =
 
 pub holds_among : (P : ℕ → Type 0) (numbers : List ℕ) → All P numbers → (number : ℕ)
     → among numbers number ≡ true → P number
-holds_among P numbers all number is = grind (arith, All-contains, in_named)
+holds_among P numbers all number is = grind (arith, in_named)
 
 module _ (numbers : List ℕ) (lines : List LineValue)
     (repeats : (number : ℕ) → among numbers number ≡ true → IsRepeat lines number) where
@@ -208,13 +201,13 @@ module _ (numbers : List ℕ) (lines : List LineValue)
       let repeat = λ (goes : among numbers (position + 1) ≡ true).
       rw at at (repeats (position + 1) goes position refl) in
       elim (cases_Bool (is_rule line)) [
-        | inl rule ↦ (grind (arith, among))
+        | inl rule ↦ (grind arith)
         | inr isnt ↦
             let stays = false_from_ne_true (among numbers (position + 1))
-            (grind (arith, repeat)) in
+            (grind arith) in
             elim (cases_Bool (is_agent line)) [
               | inl agent ↦ rw (isnt, stays, agent, never_lost has_rule) (later false (grind arith))
-              | inr plain ↦ (grind (arith, above_this))
+              | inr plain ↦ (grind arith)
             ]
       ]
 
