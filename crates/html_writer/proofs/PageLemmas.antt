@@ -59,7 +59,7 @@ named_attributes before (a ∷ attributes) are (value, values) =
       rw (any_named a.name before) at rest.0,
       value,
       named_attributes (before ++ a ∷ []) attributes
-          (rw (map-append (λ (a : Attribute). a.name) before (a ∷ [])) rest.1) values,
+          (grind (arith, map-append, before)) values,
     )
 
 -- ---- Reading goes on where it was.
@@ -80,26 +80,18 @@ piece_read old new piece last state reads added =
 kind_plain : (opened : List Opened) → IsTrue (list_all is_tag (map name_in opened))
     → (has_references (kind_of opened) ≡ true) × (has_elements (kind_of opened) ≡ true)
 kind_plain [] are = (refl, refl)
-kind_plain (o ∷ opened) are =
-    let tag = (and_parts (is_tag o.tag.name) (list_all is_tag (map name_in opened)) are).0 in
-    let named = and_parts (is_name o.tag.name) (is_ordinary o.tag.name && not (is_title o.tag.name)) tag in
-    let plain = and_parts (is_ordinary o.tag.name) (not (is_title o.tag.name)) named.1 in
-    let styled = not-true (is_style o.tag.name) (and_parts (not (is_style o.tag.name)) _ plain.0).0 in
-    let kind = kind_inside o.tag.name styled in
-    (kind.0, cc)
+kind_plain (o ∷ opened) are = grind (arith, and_parts, kind_inside, not-true)
 
 nil_open : IsOpen [] []
-nil_open = record { safe = ascii_safe [] refl; state = refl; names_are = refl; are_tags = refl }
+nil_open = grind (arith, ascii_safe)
 
 pub nothing_open : (opened : List (Bor (List ℕ))) (bytes : List ℕ) → opened ≡ [] → bytes ≡ []
     → IsOpen (names_of opened) bytes
-nothing_open opened bytes none empty =
-    subst (IsOpen (names_of opened)) (sym empty)
-    (subst (λ (o : List (Bor (List ℕ))). IsOpen (names_of o) []) (sym none) nil_open)
+nothing_open opened bytes none empty = grind (arith, nil_open)
 
 module _ (names : List (List ℕ)) (old new : List ℕ) (is : IsOpen names old) where
   has : has_references (kind_of (so_far old).opened) ≡ true
-  has = (kind_plain (so_far old).opened is.are_tags).0
+  has = grind (arith, kind_plain)
 
   may : has_elements (kind_of (so_far old).opened) ≡ true
   may = (kind_plain (so_far old).opened is.are_tags).1
@@ -107,15 +99,7 @@ module _ (names : List (List ℕ)) (old new : List ℕ) (is : IsOpen names old) 
   -- the elements that are open stay so
   kept_open : (last : Reader) → so_far new ≡ last → last.state ≡ data_state
       → last.opened ≡ (so_far old).opened → IsSafe new → IsOpen names new
-  kept_open last same state opened safe =
-      let both : (so_far new).opened ≡ (so_far old).opened = cc in
-      record {
-        safe = safe;
-        state = cc;
-        names_are = cc;
-        are_tags =
-            subst (λ (o : List Opened). IsTrue (list_all is_tag (map name_in o))) (sym both) is.are_tags;
-      }
+  kept_open last same state opened safe = grind arith
 
   pub text_is : (line : List ℕ) → IsPrintableIn false line → new ≡ old ++ escaped line
       → so_far new ≡ followed_by (text line) (so_far old)
@@ -133,7 +117,7 @@ module _ (names : List (List ℕ)) (old new : List ℕ) (is : IsOpen names old) 
         state = cc;
         names_are = cc;
         are_tags =
-            subst (λ (r : Reader). IsTrue (list_all is_tag (map name_in r.opened))) (sym same) is.are_tags;
+            grind arith;
       }
 
   pub title_is : (line : List ℕ) → IsPrintableIn false line → new ≡ old ++ written (title line)
@@ -173,10 +157,7 @@ module _ (names : List (List ℕ)) (old new : List ℕ) (is : IsOpen names old) 
     attributes = adds.attributes
 
     printable_attributes : AreAttributes IsPrintable [] attributes
-    printable_attributes =
-        named_attributes [] attributes
-        (subst (λ (l : List (List ℕ)). are_names [] l ≡ true) (sym adds.named.names_are) labeled)
-        adds.named.printable
+    printable_attributes = grind (arith, named_attributes)
 
     text_attributes : AreAttributes IsText [] attributes
     text_attributes = attributes_weaker IsPrintable IsText printable_text [] attributes printable_attributes
@@ -210,22 +191,10 @@ module _ (names : List (List ℕ)) (old new : List ℕ) (is : IsOpen names old) 
         (whole tag_close added)
 
     start_is : is_tag name ≡ true → new ≡ mid ++ tag_close → Opens name labels (so_far old) (so_far new)
-    start_is tag added = record { attributes = attributes; named = adds.named; new_is = start_same tag added }
+    start_is tag added = grind (arith, start_same)
 
     start_open : is_tag name ≡ true → new ≡ mid ++ tag_close → IsOpen (names ++ name ∷ []) new
-    start_open tag added =
-        let same = start_same tag added in
-        let named = and_parts (is_name name) (is_ordinary name && not (is_title name)) tag in
-        record {
-          safe = tag_safe named.0 tag_close close_safe added;
-          state = cc;
-          names_are =
-              reverse-append names (name ∷ []) ∙ ap (λ (l : List (List ℕ)). name ∷ l) is.names_are
-              ∙ ap (λ (r : Reader). map name_in r.opened) (sym same);
-          are_tags =
-              subst (λ (r : Reader). IsTrue (list_all is_tag (map name_in r.opened))) (sym same)
-              (rw tag is.are_tags);
-        }
+    start_open tag added = grind (arith, and_parts, close_safe, reverse-append, start_same, tag_safe)
 
     void_same : is_void name ≡ true → new ≡ mid ++ void_close
         → so_far new ≡ followed_by (void [] name attributes (text [])) (so_far old)
@@ -238,20 +207,10 @@ module _ (names : List (List ℕ)) (old new : List ℕ) (is : IsOpen names old) 
         (whole void_close added)
 
     void_is : is_void name ≡ true → new ≡ mid ++ void_close → HasVoid name labels (so_far old) (so_far new)
-    void_is is_one added =
-        record { attributes = attributes; named = adds.named; new_is = void_same is_one added }
+    void_is is_one added = grind (arith, void_same, is_one)
 
     void_open : is_void name ≡ true → new ≡ mid ++ void_close → IsOpen names new
-    void_open is_one added =
-        let same = void_same is_one added in
-        let both = and_parts (is_name name) (is_among void_names name) is_one in
-        record {
-          safe = tag_safe both.0 void_close void_close_safe added;
-          state = cc;
-          names_are = cc;
-          are_tags =
-              subst (λ (r : Reader). IsTrue (list_all is_tag (map name_in r.opened))) (sym same) is.are_tags;
-        }
+    void_open is_one added = grind (arith, and_parts, tag_safe, void_close_safe, void_same, is_one)
 
 -- ---- The innermost element ends.
 
@@ -281,8 +240,7 @@ module _ (names : List (List ℕ)) (name : List ℕ) (old new : List ℕ) (is : 
       let reads = end_read outer o.before (so_far old).content o.tag.name o.tag.attributes named.0 styled in
       let result : so_far new ≡ now =
       piece_read old new (end_tag o.tag.name) now is.state
-      (subst (λ (l : List Opened). Reads (reader data_state l (so_far old).content) (end_tag o.tag.name) now)
-      (sym same) reads)
+      (grind arith)
       (cc) in (
         cc,
         record {
@@ -291,15 +249,15 @@ module _ (names : List (List ℕ)) (name : List ℕ) (old new : List ℕ) (is : 
           state = cc;
           names_are = cc (same_tail name o.tag.name (reverse names) (map name_in outer) last);
           are_tags =
-              subst (λ (r : Reader). IsTrue (list_all is_tag (map name_in r.opened))) (sym result) both.1;
+              grind arith;
         },
       )
 
   end_is : so_far new ≡ closed (so_far old)
-  end_is = (ends (so_far old).opened refl last_is is.are_tags).0
+  end_is = grind (arith, ends, last_is)
 
   end_open : IsOpen names new
-  end_open = (ends (so_far old).opened refl last_is is.are_tags).1
+  end_open = grind (arith, ends, last_is)
 
 -- ---- The same, as the functions that write a page need it.
 
@@ -348,9 +306,7 @@ voided_open names labels name old new is one labeled adds =
 popped : (before after : List (Bor (List ℕ))) (name : Bor (List ℕ)) (old : List ℕ)
     → IsOpen (names_of before) old → before ≡ after ++ name ∷ []
     → IsOpen (names_of after ++ name.now ∷ []) old
-popped before after name old is pops =
-    subst (λ (names : List (List ℕ)). IsOpen names old)
-    (cc (map-append (λ (n : Bor (List ℕ)). n.now) after (name ∷ []))) is
+popped before after name old is pops = grind (arith, map-append)
 
 pub element_ended : (before after : List (Bor (List ℕ))) (name : Bor (List ℕ)) (old new : List ℕ)
     → IsOpen (names_of before) old → before ≡ after ++ name ∷ [] → new ≡ old ++ end_tag name.now
@@ -367,9 +323,7 @@ ended_open before after name old new is pops added =
 -- if no element is open, nothing changes
 pub none_ended : (before : List (Bor (List ℕ))) (old : List ℕ) → IsOpen (names_of before) old → before ≡ []
     → so_far old ≡ closed (so_far old)
-none_ended before old is none =
-    by (so_far old).opened refl
-    (cc)
+none_ended before old is none = grind (arith, by)
   where
     by : (opened : List Opened) → (so_far old).opened ≡ opened → [] ≡ map name_in opened
         → so_far old ≡ closed (so_far old)
@@ -379,22 +333,14 @@ none_ended before old is none =
     by (o ∷ opened) same names = absurd (cc)
 
 pub adds_none : (old : List ℕ) → AddsAttributes [] old old
-adds_none old = record {
-  attributes = [];
-  named = record { names_are = refl; printable = tt };
-  added = sym (append-nil old);
-}
+adds_none old = grind (arith, append-nil)
 
 adds_more : (names : List (List ℕ)) (name value old mid new : List ℕ) → AddsAttributes names old mid
     → IsPrintableIn false value → new ≡ mid ++ attribute_bytes (attribute name value)
     → AddsAttributes (names ++ name ∷ []) old new
 adds_more names name value old mid new adds plain added = record {
   attributes = adds.attributes ++ attribute name value ∷ [];
-  named = record {
-    names_are = cc (map-append (λ (a : Attribute). a.name) adds.attributes (attribute name value ∷ []));
-    printable =
-        each_last adds.attributes (attribute name value) adds.named.printable (line_printable value plain);
-  };
+  named = grind (arith, line_printable, map-append, each_last);
   added =
       cc (append_assoc old (flat_map attribute_bytes adds.attributes) (attribute_bytes (attribute name value)), flat_map-append attribute_bytes adds.attributes (attribute name value ∷ []), append-nil (attribute_bytes (attribute name value)));
 }
