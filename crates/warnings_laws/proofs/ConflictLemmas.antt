@@ -1,12 +1,12 @@
 -- Warnings about closed sites and about conflicting rules.
 use Rattle.std.specs.Prelude.{is_some}
-use Rattle.std.proofs.{lemmas.Grind.common_steps, lemmas.Option.same_Some, lemmas.Slice.Eq.bytes_eq-Decides}
-use Rattle.std.proofs.{lemmas.Bool.Decides.nat_tests, lemmas.List.Elements.All-contains}
-use Rattle.std.proofs.Common.{rules, Some, bytes_eq, codes, if◌then◌else◌, ◌∙◌, ◌≡◌, ℕ, ◌==◌, ◌&&◌, ◌||◌, []}
+use Rattle.std.proofs.{lemmas.Slice.Eq.bytes_eq-Decides}
+use Rattle.std.proofs.{lemmas.List.Elements.All-contains}
+use Rattle.std.proofs.Common.{rules, Some, bytes_eq, if◌then◌else◌, ◌∙◌, ◌≡◌, ℕ, ◌==◌, ◌&&◌, ◌||◌, []}
 use Rattle.std.proofs.Common.{Bool, true, false, List, ◌∷◌, Contains, append-nil, ap, arith, inl, inr, length}
 use Rattle.std.proofs.Common.{not, refl, subst, suc, sym, ◌⊎◌, Any, None, Option, ◌≢◌, ◌<◌, ◌++◌, All, nat_eq}
 use Rattle.std.proofs.Common.{nat_le}
-use Rattle.std.proofs.lemmas.Bool.{and_parts, cases_Bool, not-true, eqb-true, or_cases, eq-eqb, false≢true}
+use Rattle.std.proofs.lemmas.Bool.{and_parts, not-true, eqb-true, or_cases, eq-eqb, false≢true}
 use Rattle.std.specs.{List.list_all, List.list_any, Str.byte, Option.option_or, List.starts_with}
 use Rattle.std.proofs.lemmas.List.Folds.{list_any-from_Any, Any-from_list_any, list_all_at, list_any_at}
 use Rattle.texting_robots.specs.Callers.{AreRulesFor, LineValue, Matches, PlacedRule, Rule, escaped, IsDenied}
@@ -17,10 +17,10 @@ use Rattle.robots_warnings.specs.Closed.{without_stars, closing_line, is_allow, 
 use Rattle.robots_warnings.specs.Closed.{is_rival, line_closing, matches_no_path, opened_paths, reach_of}
 use Rattle.robots_warnings.specs.Conflicts.{IsConflict, allow_beside, at_line, compared, conflict_for}
 use Rattle.robots_warnings.specs.Conflicts.{first_line, first_of, is_like, line_if}
-use Rattle.robots_warnings.specs.{Contents.is_cut_to_root, declared.closed.Reach.Reach, Crawlers.other_group}
+use Rattle.robots_warnings.specs.{Contents.is_cut_to_root}
 use Rattle.robots_warnings.proofs.{ClosedLemmas.whole_site_stays}
 use Rattle.texting_robots.proofs.Shared.{computed_are, placed_of, in_front, plain_wildcards}
-use Rattle.robots_warnings.specs.declared.closed.Reach.TheVariants.{Everything, Nothing, Part}
+use Rattle.robots_warnings.specs.declared.closed.Reach.TheVariants.{Everything, Nothing}
 use Rattle.robots_needless.proofs.{TogetherLemmas.unplaced_of}
 use Rattle.warnings_laws.proofs.{WarningLemmas.without_path}
 
@@ -101,10 +101,6 @@ pub unless_found : (a : Bool) (x : Option ℕ) (n : ℕ) → (if a then None els
     → (a ≡ false) × (x ≡ Some n)
 unless_found a x n h = grind arith
 
-kind_is : (is_allow kind : Bool) → (if is_allow then kind else not kind) ≡ true → kind ≡ is_allow
-kind_is true kind is = is
-kind_is false kind is = not-true kind is
-
 pub like_found : (is_empty : ℕ → Bool) (rules : List PlacedRule) (is_allow : Bool) (pattern : List ℕ)
     (other : ℕ) → first_line (is_like is_empty is_allow pattern) rules ≡ Some other
     → (one : PlacedRule) × Contains rules one × (one.rule.1 ≡ is_allow) × (compared one.rule.0 ≡ pattern)
@@ -161,10 +157,6 @@ conflict_holds is_empty lines number other agent is =
     first_some (at_line number (allow_beside is_empty rules)) rules
     (record { rule = (is.pattern, false); line = number })
     (also_listed is.are own _ is.disallow) (rw (eq-eqb number number refl) allowed)
-
-star_or_same : (pattern : List ℕ)
-    → (compared pattern ≡ pattern) ⊎ ((pattern ≡ codes "*") × (compared pattern ≡ codes "/"))
-star_or_same pattern = grind (arith, bytes_eq-Decides)
 
 -- the second pattern matches what the first one matches, and is as long
 pub Wins : (pattern other text : List ℕ) → Type 0
@@ -308,18 +300,6 @@ closes_everything agent lines rules number text is are none =
     within path (k, below, at) begins =
         list_any-from_Any (starts_with nat_eq (byte "/" ∷ text)) (opened_paths lines)
         (k, path, below, at, begins)
-
-abbrev reach_if : (other all shut : Bool) → Reach
-reach_if other all shut = if other then Part else if all then Everything else if shut then Nothing else Part
-
-everything_if : (other all shut : Bool) → reach_if other all shut ≡ Everything → all ≡ true
-everything_if other all shut is = grind arith
-
-nothing_if : (other all shut : Bool) → reach_if other all shut ≡ Nothing → shut ≡ true
-nothing_if other all shut is = grind arith
-
-abbrev is_shut : List PlacedRule → Bool
-is_shut rules = is_some (closing_line (λ pattern. false) rules)
 
 pub fetches_everything : (agent : List ℕ) (lines : List LineValue) (rules : List PlacedRule) (text : List ℕ)
     → reach_of lines agent ≡ Everything → AreRulesFor agent lines rules → ¬ IsDenied (unplaced rules) text

@@ -1,17 +1,17 @@
 -- Which lines are empty Disallows, what `empty-disallow` says of rules, and what it means if no line has it.
 use Rattle.std.specs.Prelude.{is_some}
-use Rattle.std.proofs.lemmas.Bool.{or_right, and_parts, not-true, cases_lt, false≢true, cases_Bool, eq-eqb}
+use Rattle.std.proofs.lemmas.Bool.{and_parts, cases_lt, false≢true, cases_Bool, eq-eqb}
 use Rattle.std.proofs.lemmas.Bool.{eqb-true, or_cases}
-use Rattle.std.proofs.Common.{rules, ◌≡◌, ◌↔◌, ◌==◌, ◌&&◌, ◌||◌, ℕ, Bool, true, false, List, [], ◌∷◌, None}
-use Rattle.std.proofs.Common.{Some, ap, arith, codes, if◌then◌else◌, inl, inr, map, refl, slice_get, subst}
+use Rattle.std.proofs.Common.{rules, ◌≡◌, ◌↔◌, ◌==◌, ◌&&◌, ℕ, Bool, true, false, List, [], ◌∷◌, None}
+use Rattle.std.proofs.Common.{Some, ap, arith, codes, inl, inr, map, refl, slice_get, subst}
 use Rattle.std.proofs.Common.{suc, sym, zero, ◌∙◌, ◌<◌, Contains, Option, length, not}
-use Rattle.std.proofs.lemmas.{Grind.common_steps, Option.option_and_then_some, Option.same_Some}
+use Rattle.std.proofs.lemmas.{Option.option_and_then_some, Option.same_Some}
 use Rattle.std.proofs.lemmas.Slice.Zip.{AllZip-left, AllZip-right}
 use Rattle.texting_robots.specs.Callers.{Allow, AreLabelsOf, Disallow, IsLineOf, Label, LineValue, lines_read}
 use Rattle.texting_robots.specs.Callers.{bodies_in, bodies_read, escaped, placed_rules, unplaced, AreRulesFor}
 use Rattle.texting_robots.specs.Callers.{IsDenied}
 use Rattle.texting_robots.specs.Callers.{IsVerdict, Matches, PlacedRule, Rule}
-use Rattle.texting_robots.specs.Internal.Statement.{kind_by, kind_with, skip_blanks, statement_of, tail_as}
+use Rattle.texting_robots.specs.Internal.Statement.{kind_by, skip_blanks, statement_of}
 use Rattle.texting_robots.proofs.Shared.{one_statement, statement_found, computed_are, lines_of_file_bodies}
 use Rattle.texting_robots.proofs.Shared.{placed_of}
 use Rattle.robots_warnings.specs.Conflicts.{IsEmptyDisallow, begins_with_d, is_empty_at, is_empty_disallow}
@@ -23,21 +23,12 @@ use Rattle.texting_robots.specs.{Pattern.MatchesWith, Statement.IsStatement}
 use Rattle.robots_needless.proofs.TogetherLemmas.{in_filter, to_filter, unplaced_of}
 use Rattle.warnings_laws.proofs.ConflictLemmas.{first_found, first_some, like_found, like_holds, listed}
 use Rattle.warnings_laws.proofs.ConflictLemmas.{also_listed, if_found, path_wins, unless_found}
-use Rattle.std.specs.{Option.IsSomeAnd, Char.to_ascii_lowercase, List.AllZip, Str.byte}
+use Rattle.std.specs.{Option.IsSomeAnd, List.AllZip}
 use Rattle.texting_robots.specs.declared.parser.statement.{Kind.Kind}
 use Rattle.texting_robots.specs.declared.parser.statement.Kind.TheVariants as kind
 
 skipped : (body : List ℕ) → without_front body ≡ skip_blanks body
 skipped body = grind arith
-
-d_selects : (text : List ℕ) → begins_with_d text ≡ true → kind_by text ≡ Some kind.Disallow
-d_selects text h = grind arith
-
-lower_d : (b : ℕ) → to_ascii_lowercase b ≡ 100 → (b == byte "d" || b == byte "D") ≡ true
-lower_d b is = grind arith
-
-only_d : (letter : ℕ) → kind_with letter ≡ Some kind.Disallow → letter ≡ 100
-only_d letter is = grind arith
 
 selects_d : (text : List ℕ) → kind_by text ≡ Some kind.Disallow → begins_with_d text ≡ true
 selects_d text is = grind arith
@@ -233,10 +224,6 @@ module _ (agent file : List ℕ) (rules : List PlacedRule)
     (are : AreRulesFor agent (lines_read file) rules) where
   abbrev bodies : List (List ℕ)
   bodies = bodies_read file
-
-  value_of : (b : Bool) (value : List ℕ) → (if b then Allow value else Disallow value) ≡ Allow root
-      → (b ≡ true) × (value ≡ root)
-  value_of b value h = grind arith
 
   pub rule_there : (placed : PlacedRule) → Contains rules placed → IsEmptyDisallow bodies placed.line
       → placed.rule ≡ (root, true)

@@ -1,9 +1,9 @@
 -- Warnings about groups. Lines with `two-delays` can be deleted: the delay of every crawler stays the same. A
 -- line with `replaces-star` is in the group of a crawler that has no Disallow of `*`.
-use Rattle.std.proofs.lemmas.{Grind.common_steps, Option.same_Some, Option.slice_get-map}
+use Rattle.std.proofs.lemmas.{Option.slice_get-map}
 use Rattle.std.proofs.Common.{rules, codes, if◌then◌else◌, inl, inr, refl, subst, sym, ◌≤◌, ◌-◌, ◌≡◌, ◌+◌, ℕ}
 use Rattle.std.proofs.Common.{◌∙◌, suc, zero, Bool, true, false, not, List, [], ◌∷◌, All, Contains, map}
-use Rattle.std.proofs.Common.{Option, None, Some, filter, slice_get, take, ap, ap₂, arith}
+use Rattle.std.proofs.Common.{Option, None, Some, filter, slice_get, take, ap, arith}
 use Rattle.std.specs.List.{enumerate_from, fold, list_any, count_by}
 use Rattle.std.proofs.lemmas.Bool.{and_parts, cases_Bool, false≢true, cases_lt, not-true, or_cases, or_right}
 use Rattle.std.proofs.lemmas.List.{get_or-map, length-map, Elements.Contains-append_cases}
@@ -11,9 +11,9 @@ use Rattle.std.proofs.lemmas.List.{Sorted.sum_by-IsPermutation}
 use Rattle.texting_robots.specs.Callers.{AreLabelsOf, Label, LineValue, UserAgent, delay_for}
 use Rattle.texting_robots.specs.Callers.{group_name, AreRulesFor, HoldsRule, PlacedRule, Rule, placed_rules}
 use Rattle.texting_robots.specs.Executable.{captured_delays, delay_before_agents}
-use Rattle.texting_robots.specs.Group.{is_agent, is_agent_named, passes_at, is_group}
+use Rattle.texting_robots.specs.Group.{is_agent, passes_at, is_group}
 use Rattle.texting_robots.specs.Internal.Group.{if_captured, start_of, step}
-use Rattle.texting_robots.proofs.Shared.{delays_are, given_captured, only_agents, taken_decides, before_agent}
+use Rattle.texting_robots.proofs.Shared.{delays_are, given_captured, taken_decides, before_agent}
 use Rattle.texting_robots.proofs.Shared.{before_agents, first_more, computed_are, one_list}
 use Rattle.robots_warnings.specs.Checks.{Check, position_checks}
 use Rattle.robots_warnings.specs.Positions.{are_different, first_delay, is_other_delay, last_group, sole_name}
@@ -25,8 +25,8 @@ use Rattle.warnings_laws.proofs.{WarningLemmas.below_agent}
 use Rattle.std.proofs.lemmas.List.Folds.{Any-from_list_any, list_any-from_Any}
 use Rattle.texting_robots.specs.{Labels.AreOneRun, Labels.IsInOwnGroup, Line.delay_in}
 use Rattle.robots_warnings.specs.declared.positions.Preceding.TheVariants.{Other}
-use Rattle.robots_warnings.specs.Closed.{denies, is_first_name, is_partial, is_replacing, lacks_all}
-use Rattle.robots_warnings.specs.Closed.{replacing, replacing_from, star_count, star_rules, is_whole_site}
+use Rattle.robots_warnings.specs.Closed.{is_first_name, is_partial, is_replacing, lacks_all}
+use Rattle.robots_warnings.specs.Closed.{replacing, replacing_from, star_count, star_rules}
 use Rattle.std.specs.{Option.option_or, Str.str_to_ascii_lowercase}
 use Rattle.std.proofs.lemmas.Slice.{Eq.bytes_eq-Decides}
 use Rattle.texting_robots.specs.declared.groups.{GroupTracker.GroupTracker}
@@ -114,11 +114,6 @@ module _ (name : List ℕ) where
       → IsSettled first found tracker
       → IsSettled (first_delay first line) (found_next found tracker line) (step name tracker line)
   settled_next first found tracker line is = grind arith
-
-  nothing_lost : (first found : Option ℕ) (tracker : GroupTracker) (line : LineValue)
-      → are_different first (delay_in line) ≡ true → IsSettled first found tracker
-      → (found_next found tracker line ≡ found) × ◌≡◌ {A = GroupTracker} (step name tracker line) tracker
-  nothing_lost first found tracker line differs is = grind arith
 
 record AreOthers (gone : ℕ → Bool) (position : ℕ) (first : Option ℕ) (labels : List Label) : Type 0 where
   each : (place : ℕ) → gone (position + place + 1) ≡ true → IsOther first labels place

@@ -12,8 +12,7 @@ use Rattle.texting_robots.specs.Callers.{IsVerdict, Label, LineValue, PlacedRule
 use Rattle.texting_robots.specs.Callers.{file_limit, rules_for, IsFirstOverlong, IsOverlong, IsRejected}
 use Rattle.texting_robots.specs.Callers.{Rule}
 use Rattle.texting_robots.specs.Callers.{delay_for, lines_read, unplaced, IsRobotOfFile, RobotValue}
-use Rattle.texting_robots.specs.{Decision.IsDecisionOn, declared.decision.Decision.Decision}
-use Rattle.robots_needless.specs.Blocks.{AreFoundIn, HaveSameRobot, IsLeftOf}
+use Rattle.robots_needless.specs.Blocks.{HaveSameRobot, IsLeftOf}
 use Rattle.robots_needless.specs.Needless.{AreFound, AreNeedless, lines_without, numbers_of}
 use Rattle.robots_needless.proofs.{LeftLemmas.left_within, LeftLemmas.same_robot}
 use Rattle.robots_needless.proofs.{SettledLemmas.nothing_found}
@@ -24,7 +23,7 @@ use Rattle.audit_core.specs.Audit.{sitemaps_asked, warnings_requested}
 use Rattle.audit_core.specs.{Request.RequestValue, Asked.asked_target}
 use Rattle.std.specs.{List.All, List.AllByRecursion as Each, List.AllZip, Bool.Decides}
 use Rattle.std.proofs.lemmas.List.Elements.{All-cons, All-nil, recursion_from_All}
-use Rattle.texting_robots.proofs.Shared.{none_unplaced, some_overlong, one_line_decides, one_verdict}
+use Rattle.texting_robots.proofs.Shared.{none_unplaced, some_overlong}
 use Rattle.texting_robots.proofs.Shared.{rejection_is_computed, each_text_answered, overlong_decides}
 use Rattle.robots_needless.specs.{declared.needless.NeedlessRule.NeedlessRule}
 use Rattle.robots_warnings.specs.{Closed.reach_of, Warnings.warnings, Message.WarningValue}
@@ -82,10 +81,6 @@ zip_once R once (x ∷ xs) [] zs one two = absurd one
 zip_once R once (x ∷ xs) (y ∷ ys) [] one two = absurd two
 zip_once R once (x ∷ xs) (y ∷ ys) (z ∷ zs) (one, more) (two, rest) =
     grind (arith, zip_once R once xs ys zs more rest)
-
-decided_once : (rules : List PlacedRule) (text : List ℕ) (one two : Decision)
-    → IsDecisionOn rules text one → IsDecisionOn rules text two → one ≡ two
-decided_once rules text one two is too = grind arith
 
 verdict_once : (rules : List PlacedRule) (url : List ℕ) (one two : VerdictValue)
     → IsVerdictOn rules url one → IsVerdictOn rules url two → one ≡ two

@@ -1,9 +1,9 @@
 -- A rule with `repeated-rule` decides no verdict, and can be deleted.
-use Rattle.std.proofs.lemmas.{Grind.common_steps, Option.same_Some, Slice.Eq.bytes_eq-Decides}
-use Rattle.std.proofs.lemmas.Bool.{and_parts, cases_Bool, false_from_ne_true, false≢true}
+use Rattle.std.proofs.lemmas.{Slice.Eq.bytes_eq-Decides}
+use Rattle.std.proofs.lemmas.Bool.{cases_Bool, false_from_ne_true}
 use Rattle.std.proofs.Common.{◌≡◌, ◌+◌, ◌⊎◌, ℕ, suc, zero, Bool, true, false, List, [], ◌∷◌, ◌++◌, Contains}
-use Rattle.std.proofs.Common.{Some, arith, if◌then◌else◌, inl, inr, refl, slice_get, subst, sym, ◌≢◌, ◌<◌}
-use Rattle.std.proofs.Common.{◌≤◌, ◌↔◌, All, Option, ◌∙◌}
+use Rattle.std.proofs.Common.{Some, arith, if◌then◌else◌, inl, inr, refl, slice_get, subst, sym, ◌<◌}
+use Rattle.std.proofs.Common.{◌≤◌, ◌↔◌, All, Option}
 use Rattle.texting_robots.specs.Callers.{AreLabelsOf, Label, LineValue, Allow, AreRulesFor, Disallow, Rule}
 use Rattle.texting_robots.specs.Callers.{IsCaptured, IsDecidingLine, IsDenied, IsVerdict, PlacedRule}
 use Rattle.texting_robots.specs.Callers.{group_name, placed_rules, rules_for, unplaced}
@@ -15,7 +15,7 @@ use Rattle.robots_needless.proofs.BlockLemmas.{among, deleted}
 use Rattle.robots_warnings.specs.Repeated.{above_next, is_repeated, repeated, repeated_from}
 use Rattle.robots_warnings.specs.{File.lines_of, Spellings.is_rule_with}
 use Rattle.std.specs.{List.list_any}
-use Rattle.std.proofs.lemmas.List.{Elements.All-contains, Elements.Contains-push_cases}
+use Rattle.std.proofs.lemmas.List.{Elements.Contains-push_cases}
 use Rattle.std.proofs.lemmas.List.{Folds.Any-from_list_any}
 use Rattle.texting_robots.proofs.Shared.{placed_of, computed_are}
 
@@ -93,10 +93,6 @@ module _ {lines : List LineValue} {position : ℕ} {line : LineValue} {rest : Li
             let is = group other older in grind arith
         | inr same ↦ (grind (arith, here))
       ]
-
-  above_this : (other : LineValue) → ◌≢◌ {A = LineValue} line other
-      → IsAbove lines (position + 1) (Some other) → IsAbove lines position (Some other)
-  above_this other differs is = grind (arith, here)
 
 -- the labels of the lines from a position on, and the lines above it in its group
 record IsReached (lines : List LineValue) (position : ℕ) (above : List LineValue) (labels : List Label)

@@ -1,10 +1,10 @@
 -- Theorems about warnings: what the conditions of some warnings imply for rules, names and URLs.
-use Rattle.std.proofs.{lemmas.Grind.common_steps, lemmas.List.Folds.list_any-append}
+use Rattle.std.proofs.{lemmas.List.Folds.list_any-append}
 use Rattle.std.proofs.{lemmas.List.Elements.Contains-append_cases}
-use Rattle.std.proofs.Common.{◌||◌, ◌==◌, ap, arith, if◌then◌else◌, inl, inr, suc, ◌≡◌, ◌≢◌, ◌⊎◌}
+use Rattle.std.proofs.Common.{◌||◌, ◌==◌, arith, if◌then◌else◌, inl, inr, suc, ◌≡◌, ◌≢◌, ◌⊎◌}
 use Rattle.std.proofs.Common.{◌<◌, ℕ, Bool, true, false, List, [], ◌∷◌, ◌++◌, Contains, codes, filter, map}
-use Rattle.std.proofs.Common.{not, Option, refl, slice_get, Some, subst, sym, take, ◌+◌, ◌∙◌}
-use Rattle.std.proofs.lemmas.Bool.{not-true, or_cases, or_parts, cases_Bool, eqb-true, false≢true}
+use Rattle.std.proofs.Common.{not, Option, slice_get, Some, subst, sym, ◌+◌, ◌∙◌}
+use Rattle.std.proofs.lemmas.Bool.{cases_Bool, eqb-true, false≢true}
 use Rattle.std.specs.{List.enumerate_from, List.list_all, List.list_any, Str.byte}
 use Rattle.std.specs.{Str.is_utf8, Option.option_map_or}
 use Rattle.texting_robots.specs.Callers.{Allow, AreLabelsOf, CrawlDelay, Disallow, HoldsRule, IsLineOf, Label}
@@ -95,11 +95,6 @@ pub above_agents_applies_to_none : (name agent : List ℕ) (lines : List LineVal
     → is_above_agents label ≡ true → ¬ HoldsRule agent lines place rule
 above_agents_applies_to_none name agent lines labels place label rule are at is holds =
     grind arith
-
-dropped : (front q t : List ℕ) → Matches (front ++ q) t → (s : List ℕ) × Matches q s
-unfolding MatchesWith
-dropped [] q t m = (t, m)
-dropped (b ∷ front) q t (s, takes, m) = dropped front q s m
 
 other_bytes : (value : List ℕ) → list_any (λ b. not (b == star || b == dollar)) value ≡ true
     → list_all is_wildcard (escaped value) ≡ false
