@@ -137,7 +137,9 @@ class Robot:
         except TypeError:
             raise _wrong("url", url) from None
         result = _query(self._opened, text, len(text))
-        return result >= 0 or (result <= _LAST_FAILURE and self._fails(result))
+        if result >= 0:
+            return True
+        return result <= _LAST_FAILURE and self._fails(result)
 
     def verdict(self, url: str) -> Verdict:
         """Whether the crawler may fetch the URL, and the line that decides it."""
@@ -263,15 +265,17 @@ class Robots:
     def allowed(self, url: str, agent: str) -> bool:
         """Whether the crawler may fetch the URL."""
         # the lookup of its robot and that robot's query, written out to save two calls; most callers have one `str` for their agent
-        newest, robot = self._site.newest
+        newest, opened = self._site.newest
         if newest is not agent:
-            robot = (type(agent) is str and self._site.robots.get(agent)) or self._site.robot(agent)
+            opened = ((type(agent) is str and self._site.robots.get(agent)) or self._site.robot(agent))._opened
         try:
             text = _encode(url)
         except TypeError:
             raise _wrong("url", url) from None
-        result = _query(robot._opened, text, len(text))
-        return result >= 0 or (result <= _LAST_FAILURE and robot._fails(result))
+        result = _query(opened, text, len(text))
+        if result >= 0:
+            return True
+        return result <= _LAST_FAILURE and self._site.robot(agent)._fails(result)
 
     can_fetch = allowed
     """Protego's name. (The one of urllib.robotparser has the agent first.)"""
@@ -362,7 +366,7 @@ class Robots:
         return f"<{type(self).__name__} of {len(self._site.body)} bytes>"
 
 
-_NONE: Final = (object(), Robot.__new__(Robot))
+_NONE: Final = (object(), ffi.NULL)
 
 
 class _Site:
@@ -377,7 +381,7 @@ class _Site:
     def __init__(self, body: bytes) -> None:
         self.body = body
         self.kept: CData | None = None
-        self.newest: tuple[object, Robot] = _NONE
+        self.newest: tuple[object, CData] = _NONE
         self.robots: dict[str, Robot] = {}
 
     def read(self) -> CData:
@@ -407,7 +411,7 @@ class _Site:
         if len(self.robots) >= _AGENTS_KEPT:
             self.robots.clear()
         self.robots[str(name, "utf-8")] = robot
-        self.newest = agent, robot
+        self.newest = agent, robot._opened
         return robot
 
     def __reduce__(self) -> tuple[type[_Site], tuple[bytes]]:
