@@ -68,7 +68,8 @@ pub fn push_attribute(out: &mut Vec<u8>, name: &str, value: &str) -> Result<(), 
 {
     out.push(b' ')?;
     out.extend_from_slice(name.as_bytes())?;
-    out.extend_from_slice(b"=\"")?;
+    out.push(b'=')?;
+    out.push(b'"')?;
     push_text(out, value.as_bytes())?;
     Ok(out.push(b'"')?)
 }
@@ -99,7 +100,8 @@ pub fn push_start(out: &mut Vec<u8>, name: &str) -> Result<(), AllocError>
 pub fn push_end(out: &mut Vec<u8>, name: &str) -> Result<(), AllocError>
     ensures { OnOk result (out.new.items ≡ out.old.items ++ end_tag name.now) }
 {
-    out.extend_from_slice(b"</")?;
+    out.push(b'<')?;
+    out.push(b'/')?;
     out.extend_from_slice(name.as_bytes())?;
     Ok(out.push(b'>')?)
 }
