@@ -6,8 +6,6 @@ use Rattle.std.specs.contracts.alloc.Global as Global
 use Rattle.std.proofs.alloc.Global.TheLaws as Global-laws
 use Rattle.texting_robots.proofs.robot.Robot.TheLaws as Robot-laws
 use Rattle.texting_robots.proofs.site.Site.TheLaws as Site-laws
-use Rattle.texting_robots.specs.contracts.robot.Robot as Robot-type
-use Rattle.texting_robots.specs.contracts.site.Site as Site-type
 use Rattle.c_calls.specs.Kept as kept
 use denote.SharingLaws.{contraction}
 use denote.Struct.Lending.{lent_at_shr_laws}
