@@ -12,9 +12,9 @@ use Rattle.std.proofs.lemmas.List.{map-append, reverse-append, take_more}
 use Rattle.std.proofs.lemmas.Bool.Decides.{nat_tests}
 use Rattle.std.proofs.lemmas.List.Sums.{AllPass-from_list_all, list_all-from_AllPass}
 use Rattle.printable_text.specs.Sanitize.{IsPrintable, IsPrintableIn, has_command, is_printable}
-use Rattle.printable_text.specs.Sanitize.{is_printable_byte, sanitized}
+use Rattle.printable_text.specs.Sanitize.{is_printable_byte, sanitized, without_commands}
 use Rattle.printable_text.proofs.SanitizeLemmas.{append_printable, ascii_printable, chars_pass}
-use Rattle.printable_text.proofs.SanitizeLemmas.{line_printable, sanitized_in_printable}
+use Rattle.printable_text.proofs.SanitizeLemmas.{line_printable, printable_kept, sanitized_in_printable}
 use Rattle.printable_text.proofs.{EscapeLemmas.escaped_printable}
 use Rattle.html_writer.specs.Html.{AreAttributes, Attribute, IsContent, IsText, doctype, is_css}
 use Rattle.html_writer.specs.Html.{style, style_bytes, written, attribute_bytes, end_tag}
@@ -33,7 +33,8 @@ use Rattle.html_writer.specs.Page.{AddsStart, AddsVoid, IsSomePage, names_in, na
 use Rattle.html_writer.specs.Page.{closed_in, followed_by, is_tag, is_void, name_in, so_far}
 use Rattle.html_writer.proofs.WritingLemmas.{Reads, attributes_weaker, content_read, style_read, end_read}
 use Rattle.html_writer.proofs.WritingLemmas.{each_form, escaped-is, kind_inside, start_read, text_read}
-use Rattle.html_writer.proofs.WritingLemmas.{void_read}
+use Rattle.html_writer.proofs.WritingLemmas.{escaped_same, void_read}
+use Rattle.html_writer.specs.Html.{is_plain, is_written_as_is}
 use Rattle.html_writer.proofs.SafeLemmas.{ascii_safe, attributes_safe, both_safe, bracketless_quiet}
 use Rattle.html_writer.proofs.SafeLemmas.{close_safe, end_safe, name_safe, open_safe, printable_text}
 use Rattle.html_writer.proofs.SafeLemmas.{style_safe, value_safe, void_close_safe}
@@ -271,11 +272,27 @@ sanitized_line front line bytes none added =
     subst (IsPrintableIn false) (sym (cleared_line front line bytes none added))
     (sanitized_in_printable false bytes)
 
-pub text_written : (names : List (List ℕ)) (old new front line bytes : List ℕ) → IsOpen names old
-    → front ≡ [] → line ≡ front ++ sanitized bytes → new ≡ old ++ escaped line
-    → so_far new ≡ followed_by (text (sanitized bytes)) (so_far old)
-text_written names old new front line bytes is none line_is added =
-    cc (text_is names old new is line (sanitized_line front line bytes none line_is) added, cleared_line front line bytes none line_is)
+pub text_written : (names : List (List ℕ)) (old new bytes : List ℕ) → IsOpen names old
+    → new ≡ old ++ escaped (sanitized bytes) → so_far new ≡ followed_by (text (sanitized bytes)) (so_far old)
+text_written names old new bytes is added =
+    text_is names old new is (sanitized bytes) (sanitized_in_printable false bytes) added
+
+are_all : (test more : ℕ → Bool) (bytes : List ℕ) → list_all (λ byte. test byte && more byte) bytes ≡ true
+    → (list_all test bytes ≡ true) × (list_all more bytes ≡ true)
+are_all test more [] are = (refl, refl)
+are_all test more (byte ∷ bytes) are = grind (arith, and_parts, are_all test more bytes)
+
+no_bracket : (bytes : List ℕ) → list_all is_written_as_is bytes ≡ true → list_all is_no_bracket bytes ≡ true
+no_bracket [] are = refl
+no_bracket (byte ∷ bytes) are = grind (arith, nat_tests, and_parts, no_bracket bytes)
+
+pub plain_shown : (bytes : List ℕ) → list_all is_plain bytes ≡ true → escaped (sanitized bytes) ≡ bytes
+unfolding without_commands
+plain_shown bytes are =
+    let both = are_all (is_printable_byte false) is_written_as_is bytes are in
+    let kept = printable_kept false bytes (ascii_printable false bytes both.0) in
+    let quiet = bracketless_quiet bytes (no_bracket bytes both.1) in
+    ap escaped (ap without_commands kept ∙ rw quiet refl) ∙ escaped_same bytes both.1
 
 pub element_begun : (names labels : List (List ℕ)) (name old new : List ℕ) → IsOpen names old
     → is_tag name ≡ true → are_names [] labels ≡ true → AddsStart name labels old new

@@ -2,6 +2,7 @@
 use Rattle.std.specs.Prelude.{ℕ, ◌==◌, Bool, true, false, not, ◌&&◌, ◌||◌, IsTrue, List, [], ◌∷◌, ◌++◌, codes}
 use Rattle.std.specs.Prelude.{flat_map, if◌then◌else◌}
 use Rattle.std.specs.{Int.is_in_range, List.list_all, List.list_any, Str.bytes_eq}
+use Rattle.printable_text.specs.Sanitize.{is_printable_byte}
 
 pub record Attribute : Type 0 where
   pub name : List ℕ
@@ -58,6 +59,10 @@ escaped_byte byte =
 
 abbrev pub is_written_as_is : ℕ → Bool
 is_written_as_is byte = not (byte == 38 || (byte == 60 || (byte == 62 || (byte == 34 || byte == 91))))
+
+-- the same of printable ASCII
+abbrev pub is_plain : ℕ → Bool
+is_plain byte = is_printable_byte false byte && is_written_as_is byte
 
 -- The pieces of what is written are `unfoldable`: a proof about a function that writes a page names the
 -- pieces, and doesn't compute their bytes unless it asks for them.

@@ -1,9 +1,9 @@
 //! A page that is written piece by piece, with a stack of its open elements. Reading what was written so far
 //! yields these elements and what they contain; so no text and no value of an attribute becomes markup.
-ghost use Rattle.std.specs.Prelude.{◌≡◌, [], IfOk, OnOk, true};
+ghost use Rattle.std.specs.Prelude.{◌≡◌, ◌++◌, [], IfOk, OnOk, true};
 ghost use Rattle.std.specs.{List.list_all};
 ghost use Rattle.printable_text.specs.Sanitize.{sanitized};
-ghost use Rattle.html_writer.specs.Html.{is_css};
+ghost use Rattle.html_writer.specs.Html.{escaped, is_css, is_plain};
 ghost use Rattle.html_writer.specs.Html as html;
 ghost use Rattle.html_writer.specs.Page.{AddsAttributes, AddsStart, AddsTag, AddsVoid, HasVoid, Opens};
 ghost use Rattle.html_writer.specs.Page.{are_names, closed};
@@ -11,8 +11,8 @@ ghost use Rattle.html_writer.specs.Page.{followed_by, IsOpen, IsSomePage, is_saf
 ghost use Rattle.html_writer.specs.Page.{names_in, names_of, so_far, title};
 
 use crate::write::{
-    push_attribute, push_close, push_doctype, push_element, push_end, push_open, push_style,
-    push_text, push_void_close,
+    is_written_as_is, push_attribute, push_close, push_doctype, push_element, push_end, push_open,
+    push_style, push_text, push_void_close,
 };
 use printable_text::report::Line;
 use printable_text::sanitize::push_sanitized;
@@ -39,6 +39,32 @@ impl Model for Html {
     ghost view = { λ html. html.bytes.items };
 
     ghost invariant = { λ html. IsOpen (names_of html.opened.items) html.bytes.items };
+}
+
+/// Whether it is printable ASCII that is written as it is.
+fn is_plain(byte: u8) -> bool
+    ensures { result ≡ is_plain byte }
+{
+    matches!(byte, b' '..=b'~') && is_written_as_is(byte)
+}
+
+fn are_plain(text: &[u8]) -> bool
+    ensures { result ≡ list_all is_plain text.now }
+{
+    text.iter().all(|byte| is_plain(*byte))
+}
+
+/// What is unsafe to display is escaped, and then what a text of a page must not have.
+#[tactic(auto, using(crate::proofs::PageLemmas::plain_shown))]
+fn push_shown(bytes: &mut Vec<u8>, line: &mut String, text: &str) -> fmt::Result
+    ensures { OnOk result (bytes.new.items ≡ bytes.old.items ++ escaped (sanitized text.now)) }
+{
+    if are_plain(text.as_bytes()) {
+        return Ok(bytes.extend_from_slice(text.as_bytes())?);
+    }
+    line.clear();
+    push_sanitized(line, text.as_bytes())?;
+    Ok(push_text(bytes, line.as_bytes())?)
 }
 
 /// In the values, what is unsafe to display is escaped.
@@ -215,9 +241,7 @@ impl fmt::Write for Html {
 
     #[tactic(auto, using(crate::proofs::PageLemmas::nothing_open))]
     fn write_str(&mut self, text: &str) -> fmt::Result {
-        self.line.clear();
-        push_sanitized(&mut self.line, text.as_bytes())?;
-        let Ok(()) = push_text(&mut self.bytes, self.line.as_bytes()) else {
+        let Ok(()) = push_shown(&mut self.bytes, &mut self.line, text) else {
             return Err(lost(&mut self.bytes, &mut self.opened));
         };
         Ok(())

@@ -20,7 +20,7 @@ fn push_byte(out: &mut Vec<u8>, byte: u8) -> Result<(), AllocError>
     }
 }
 
-fn is_written_as_is(byte: u8) -> bool
+pub(crate) fn is_written_as_is(byte: u8) -> bool
     ensures { result ≡ is_written_as_is byte }
 {
     !(byte == b'&' || byte == b'<' || byte == b'>' || byte == b'"' || byte == b'[')
