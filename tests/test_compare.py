@@ -31,11 +31,13 @@ crawler Googlebot: delay 2 s -> 0.5 s
 crawler Googlebot: - Disallow: /search (line 2)
 crawler Googlebot: - Allow: /search/tea (line 3)
 crawler Googlebot: + Disallow: /cart (line 6)
+crawler Googlebot: verdicts change, for example /cart: allow -> deny 6
 """
 
 STAR = """crawler *: delay 2 s -> none
 crawler *: - Allow: /search/tea (line 3)
 crawler *: + Disallow: /products (line 3)
+crawler *: verdicts change, for example /products: allow -> deny 3
 """
 
 USAGE = "usage: robots_audit [OPTIONS] FILE [URL].."
@@ -46,27 +48,27 @@ OTHERS = f"other compared crawlers: {SAME_TEXT}"
 NAME = "a crawler's name is a product token without a version, such as Googlebot"
 URL = "this is neither a path that starts with / nor a valid http:// or https:// URL"
 MAYBE = "this is neither a path that starts with / nor a URL; for a crawler, write --agent NAME, for a file of URLs --urls FILE, for a level --strict=LEVEL"
-SAME = "crawler Ferris: same rules, so no URL's verdict differs\n"
+SAME = "crawler Ferris: no URL's verdict changes\n"
 TOO_LONG = b"User-agent: *\nDisallow: /" + b"x" * 4096 + b"$\n"
 REASON = "a pattern with $ longer than 4,096 bytes isn't supported; shorten it\n"
 
 # two versions of a file, and the lines about Ferris and the URL /a
 DIFFERENCES = {
-    "another kind": (b"Disallow: /a", b"Allow: /a", "crawler Ferris: - Disallow: /a (line 1)\ncrawler Ferris: + Allow: /a (line 1)\ncrawler Ferris /a: deny 1 -> allow 1, opened\n"),
+    "another kind": (b"Disallow: /a", b"Allow: /a", "crawler Ferris: - Disallow: /a (line 1)\ncrawler Ferris: + Allow: /a (line 1)\ncrawler Ferris: may fetch a part -> everything, for example /a: deny 1 -> allow 1\ncrawler Ferris /a: deny 1 -> allow 1, opened\n"),
     "a rule in another line": (b"Disallow: /a", b"# tea\nDisallow: /a", ""),
     "rules in another order": (b"Disallow: /a\nDisallow: /b", b"Disallow: /b\nDisallow: /a", ""),
     "another rule of the same length in front": (b"Disallow: /a\nDisallow: /*", b"Disallow: /*\nDisallow: /a", ""),
-    "another deciding rule": (b"Disallow: /a\nDisallow: /", b"Disallow: /", "crawler Ferris: - Disallow: /a (line 1)\ncrawler Ferris /a: deny 1 -> deny 1\n"),
-    "a longer deciding rule": (b"Disallow: /", b"#\nDisallow: /a\nDisallow: /", "crawler Ferris: + Disallow: /a (line 2)\ncrawler Ferris /a: deny 1 -> deny 2\n"),
+    "another deciding rule": (b"Disallow: /a\nDisallow: /", b"Disallow: /", "crawler Ferris: - Disallow: /a (line 1)\n" + SAME + "crawler Ferris /a: deny 1 -> deny 1\n"),
+    "a longer deciding rule": (b"Disallow: /", b"#\nDisallow: /a\nDisallow: /", "crawler Ferris: + Disallow: /a (line 2)\n" + SAME + "crawler Ferris /a: deny 1 -> deny 2\n"),
     "a second one": (b"Disallow: /a", b"Disallow: /a\nDisallow: /a", ""),
-    "two added": (b"", b"Disallow: /b\nDisallow: /b", "crawler Ferris: + Disallow: /b (line 1)\ncrawler Ferris: + Disallow: /b (line 2)\n"),
+    "two added": (b"", b"Disallow: /b\nDisallow: /b", "crawler Ferris: + Disallow: /b (line 1)\ncrawler Ferris: + Disallow: /b (line 2)\ncrawler Ferris: may fetch everything -> a part, for example /b: allow -> deny 1\n"),
     "the same after escaping": (b"Disallow: /\xc3\xa4", b"disallow /%C3%A4", ""),
-    "escaped": (b"", b"Disallow: /\xc3\xa4", "crawler Ferris: + Disallow: /%C3%A4 (line 1)\n"),
-    "an empty Disallow": (b"", b"Disallow:", "crawler Ferris: + Allow: / (line 1)\ncrawler Ferris /a: allow -> allow 1\n"),
+    "escaped": (b"", b"Disallow: /\xc3\xa4", "crawler Ferris: + Disallow: /%C3%A4 (line 1)\ncrawler Ferris: may fetch everything -> a part, for example /%C3%A4: allow -> deny 1\n"),
+    "an empty Disallow": (b"", b"Disallow:", "crawler Ferris: + Allow: / (line 1)\n" + SAME + "crawler Ferris /a: allow -> allow 1\n"),
     "a rule that isn't UTF-8": (b"", b"Disallow: /\xe4", ""),
     "a comment and a stray line": (b"Disallow: /b", b"Disallow: /b # tea\ntea", ""),
     "a sitemap": (b"Disallow: /b", b"Disallow: /b\nSitemap: https://e.com/s", NOTHING + "sitemap added: https://e.com/s\n"),
-    "a group of everyone": (b"", b"User-agent: *\nDisallow: /b", "crawler Ferris: group everyone -> *\ncrawler Ferris: + Disallow: /b (line 2)\n"),
+    "a group of everyone": (b"", b"User-agent: *\nDisallow: /b", "crawler Ferris: group everyone -> *\ncrawler Ferris: + Disallow: /b (line 2)\ncrawler Ferris: may fetch everything -> a part, for example /b: allow -> deny 2\n"),
     "no group": (b"User-agent: Ferris", b"User-agent: Other", "crawler Ferris: group Ferris -> none\n" + SAME),
     "a delay": (b"", b"Crawl-delay: 10", "crawler Ferris: delay none -> 10 s\n" + SAME),
     "past the size limit": (b"", b"#" * 512_000 + b"\nDisallow: /a", ""),
@@ -107,6 +109,7 @@ crawler Googlebot /cart: allow -> deny 6, closed
 def test_a_url_is_asked_without_its_fragment(tmp_path):
     """In a path, `#` is a byte like others."""
     lines = """crawler Ferris: - Disallow: /a$ (line 1)
+crawler Ferris: may fetch a part -> everything, for example /a: deny 1 -> allow
 crawler Ferris https://e.com/a#b: deny 1 -> allow, opened
 crawler Ferris https://e.com/a#c: deny 1 -> allow, opened
 """
@@ -224,24 +227,24 @@ def test_other_crawlers_than_one_for_which_a_file_is_rejected(tmp_path):
 
 
 def test_untrusted_text(tmp_path):
-    lines = "crawler Ferris: + Disallow: /%07 (line 1)\ncrawler Ferris /%07: allow -> deny 1, closed\n"
+    lines = "crawler Ferris: + Disallow: /%07 (line 1)\ncrawler Ferris: may fetch everything -> a part, for example /%07: allow -> deny 1\ncrawler Ferris /%07: allow -> deny 1, closed\n"
     assert reported(for_ferris(tmp_path, b"", b"Disallow: /\x07", "/\x07"), "old.txt (empty)") == (1, lines, "")
-    new = b"User-agent: *\nDisallow: /a\nUser-agent: a\x1bb\nDisallow: /b"
-    lines = "crawler a%1Bb: group * -> a%1Bb\ncrawler a%1Bb: - Disallow: /a (line 2)\ncrawler a%1Bb: + Disallow: /b (line 4)\n"
+    new = b"User-agent: *\nDisallow: /a\nUser-agent: a\x1bb\nDisallow: /bc"
+    lines = "crawler a%1Bb: group * -> a%1Bb\ncrawler a%1Bb: - Disallow: /a (line 2)\ncrawler a%1Bb: + Disallow: /bc (line 4)\ncrawler a%1Bb: verdicts change, for example /a: deny 2 -> allow\n"
     assert reported(compare(tmp_path, b"User-agent: *\nDisallow: /a", new)) == (1, lines + OTHERS, "")
 
 
 def test_no_command_of_a_workflow(tmp_path):
     """GitHub takes `##[` for a command, anywhere in a line."""
-    lines = "crawler Ferris: + Disallow: / (line 1)\ncrawler Ferris /%23%23[error]x: allow -> deny 1, closed\ncrawler Ferris /#[: allow -> deny 1, closed\n"
+    lines = "crawler Ferris: + Disallow: / (line 1)\ncrawler Ferris: may fetch everything -> nothing, for example /: allow -> deny 1\ncrawler Ferris /%23%23[error]x: allow -> deny 1, closed\ncrawler Ferris /#[: allow -> deny 1, closed\n"
     assert reported(for_ferris(tmp_path, b"", b"Disallow: /", "/##[error]x", "/#["), "old.txt (empty)") == (1, lines, "")
 
 
 def test_a_name_that_looks_like_a_command(tmp_path):
     new = b"User-agent: ::error title=tea::milk\nDisallow: /"
     name = "crawler ::error title=tea::milk"
-    lines = "crawler *: group everyone -> none\ncrawler *: same rules, so no URL's verdict differs\n"
-    lines += f"{name}: group everyone -> ::error title=tea::milk\n{name}: + Disallow: / (line 2)\n"
+    lines = "crawler *: group everyone -> none\ncrawler *: no URL's verdict changes\n"
+    lines += f"{name}: group everyone -> ::error title=tea::milk\n{name}: + Disallow: / (line 2)\n{name}: may fetch everything -> nothing, for example /: allow -> deny 2\n"
     assert reported(compare(tmp_path, b"", new), "old.txt (empty)") == (1, lines, "")
 
 
@@ -305,5 +308,5 @@ def test_many_rules(tmp_path):
     old, new = rules(b"a"), rules(b"b")
     assert reported(for_ferris(tmp_path, old, old)) == (0, NOTHING, "")
     result = for_ferris(tmp_path, old, new)
-    assert (result.status, result.out.count("\n")) == (1, 50_001)
+    assert (result.status, result.out.count("\n")) == (1, 50_002)
     assert result.out.splitlines()[25_000] == "crawler Ferris: - Disallow: /a24999 (line 25000)"

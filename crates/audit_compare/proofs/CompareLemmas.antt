@@ -1,11 +1,11 @@
 -- What a comparison finds: decisions, sitemaps and rules.
 use Rattle.std.proofs.Common.{◌≡◌, ◌∙◌, ◌↔◌, ◌||◌, ℕ, zero, suc, Bool, true, false, List, [], ◌∷◌, Contains}
-use Rattle.std.proofs.Common.{None, Option, Some, ap, arith, not, refl, ⊎_elim, subst, ◌==◌, if◌then◌else◌}
+use Rattle.std.proofs.Common.{None, Option, Some, ap, arith, not, refl, subst, ◌==◌, if◌then◌else◌}
 use Rattle.std.proofs.Common.{length, sym, ◌+◌, ◌<◌, Bor, ◌++◌, append_assoc, bytes_eq, cond, drop, map}
 use Rattle.std.proofs.Common.{slice_index_or, take}
 use Rattle.std.proofs.Math.{Bool.beq, Seq.drop-nil}
 use Rattle.std.specs.{List.AllZip, BTreeSet.BTreeSet, BTreeSet.Updates, BTreeSet.contains}
-use Rattle.std.proofs.lemmas.{Bool.and_parts, Bool.or_cases, Grind.common_steps, Slice.Eq.bytes_eq-Decides}
+use Rattle.std.proofs.lemmas.{Bool.and_parts, Grind.common_steps, Slice.Eq.bytes_eq-Decides}
 use Rattle.std.proofs.lemmas.{List.map_more, Map.Text.is_eq-slice_cmp}
 use Rattle.std.proofs.lemmas.List.{Folds.Any-from_list_any, drop_more}
 use Rattle.texting_robots.specs.Callers.{IsDenied, IsVerdict, LineValue, PlacedRule, Rule, placed_rules}
@@ -113,11 +113,9 @@ module _ (urls : List (List ℕ)) (older newer : List LineValue) (agent : List �
       (sym is.added_are ∙ none.1)
 
   pub reported_alike : (text : List ℕ) (allowed : Bool)
-      → (is_unchanged compared || has_same_rules compared) ≡ true
+      → is_unchanged compared ≡ true
       → IsVerdict (rules_for agent older) text allowed ↔ IsVerdict (rules_for agent newer) text allowed
-  reported_alike text allowed said =
-      alike text allowed
-      (⊎_elim (unchanged_has_same compared) (λ same. same) (or_cases (is_unchanged compared) _ said))
+  reported_alike text allowed said = alike text allowed (unchanged_has_same compared said)
 
   module _ (same : has_same_rules compared ≡ true) where
     same_decision : (text : List ℕ) (one other : Decision) → IsDecisionOn (placed_rules agent older) text one
