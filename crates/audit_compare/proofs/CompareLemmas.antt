@@ -1,7 +1,7 @@
 -- What a comparison finds: decisions, sitemaps and rules.
 use Rattle.std.proofs.Common.{◌≡◌, ◌∙◌, ◌↔◌, ◌||◌, ℕ, zero, suc, Bool, true, false, List, [], ◌∷◌, Contains}
 use Rattle.std.proofs.Common.{None, Option, Some, ap, arith, not, refl, subst, ◌==◌, if◌then◌else◌}
-use Rattle.std.proofs.Common.{length, sym, ◌+◌, ◌<◌, Bor, ◌++◌, append_assoc, bytes_eq, cond, drop, map}
+use Rattle.std.proofs.Common.{length, sym, ◌&&◌, ◌+◌, ◌<◌, Bor, ◌++◌, append_assoc, bytes_eq, cond, drop, map}
 use Rattle.std.proofs.Common.{slice_index_or, take}
 use Rattle.std.proofs.Math.{Bool.beq, Seq.drop-nil}
 use Rattle.std.specs.{List.AllZip, BTreeSet.BTreeSet, BTreeSet.Updates, BTreeSet.contains}
@@ -93,6 +93,15 @@ neither : (compared : ComparedValue) → has_same_rules compared ≡ true
 neither compared same =
     let none = and_parts (length compared.removed == 0) (length compared.added == 0) same in
     (none_of compared.removed none.0, none_of compared.added none.1)
+
+pub none_changed : (agent : List ℕ) (older newer : List LineValue) (removed added : List PlacedRule)
+    → removed ≡ rules_only_in older newer agent → added ≡ rules_only_in newer older agent
+    → (length removed == 0 && length added == 0) ≡ true → (text : List ℕ) (allowed : Bool)
+    → IsVerdict (rules_for agent older) text allowed ↔ IsVerdict (rules_for agent newer) text allowed
+none_changed agent older newer removed added removed_are added_are none text allowed =
+    let (first, second) = and_parts (length removed == 0) (length added == 0) none in
+    same_rules_decide_alike agent older newer text allowed (sym removed_are ∙ none_of removed first)
+    (sym added_are ∙ none_of added second)
 
 beq_self : (b : Bool) → beq b b ≡ true
 beq_self true = refl

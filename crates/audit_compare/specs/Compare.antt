@@ -6,7 +6,8 @@ use Rattle.std.specs.{List.AllZip, List.list_all, List.list_any, Option.option_e
 use Rattle.std.proofs.Math.{Bool.beq}
 use Rattle.texting_robots.specs.Callers.{LineValue, PlacedRule, Rule, lines_read, placed_rules, sitemaps_in}
 use Rattle.texting_robots.specs.declared.decision.{Decision.Decision}
-use Rattle.printable_text.specs.declared.level.Level.TheVariants.{Error, Note, Warning}
+use Rattle.printable_text.specs.declared.level.Level.{Level, TheVariants.Error, TheVariants.Note}
+use Rattle.printable_text.specs.declared.level.Level.TheVariants.{Warning}
 use Rattle.robots_warnings.specs.declared.closed.Reach.{Reach, TheVariants.Nothing}
 use Rattle.robots_warnings.specs.{declared.facts.LineKinds.LineKinds, Facts.kinds_of}
 use Rattle.audit_core.specs.declared.group.Group.{Group}

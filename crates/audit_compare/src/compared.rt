@@ -1,5 +1,5 @@
 //! What two versions of a file mean for a crawler.
-ghost use Rattle.std.specs.Prelude.{◌≡◌, ◌++◌, IfErr, IfOk, OnOk, map};
+ghost use Rattle.std.specs.Prelude.{◌≡◌, ◌==◌, ◌&&◌, ◌++◌, IfErr, IfOk, OnOk, length, map};
 ghost use Rattle.texting_robots.specs.Callers.{file_lines, lines_read, placed_rules};
 ghost use Rattle.audit_compare.specs.Compare.{IsCompared, change_at, is_in_line_of, is_same_decision, rules_only_in};
 ghost use Rattle.audit_compare.specs.Compare.{url_changes};
@@ -134,6 +134,12 @@ fn url_changes<'a>(
     Ok(found)
 }
 
+fn are_none(rules: &RuleChanges) -> bool
+    ensures { result ≡ (length rules.now.removed.items == 0 && length rules.now.added.items == 0) }
+{
+    rules.removed.is_empty() && rules.added.is_empty()
+}
+
 /// What becomes of the verdicts of all URLs. They are the same if the rules are.
 fn verdicts_of(
     alloc: Global,
@@ -153,7 +159,7 @@ fn verdicts_of(
         (placed_rules agent.now (lines_read newer.now.bytes.now))) }
     ensures fault { IfErr result (λ fault. fault ≡ Fault.Memory) }
 {
-    if rules.removed.is_empty() && rules.added.is_empty() {
+    if are_none(rules) {
         return Ok(Verdicts::Same);
     }
     verdicts_for(alloc, agent, older, newer, budget)

@@ -43,7 +43,7 @@ const OF_AUDITS: &[&str] = &[
 ];
 
 /// What every report on a file can have.
-const OF_FILES: &[&str] = &["file", "format", "json", "expect", "compare", "verdicts"];
+const OF_FILES: &[&str] = &["file", "format", "json", "expect", "compare"];
 
 /// The arguments in their order, and the options in that of the help.
 const PARAMETERS: &[Parameter] = &[
@@ -189,8 +189,8 @@ const PARAMETERS: &[Parameter] = &[
         short: None,
         long: Some("verdicts"),
         value: Value::AbsentWith("compare"),
-        help: "With --compare: the exit status is 1 only if a verdict of some URL may change",
-        excludes: &[&["expect"], OF_AUDITS],
+        help: "With --compare: exit with status 1 only if the verdict of a URL may change",
+        excludes: &[],
     },
     Parameter {
         id: "list-warnings",
