@@ -134,6 +134,18 @@ fn url_changes<'a>(
     Ok(found)
 }
 
+fn changes_between<'a>(
+    alloc: Global,
+    rules: &RuleChanges,
+    older: &AgentAudit<'a>,
+    newer: &AgentAudit<'a>,
+) -> Result<Vec<UrlChange<'a>>, AllocError>
+    ensures { IfOk result (λ found. found.items
+        ≡ url_changes rules.now.removed.items rules.now.added.items older.now.verdicts newer.now.verdicts) }
+{
+    url_changes(alloc, rules, &older.verdicts, &newer.verdicts)
+}
+
 fn are_none(rules: &RuleChanges) -> bool
     ensures { result ≡ (length rules.now.removed.items == 0 && length rules.now.added.items == 0) }
 {
@@ -183,7 +195,7 @@ pub(crate) fn compared_for<'a>(
     let older_audit = audit_for(alloc, agent, older, urls)?;
     let newer_audit = audit_for(alloc, agent, newer, urls)?;
     let rules = rule_changes(alloc, agent, &older.site, &newer.site)?;
-    let changes = url_changes(alloc, &rules, &older_audit.verdicts, &newer_audit.verdicts)?;
+    let changes = changes_between(alloc, &rules, &older_audit, &newer_audit)?;
     let verdicts = verdicts_of(alloc, agent, older, newer, &rules, budget)?;
     Ok(Compared {
         agent,

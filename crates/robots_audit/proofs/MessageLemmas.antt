@@ -16,7 +16,7 @@ use Rattle.printable_text.proofs.ReportLemmas.{report_printable, shown_colored, 
 use Rattle.audit_core.specs.Request.{RequestValue, requested_by, requested_colors}
 use Rattle.audit_core.specs.{Answer.IsText, Audit.AuditValue, declared.answer.Answer.Answer, Findings.Found}
 use Rattle.audit_core.specs.{declared.findings.Finding.Finding, declared.request.Format.Format}
-use Rattle.audit_core.specs.declared.request.Format.TheVariants.{Text, Github, Html, Json, Sarif}
+use Rattle.audit_core.specs.declared.request.Format.TheVariants.{Github, Html, Json, Sarif}
 use Rattle.audit_text.proofs.{GithubLemmas.github_printable}
 use Rattle.audit_json.specs.{Json.json_line}
 use Rattle.audit_json.proofs.JsonLemmas.{audit_report, findings_report, log_report}
@@ -87,19 +87,19 @@ lined text value is safe = inl (subst IsReport (sym is) safe)
 
 output_safe : (format : Format) (requested : RequestValue) (audit : AuditValue) (text : List ℕ)
     → IsOutput format requested audit text → IsSafe text
-output_safe Text requested audit text is = inl is
 output_safe Json requested audit text is = lined text _ is.text_is (audit_report _ _ is.warnings)
 output_safe Html requested audit text is = inr (inl is)
 output_safe Github requested audit text is = annotated _ text _ is
 output_safe Sarif requested audit text is = lined text _ is.text_is (log_report _ is.findings)
+output_safe format requested audit text is = inl is
 
 listed_safe : (format : Format) (file old : List ℕ) (found : List Finding) (text : List ℕ)
     → IsListedIn format file old found text → IsSafe text
 listed_safe Json file old found text is = lined text _ is (findings_report file old found)
 listed_safe Github file old found text is = inr (inr (file, found, is))
-listed_safe Text file old found text is = inl is
 listed_safe Html file old found text is = absurd is
 listed_safe Sarif file old found text is = absurd is
+listed_safe format file old found text is = inl is
 
 report_safe : (by_default : Bool) (matches : ArgMatches) (answer : Answer) → Answers by_default matches answer
     → IsSafe answer.report.items

@@ -1,5 +1,4 @@
-use Rattle.std.proofs.Common.{ap, refl, ◌∙◌}
-use Rattle.audit_core.specs.Audit.{AgentValue}
+use Rattle.std.proofs.Common.{refl}
 use Rattle.audit_compare.proofs.compared.compared_for.Goals as goal
 
 pub returns-clause-ok : goal.returns-clause-ok
@@ -10,8 +9,5 @@ returns-clause-ok c = record {
   removed_are = rw (c.requires.older.site_is, c.requires.newer.site_is) at c.in_ok-rules.ensures.removed;
   added_are = rw (c.requires.older.site_is, c.requires.newer.site_is) at c.in_ok-rules.ensures.added;
   verdicts_are = c.in_ok-verdicts.ensures.ok;
-  changes_are = rw (
-    c.deref.ensures.value ∙ ap (λ (audit : AgentValue). audit.verdicts) c.older_audit.view_is,
-    c.deref-2.ensures.value ∙ ap (λ (audit : AgentValue). audit.verdicts) c.newer_audit.view_is,
-  ) at c.in_ok-changes.ensures;
+  changes_are = c.in_ok-changes.ensures;
 }
