@@ -1,9 +1,9 @@
 -- What comparisons of rules on all match targets imply.
-use Rattle.std.proofs.Common.{◌≡◌, ◌≢◌, ℕ, zero, suc, ◌<◌, Bool, true, false, List, [], ◌∷◌, ◌++◌, Contains, arith}
+use Rattle.std.proofs.Common.{◌≡◌, ◌≢◌, ℕ, zero, suc, ◌<◌, true, false, List, [], ◌∷◌, ◌++◌, Contains, arith}
 use Rattle.std.proofs.Common.{Err, IfOk, None, Ok, Option, Result, Some, ap, codes, length, refl, string_bytes}
 use Rattle.std.specs.Option.{IfSome}
 use Rattle.std.proofs.lemmas.{Bool.false≢true}
-use Rattle.texting_robots.specs.Callers.{IsDenied, Matches, PlacedRule, Rule, RobotValue, lines_read}
+use Rattle.texting_robots.specs.Callers.{IsDenied, Matches, Rule, RobotValue, lines_read}
 use Rattle.texting_robots.specs.Callers.{placed_rules, robots_file}
 use Rattle.texting_robots.specs.{Pattern.MatchesWith, Decision.IsDecisionOn, declared.decision.Decision.Decision}
 use Rattle.robots_same.specs.Same.{HaveSameVerdicts}

@@ -1,4 +1,4 @@
-use Rattle.std.proofs.Common.{◌≡◌, ◌∙◌, ◌∷◌, [], false, refl}
+use Rattle.std.proofs.Common.{◌∙◌, refl}
 use Rattle.audit_compare.proofs.EveryUrlLemmas.{everything, nothing}
 use Rattle.audit_compare.proofs.every_url.reach_of.Goals as goal
 
