@@ -1,5 +1,5 @@
 -- What the program answers: to an audit, and to its arguments.
-use Rattle.std.specs.Prelude.{◌≡◌, ◌⊎◌, ℕ, Bool, true, false, List, [], None, Option, Some, codes, ⊥, ⊤}
+use Rattle.std.specs.Prelude.{◌≡◌, ◌⊎◌, ℕ, Bool, true, false, List, [], None, Option, Some, codes, ⊤}
 use Rattle.std.specs.Prelude.{◌==◌, length, map, not, ◌&&◌, if◌then◌else◌, string_bytes}
 use Rattle.std.specs.{List.list_any}
 use Rattle.clap.specs.{declared.parser.matches.ArgMatches.ArgMatches}
