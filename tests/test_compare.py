@@ -1,5 +1,8 @@
 """`robots_audit --compare`: what differs between two versions of a file, for each crawler and URL."""
 
+import itertools
+import json
+import random
 import re
 
 import pytest
@@ -191,6 +194,70 @@ def test_sitemaps_are_compared_as_sets(tmp_path):
     assert reported(for_ferris(tmp_path, old, new)) == (0, NOTHING, "")
     lines = "sitemap removed: https://e.com/s\nsitemap removed: https://e.com/t\nsitemap added: https://e.com/S\n"
     assert reported(for_ferris(tmp_path, old, OLD + sitemaps[2] * 3)) == (1, NOTHING + lines, "")
+
+
+# two versions of a file, the line about all URLs, and its level
+EVERY_URL = {
+    "everything is lost": (b"", b"Disallow: /", "may fetch everything -> nothing, for example /: allow -> deny 1", "error"),
+    "the rest is lost, by a longer rule than one that allows": (b"Disallow: /b", b"Allow: /a\nDisallow: /a*\nDisallow: /", "may fetch a part -> nothing, for example /: allow -> deny 3", "error"),
+    "the rest but the home page is lost": (b"Disallow: /$\nAllow: /a", b"Disallow: /", "may fetch a part -> nothing, for example /a: allow 2 -> deny 1", "error"),
+    "the home page is lost": (b"", b"Disallow: /$", "may fetch everything -> a part, for example /: allow -> deny 1", "warning"),
+    "the home page is opened, and another page is lost": (b"Disallow: /$", b"Disallow: /a", "verdicts change, for example /: deny 1 -> allow", "note"),
+    "a page is lost": (b"Disallow: /b", b"Disallow: /b\nDisallow: /a$", "verdicts change, for example /a: allow -> deny 2", "note"),
+    "all is opened": (b"Disallow: /*", b"Allow: /*\nDisallow: /", "may fetch nothing -> everything, for example /: deny 1 -> allow 1", "note"),
+    "an Allow goes that a longer Disallow overrules": (b"Allow: /a\nDisallow: /a*", b"Disallow: /a", "no URL's verdict changes", "note"),
+    "a rule that matches no path": (b"Disallow: a", b"", "no URL's verdict changes", "note"),
+    "a rule about robots.txt": (b"Disallow: /robots.txt$", b"", "no URL's verdict changes", "note"),
+}
+
+
+@pytest.mark.parametrize("old, new, text, level", EVERY_URL.values(), ids=EVERY_URL)
+def test_every_url(tmp_path, old, new, text, level):
+    line = f"crawler Ferris: {text}"
+    result = for_ferris(tmp_path, old, new)
+    assert (result.status, result.out.splitlines()[-1]) == (1, line)
+    (found,) = [it for it in json.loads(for_ferris(tmp_path, old, new, "--json").out)["findings"] if it["text"] == line]
+    assert (found["name"], found["level"]) == ("same-verdicts" if text.startswith("no") else "verdicts", level)
+
+
+def test_verdicts_alone_decide_the_status(tmp_path):
+    for old, new, text, _ in EVERY_URL.values():
+        assert for_ferris(tmp_path, old, new, "--verdicts").status == (not text.startswith("no"))
+    assert for_ferris(tmp_path, OLD, OLD + b"Sitemap: /s\nUser-agent: Ferris\nAllow: /search/tea\nDisallow: /search\n", "--verdicts").status == 0
+    assert compare(tmp_path, OLD, NEW, "--verdicts").status == 1
+    assert for_ferris(tmp_path, OLD, TOO_LONG, "--verdicts").status == 2
+    alone = run("robots_audit", ["--verdicts", "-"], OLD)
+    assert (alone.status, alone.out) == (2, "") and "--compare <OLD>" in alone.err
+
+
+def test_verdicts_that_are_not_decided(tmp_path):
+    """The rules are too many, and have too many stars."""
+    chance = random.Random(1)
+    old, new = (b"".join(b"%s: /%s\n" % (chance.choice([b"Allow", b"Disallow"]), bytes(chance.choices(b"abc*", k=20))) for _ in range(1000)) for _ in range(2))
+    result = for_ferris(tmp_path, old, new, "--verdicts")
+    assert (result.status, result.out.splitlines()[-1]) == (1, "crawler Ferris: it isn't decided whether a URL's verdict changes")
+
+
+def is_allowed(rules, path):
+    """The longest rule that matches decides, of two an Allow."""
+    def pattern(value):
+        return ".*".join(map(re.escape, value.removesuffix("$").split("*"))) + r"\Z" * value.endswith("$")
+
+    return max(((len(value), kind == "Allow") for kind, value in rules if re.match(pattern(value), path)), default=(0, True))[1]
+
+
+def test_rules_by_chance(tmp_path):
+    """What is said of each crawler is so for all short paths."""
+    chance = random.Random(2)
+    values = [value + end for k in range(4) for value in map("".join, itertools.product("ab*", repeat=k)) if "**" not in value for end in ("", "$")]
+    pairs = [[[(chance.choice(["Allow", "Disallow"]), "/" + chance.choice(values)) for _ in range(chance.randint(1, 3))] for _ in range(2)] for _ in range(300)]
+    old, new = ("".join(f"User-agent: bot{n}\n" + "".join(f"{kind}: {value}\n" for kind, value in pair[k]) for n, pair in enumerate(pairs)).encode() for k in range(2))
+    said = dict(re.findall(r"^crawler (bot\d+): ((?:no URL|may fetch|verdicts change|it isn't).*)$", compare(tmp_path, old, new).out, re.M))
+    paths = ["/" + path for k in range(6) for path in map("".join, itertools.product("abc", repeat=k))]
+    for n, (before, after) in enumerate(pairs):
+        example = re.search(r"for example (\S+):", said.get(f"bot{n}", "no URL"))
+        for path in [example[1]] if example else paths:
+            assert (is_allowed(before, path) == is_allowed(after, path)) is not bool(example), (before, after, path)
 
 
 NOT_ROBOTS = {
