@@ -6,8 +6,6 @@ use Rattle.std.specs.contracts.alloc.Global as Global
 use Rattle.std.proofs.alloc.Global.TheLaws as Global-laws
 use Rattle.texting_robots.proofs.robot.Robot.TheLaws as Robot-laws
 use Rattle.texting_robots.proofs.site.Site.TheLaws as Site-laws
-use Rattle.texting_robots.specs.contracts.robot.Robot as Robot-type
-use Rattle.texting_robots.specs.contracts.site.Site as Site-type
 use Rattle.c_calls.specs.Kept as kept
 use denote.SharingLaws.{contraction}
 use denote.Struct.Lending.{lent_at_shr_laws}
@@ -206,7 +204,7 @@ module _ {M : Type 1} {𝓤 : Ura M} (𝓛 : Logic 𝓤) where
   abbrev pub context : (R : RattleType) → Ptr → R.Denot → Lft → Share → (S : Signature) → Bound 𝓛 S
       → List (Item 𝓤) → List (Item 𝓤)
   context R at x κ q S y Γ = (‵ (tokens S.lifetimes y.0 y.1) ⊛ ‵ (owns (types_at S.params y.0) y.3 y.4))
-      ∷ (‵ (lent_at R at x κ) ⊛ ‵ (flft κ q)) ∷ Γ
+      ∷ ‵ (kept.lends R at (κ, q, x)) ∷ Γ
 
   -- nothing else is required
   pub and_nothing : {i j : Item 𝓤} {G : Goal 𝓤 H} → Seq (Go {0}) 𝓛 (i ∷ j ∷ raw (emp 𝓤) ∷ []) G
@@ -327,10 +325,10 @@ module _ {M : Type 1} {𝓤 : Ura M} (𝓛 : Logic 𝓤) (𝓜 : Model 𝓤 𝓛
         ⊛ ‵ (under before (fsep ((ShrRef (named 0) κ R).own_val (reference x b o) w) rest))) ∷ raw P ∷ [])
         (prop (WpFn 𝓤 H 𝓣.C 𝓣.Λ fn vs (Exit (fsep (flft κ q) T) lasts E))))
         → Seq (Go {0}) 𝓛 ((‵ T ⊛ ‵ (under before (fsep (feq (List Val) w (ptr_val at ∷ [])) rest)))
-        ∷ (‵ (lent_at R at x κ) ⊛ ‵ (flft κ q)) ∷ raw P ∷ [])
+        ∷ ‵ (kept.lends R at (κ, q, x)) ∷ raw P ∷ [])
         (prop (WpFn 𝓤 H 𝓣.C 𝓣.Λ fn vs (Exit T lasts (with_token E))))
-    unfolding tables_of
-    lends before {T} w rest fn vs lasts E calls = move ! (1 ∷ []) $ split ! $
+    unfolding tables_of kept.lends
+    lends before {T} w rest fn vs lasts E calls = move ! (1 ∷ []) $ fsplit ! $
         in_a_block ! at (λ p. lent_at R p x κ) (fst∗ 𝓤 (never 𝓤) (sem 𝓛 (shared_of R x 0 0 κ))) (λ b o e.
         fsplit ! $ drop ! $ use1 𝓛 (‵ (hidden_shr R κ x b o)) (id⊢ 𝓤 _) $ move ! (2 ∷ []) $ split ! $
         move ! (2 ∷ 1 ∷ []) $
@@ -351,7 +349,7 @@ module _ {M : Type 1} {𝓤 : Ura M} (𝓛 : Logic 𝓤) (𝓜 : Model 𝓤 𝓛
         (fsep ((ShrRef (named 0) κ R).own_val (reference x b o) w) rest)))) P)
         (𝓣.C f vs (Exit (fsep (flft κ q) T) lasts E)))
         → Seq (Go {0}) 𝓛 ((‵ T ⊛ ‵ (under before (fsep (feq (List Val) w (ptr_val at ∷ [])) rest)))
-        ∷ (‵ (lent_at R at x κ) ⊛ ‵ (flft κ q)) ∷ raw P ∷ [])
+        ∷ ‵ (kept.lends R at (κ, q, x)) ∷ raw P ∷ [])
         (prop (WpFn 𝓤 H 𝓣.C 𝓣.Λ fn vs (Exit T lasts (with_token E))))
     borrows before {T} w rest fn lasts E vs hands met = lends before w rest fn vs lasts E (λ b o e.
         let h = hands b o e in
@@ -414,6 +412,7 @@ LentToTwoCalls {𝓤 = 𝓤} 𝓛 R = (at : Ptr) (x : R.Denot) (κ : Lft) (q : S
 
 module _ {M : Type 1} {𝓤 : Ura M} (𝓛 : Logic 𝓤) where
   lent_twice : (R : RattleType) → Laws R → LentToTwoCalls 𝓛 R
+  unfolding kept.lends
   lent_twice R L at x κ q = let l = ‵ (flft κ (Share.left q)) in let r = ‵ (flft κ (Share.right q)) in
       qed 𝓛 (‵ (kept.lends R at (κ, q, x)) ∷ []) ∵ fsplit ! $
       use1 𝓛 (‵ (lent_at R at x κ) ⊛ ‵ (lent_at R at x κ))

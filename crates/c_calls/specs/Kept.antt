@@ -45,5 +45,5 @@ abbrev pub opens : (R : RattleType) → (R.Denot → Type 0) → ℤ → Ptr →
 opens R P status at = fall (status ≡ pos 0) (λ _. opened_at R P at)
 
 -- the caller passes this share of the lifetime's token
-abbrev pub lends : (R : RattleType) → Ptr → Lft × Share × R.Denot → Fml
+unfoldable pub lends : (R : RattleType) → Ptr → Lft × Share × R.Denot → Fml
 lends R at g = fsep (lent_at R at g.2 g.0) (flft g.0 g.1)

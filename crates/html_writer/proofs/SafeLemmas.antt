@@ -42,18 +42,14 @@ pub printable_text : (bytes : List ℕ) → IsPrintable bytes → IsText bytes
 printable_text bytes is =
     let plain = AllPass-from_list_all (is_printable true) (chars bytes) is.all in
     let are = list_all-from_AllPass is_character (chars bytes)
-    (λ k d below. is_kept (get_or (chars bytes) k d) (plain k d below)) in
+    (grind (arith, is_kept, plain)) in
     subst IsText (encodes-chars bytes is.utf8)
-    (chars_pass is_character (λ byte high. grind (arith, nat_tests)) (chars bytes) are)
+    (grind (arith, chars_pass))
 
 safe_both : (bytes : List ℕ) → list_all is_safe_byte bytes ≡ true
     → (list_all (is_printable_byte true) bytes ≡ true) × (list_all is_no_bracket bytes ≡ true)
 safe_both [] are = (refl, refl)
-safe_both (byte ∷ bytes) are =
-    let both = and_parts (is_safe_byte byte) (list_all is_safe_byte bytes) are in
-    let here = and_parts (is_printable_byte true byte) (is_no_bracket byte) both.0 in
-    let later = safe_both bytes both.1 in
-    (rw here.0 later.0, rw here.1 later.1)
+safe_both (byte ∷ bytes) are = grind (arith, and_parts, safe_both bytes)
 
 pub ascii_safe : (bytes : List ℕ) → list_all is_safe_byte bytes ≡ true → IsSafe bytes
 ascii_safe bytes are =
@@ -69,9 +65,7 @@ name_byte_safe byte is = grind (arith, nat_tests)
 name_bytes_safe : (bytes : List ℕ) → IsTrue (list_all is_name_byte bytes)
     → IsTrue (list_all is_safe_byte bytes)
 name_bytes_safe [] are = refl
-name_bytes_safe (byte ∷ bytes) are =
-    let both = and_parts (is_name_byte byte) (list_all is_name_byte bytes) are in
-    rw (name_byte_safe byte both.0) (name_bytes_safe bytes both.1)
+name_bytes_safe (byte ∷ bytes) are = grind (arith, and_parts, name_byte_safe, name_bytes_safe bytes)
 
 pub name_safe : (name : List ℕ) → IsTrue (is_name name) → IsSafe name
 name_safe [] named = ascii_safe [] refl
@@ -94,7 +88,7 @@ escaped_bracketless (byte ∷ bytes) =
 pub value_safe : (bytes : List ℕ) → IsPrintable bytes → IsSafe (escaped bytes)
 value_safe bytes is =
     rw (escaped-is bytes) (
-      escaped_printable escaped_byte refl (λ byte high. grind (arith, nat_tests)) bytes is,
+      escaped_printable escaped_byte refl (grind arith) bytes is,
       escaped_bracketless bytes,
     )
 
@@ -113,16 +107,9 @@ fails a b c later none quiet = rw (none, quiet) (both a b)
 -- a text without `[` has no start of a command
 pub bracketless_quiet : (bytes : List ℕ) → list_all is_no_bracket bytes ≡ true → has_command bytes ≡ false
 bracketless_quiet [] are = refl
-bracketless_quiet (a ∷ []) are = fails (nat_eq 35 a) true false false refl refl
-bracketless_quiet (a ∷ b ∷ []) are =
-    let later = (and_parts (is_no_bracket a) (list_all is_no_bracket (b ∷ [])) are).1 in
-    fails (nat_eq 35 a) (nat_eq 35 b) false (has_command (b ∷ [])) refl (bracketless_quiet (b ∷ []) later)
-bracketless_quiet (a ∷ b ∷ c ∷ rest) are =
-    let later = (and_parts (is_no_bracket a) (list_all is_no_bracket (b ∷ c ∷ rest)) are).1 in
-    let last = (and_parts (is_no_bracket b) (list_all is_no_bracket (c ∷ rest)) later).1 in
-    let isnt = (and_parts (is_no_bracket c) (list_all is_no_bracket rest) last).0 in
-    fails (nat_eq 35 a) (nat_eq 35 b) (nat_eq 91 c) (has_command (b ∷ c ∷ rest)) (grind (arith, nat_tests))
-    (bracketless_quiet (b ∷ c ∷ rest) later)
+bracketless_quiet (a ∷ []) are = grind (arith, fails)
+bracketless_quiet (a ∷ b ∷ []) are = grind (arith, and_parts, fails, bracketless_quiet (b ∷ []))
+bracketless_quiet (a ∷ b ∷ c ∷ rest) are = grind (arith, and_parts, fails, bracketless_quiet (b ∷ c ∷ rest))
 
 pub style_safe : (css : List ℕ) → IsSafe css → IsSafe (style_bytes css)
 unfolding style_bytes
