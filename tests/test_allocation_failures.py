@@ -325,14 +325,14 @@ def error(message):
     return 2, "", f"robots_audit: {message}\n"
 
 
-GROUP_DIFFERS, SAME_RULES = "crawler NAME: group everyone -> none\n", "crawler NAME: same rules, so no URL's verdict differs\n"
+GROUP_DIFFERS, SAME_VERDICTS = "crawler NAME: group everyone -> none\n", "crawler NAME: no URL's verdict changes\n"
 
 # By what of an audit has a size: the arguments and the input of a run, its status, its output, and the end of its message.
 OF_AN_AUDIT = {
     "the number of crawlers": lambda size: (["-q", *crawlers(size)[1], "-", "/b"], "Disallow: /", (1, denied_to(size), "")),
     "the number of compared crawlers": lambda size: (
         ["--compare", "/dev/null", *crawlers(size)[1], "-"], "User-agent: b",
-        (1, "old: /dev/null (empty), new: -\n" + of_each(crawlers(size)[0], GROUP_DIFFERS, SAME_RULES), ""),
+        (1, "old: /dev/null (empty), new: -\n" + of_each(crawlers(size)[0], GROUP_DIFFERS, SAME_VERDICTS), ""),
     ),
     "the number of chosen names": lambda size: (["-q", *["--only=host-line"] * size, "--agent=a", "-", "/b"], "Disallow: /", (1, DENIED + OTHER, "")),
     "a name that no warning has, explained": lambda size: (["--explain", "a" * size], "", error(f"unknown warning {'a' * size}; all are in --list-warnings")),

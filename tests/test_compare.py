@@ -1,5 +1,8 @@
 """`robots_audit --compare`: what differs between two versions of a file, for each crawler and URL."""
 
+import itertools
+import json
+import random
 import re
 
 import pytest
@@ -31,11 +34,13 @@ crawler Googlebot: delay 2 s -> 0.5 s
 crawler Googlebot: - Disallow: /search (line 2)
 crawler Googlebot: - Allow: /search/tea (line 3)
 crawler Googlebot: + Disallow: /cart (line 6)
+crawler Googlebot: verdicts change, for example /cart: allow -> deny 6
 """
 
 STAR = """crawler *: delay 2 s -> none
 crawler *: - Allow: /search/tea (line 3)
 crawler *: + Disallow: /products (line 3)
+crawler *: verdicts change, for example /products: allow -> deny 3
 """
 
 USAGE = "usage: robots_audit [OPTIONS] FILE [URL].."
@@ -46,27 +51,27 @@ OTHERS = f"other compared crawlers: {SAME_TEXT}"
 NAME = "a crawler's name is a product token without a version, such as Googlebot"
 URL = "this is neither a path that starts with / nor a valid http:// or https:// URL"
 MAYBE = "this is neither a path that starts with / nor a URL; for a crawler, write --agent NAME, for a file of URLs --urls FILE, for a level --strict=LEVEL"
-SAME = "crawler Ferris: same rules, so no URL's verdict differs\n"
+SAME = "crawler Ferris: no URL's verdict changes\n"
 TOO_LONG = b"User-agent: *\nDisallow: /" + b"x" * 4096 + b"$\n"
 REASON = "a pattern with $ longer than 4,096 bytes isn't supported; shorten it\n"
 
 # two versions of a file, and the lines about Ferris and the URL /a
 DIFFERENCES = {
-    "another kind": (b"Disallow: /a", b"Allow: /a", "crawler Ferris: - Disallow: /a (line 1)\ncrawler Ferris: + Allow: /a (line 1)\ncrawler Ferris /a: deny 1 -> allow 1, opened\n"),
+    "another kind": (b"Disallow: /a", b"Allow: /a", "crawler Ferris: - Disallow: /a (line 1)\ncrawler Ferris: + Allow: /a (line 1)\ncrawler Ferris: may fetch a part -> everything, for example /a: deny 1 -> allow 1\ncrawler Ferris /a: deny 1 -> allow 1, opened\n"),
     "a rule in another line": (b"Disallow: /a", b"# tea\nDisallow: /a", ""),
     "rules in another order": (b"Disallow: /a\nDisallow: /b", b"Disallow: /b\nDisallow: /a", ""),
     "another rule of the same length in front": (b"Disallow: /a\nDisallow: /*", b"Disallow: /*\nDisallow: /a", ""),
-    "another deciding rule": (b"Disallow: /a\nDisallow: /", b"Disallow: /", "crawler Ferris: - Disallow: /a (line 1)\ncrawler Ferris /a: deny 1 -> deny 1\n"),
-    "a longer deciding rule": (b"Disallow: /", b"#\nDisallow: /a\nDisallow: /", "crawler Ferris: + Disallow: /a (line 2)\ncrawler Ferris /a: deny 1 -> deny 2\n"),
+    "another deciding rule": (b"Disallow: /a\nDisallow: /", b"Disallow: /", "crawler Ferris: - Disallow: /a (line 1)\n" + SAME + "crawler Ferris /a: deny 1 -> deny 1\n"),
+    "a longer deciding rule": (b"Disallow: /", b"#\nDisallow: /a\nDisallow: /", "crawler Ferris: + Disallow: /a (line 2)\n" + SAME + "crawler Ferris /a: deny 1 -> deny 2\n"),
     "a second one": (b"Disallow: /a", b"Disallow: /a\nDisallow: /a", ""),
-    "two added": (b"", b"Disallow: /b\nDisallow: /b", "crawler Ferris: + Disallow: /b (line 1)\ncrawler Ferris: + Disallow: /b (line 2)\n"),
+    "two added": (b"", b"Disallow: /b\nDisallow: /b", "crawler Ferris: + Disallow: /b (line 1)\ncrawler Ferris: + Disallow: /b (line 2)\ncrawler Ferris: may fetch everything -> a part, for example /b: allow -> deny 1\n"),
     "the same after escaping": (b"Disallow: /\xc3\xa4", b"disallow /%C3%A4", ""),
-    "escaped": (b"", b"Disallow: /\xc3\xa4", "crawler Ferris: + Disallow: /%C3%A4 (line 1)\n"),
-    "an empty Disallow": (b"", b"Disallow:", "crawler Ferris: + Allow: / (line 1)\ncrawler Ferris /a: allow -> allow 1\n"),
+    "escaped": (b"", b"Disallow: /\xc3\xa4", "crawler Ferris: + Disallow: /%C3%A4 (line 1)\ncrawler Ferris: may fetch everything -> a part, for example /%C3%A4: allow -> deny 1\n"),
+    "an empty Disallow": (b"", b"Disallow:", "crawler Ferris: + Allow: / (line 1)\n" + SAME + "crawler Ferris /a: allow -> allow 1\n"),
     "a rule that isn't UTF-8": (b"", b"Disallow: /\xe4", ""),
     "a comment and a stray line": (b"Disallow: /b", b"Disallow: /b # tea\ntea", ""),
     "a sitemap": (b"Disallow: /b", b"Disallow: /b\nSitemap: https://e.com/s", NOTHING + "sitemap added: https://e.com/s\n"),
-    "a group of everyone": (b"", b"User-agent: *\nDisallow: /b", "crawler Ferris: group everyone -> *\ncrawler Ferris: + Disallow: /b (line 2)\n"),
+    "a group of everyone": (b"", b"User-agent: *\nDisallow: /b", "crawler Ferris: group everyone -> *\ncrawler Ferris: + Disallow: /b (line 2)\ncrawler Ferris: may fetch everything -> a part, for example /b: allow -> deny 2\n"),
     "no group": (b"User-agent: Ferris", b"User-agent: Other", "crawler Ferris: group Ferris -> none\n" + SAME),
     "a delay": (b"", b"Crawl-delay: 10", "crawler Ferris: delay none -> 10 s\n" + SAME),
     "past the size limit": (b"", b"#" * 512_000 + b"\nDisallow: /a", ""),
@@ -107,6 +112,7 @@ crawler Googlebot /cart: allow -> deny 6, closed
 def test_a_url_is_asked_without_its_fragment(tmp_path):
     """In a path, `#` is a byte like others."""
     lines = """crawler Ferris: - Disallow: /a$ (line 1)
+crawler Ferris: may fetch a part -> everything, for example /a: deny 1 -> allow
 crawler Ferris https://e.com/a#b: deny 1 -> allow, opened
 crawler Ferris https://e.com/a#c: deny 1 -> allow, opened
 """
@@ -190,6 +196,70 @@ def test_sitemaps_are_compared_as_sets(tmp_path):
     assert reported(for_ferris(tmp_path, old, OLD + sitemaps[2] * 3)) == (1, NOTHING + lines, "")
 
 
+# two versions of a file, the line about all URLs, and its level
+EVERY_URL = {
+    "everything is lost": (b"", b"Disallow: /", "may fetch everything -> nothing, for example /: allow -> deny 1", "error"),
+    "the rest is lost, by a longer rule than one that allows": (b"Disallow: /b", b"Allow: /a\nDisallow: /a*\nDisallow: /", "may fetch a part -> nothing, for example /: allow -> deny 3", "error"),
+    "the rest but the home page is lost": (b"Disallow: /$\nAllow: /a", b"Disallow: /", "may fetch a part -> nothing, for example /a: allow 2 -> deny 1", "error"),
+    "the home page is lost": (b"", b"Disallow: /$", "may fetch everything -> a part, for example /: allow -> deny 1", "warning"),
+    "the home page is opened, and another page is lost": (b"Disallow: /$", b"Disallow: /a", "verdicts change, for example /: deny 1 -> allow", "note"),
+    "a page is lost": (b"Disallow: /b", b"Disallow: /b\nDisallow: /a$", "verdicts change, for example /a: allow -> deny 2", "note"),
+    "all is opened": (b"Disallow: /*", b"Allow: /*\nDisallow: /", "may fetch nothing -> everything, for example /: deny 1 -> allow 1", "note"),
+    "an Allow goes that a longer Disallow overrules": (b"Allow: /a\nDisallow: /a*", b"Disallow: /a", "no URL's verdict changes", "note"),
+    "a rule that matches no path": (b"Disallow: a", b"", "no URL's verdict changes", "note"),
+    "a rule about robots.txt": (b"Disallow: /robots.txt$", b"", "no URL's verdict changes", "note"),
+}
+
+
+@pytest.mark.parametrize("old, new, text, level", EVERY_URL.values(), ids=EVERY_URL)
+def test_every_url(tmp_path, old, new, text, level):
+    line = f"crawler Ferris: {text}"
+    result = for_ferris(tmp_path, old, new)
+    assert (result.status, result.out.splitlines()[-1]) == (1, line)
+    (found,) = [it for it in json.loads(for_ferris(tmp_path, old, new, "--json").out)["findings"] if it["text"] == line]
+    assert (found["name"], found["level"]) == ("same-verdicts" if text.startswith("no") else "verdicts", level)
+
+
+def test_verdicts_alone_decide_the_status(tmp_path):
+    for old, new, text, _ in EVERY_URL.values():
+        assert for_ferris(tmp_path, old, new, "--verdicts").status == (not text.startswith("no"))
+    assert for_ferris(tmp_path, OLD, OLD + b"Sitemap: /s\nUser-agent: Ferris\nAllow: /search/tea\nDisallow: /search\n", "--verdicts").status == 0
+    assert compare(tmp_path, OLD, NEW, "--verdicts").status == 1
+    assert for_ferris(tmp_path, OLD, TOO_LONG, "--verdicts").status == 2
+    alone = run("robots_audit", ["--verdicts", "-"], OLD)
+    assert (alone.status, alone.out) == (2, "") and "--compare <OLD>" in alone.err
+
+
+def test_verdicts_that_are_not_decided(tmp_path):
+    """The rules are too many, and have too many stars."""
+    chance = random.Random(1)
+    old, new = (b"".join(b"%s: /%s\n" % (chance.choice([b"Allow", b"Disallow"]), bytes(chance.choices(b"abc*", k=20))) for _ in range(1000)) for _ in range(2))
+    result = for_ferris(tmp_path, old, new, "--verdicts")
+    assert (result.status, result.out.splitlines()[-1]) == (1, "crawler Ferris: it isn't decided whether a URL's verdict changes")
+
+
+def is_allowed(rules, path):
+    """The longest rule that matches decides, of two an Allow."""
+    def pattern(value):
+        return ".*".join(map(re.escape, value.removesuffix("$").split("*"))) + r"\Z" * value.endswith("$")
+
+    return max(((len(value), kind == "Allow") for kind, value in rules if re.match(pattern(value), path)), default=(0, True))[1]
+
+
+def test_rules_by_chance(tmp_path):
+    """What is said of each crawler is so for all short paths."""
+    chance = random.Random(2)
+    values = [value + end for k in range(4) for value in map("".join, itertools.product("ab*", repeat=k)) if "**" not in value for end in ("", "$")]
+    pairs = [[[(chance.choice(["Allow", "Disallow"]), "/" + chance.choice(values)) for _ in range(chance.randint(1, 3))] for _ in range(2)] for _ in range(300)]
+    old, new = ("".join(f"User-agent: bot{n}\n" + "".join(f"{kind}: {value}\n" for kind, value in pair[k]) for n, pair in enumerate(pairs)).encode() for k in range(2))
+    said = dict(re.findall(r"^crawler (bot\d+): ((?:no URL|may fetch|verdicts change|it isn't).*)$", compare(tmp_path, old, new).out, re.M))
+    paths = ["/" + path for k in range(6) for path in map("".join, itertools.product("abc", repeat=k))]
+    for n, (before, after) in enumerate(pairs):
+        example = re.search(r"for example (\S+):", said.get(f"bot{n}", "no URL"))
+        for path in [example[1]] if example else paths:
+            assert (is_allowed(before, path) == is_allowed(after, path)) is not bool(example), (before, after, path)
+
+
 NOT_ROBOTS = {
     "a page": (b"\n <!doctype html>\n<p>not found</p>", "this looks like HTML, not like a robots.txt file"),
     "UTF-16": (b"\xff\xfe" + "Disallow: /a".encode("utf-16-le"), "this looks like UTF-16, not like a robots.txt file; save it as UTF-8"),
@@ -224,24 +294,24 @@ def test_other_crawlers_than_one_for_which_a_file_is_rejected(tmp_path):
 
 
 def test_untrusted_text(tmp_path):
-    lines = "crawler Ferris: + Disallow: /%07 (line 1)\ncrawler Ferris /%07: allow -> deny 1, closed\n"
+    lines = "crawler Ferris: + Disallow: /%07 (line 1)\ncrawler Ferris: may fetch everything -> a part, for example /%07: allow -> deny 1\ncrawler Ferris /%07: allow -> deny 1, closed\n"
     assert reported(for_ferris(tmp_path, b"", b"Disallow: /\x07", "/\x07"), "old.txt (empty)") == (1, lines, "")
-    new = b"User-agent: *\nDisallow: /a\nUser-agent: a\x1bb\nDisallow: /b"
-    lines = "crawler a%1Bb: group * -> a%1Bb\ncrawler a%1Bb: - Disallow: /a (line 2)\ncrawler a%1Bb: + Disallow: /b (line 4)\n"
+    new = b"User-agent: *\nDisallow: /a\nUser-agent: a\x1bb\nDisallow: /bc"
+    lines = "crawler a%1Bb: group * -> a%1Bb\ncrawler a%1Bb: - Disallow: /a (line 2)\ncrawler a%1Bb: + Disallow: /bc (line 4)\ncrawler a%1Bb: verdicts change, for example /a: deny 2 -> allow\n"
     assert reported(compare(tmp_path, b"User-agent: *\nDisallow: /a", new)) == (1, lines + OTHERS, "")
 
 
 def test_no_command_of_a_workflow(tmp_path):
     """GitHub takes `##[` for a command, anywhere in a line."""
-    lines = "crawler Ferris: + Disallow: / (line 1)\ncrawler Ferris /%23%23[error]x: allow -> deny 1, closed\ncrawler Ferris /#[: allow -> deny 1, closed\n"
+    lines = "crawler Ferris: + Disallow: / (line 1)\ncrawler Ferris: may fetch everything -> nothing, for example /: allow -> deny 1\ncrawler Ferris /%23%23[error]x: allow -> deny 1, closed\ncrawler Ferris /#[: allow -> deny 1, closed\n"
     assert reported(for_ferris(tmp_path, b"", b"Disallow: /", "/##[error]x", "/#["), "old.txt (empty)") == (1, lines, "")
 
 
 def test_a_name_that_looks_like_a_command(tmp_path):
     new = b"User-agent: ::error title=tea::milk\nDisallow: /"
     name = "crawler ::error title=tea::milk"
-    lines = "crawler *: group everyone -> none\ncrawler *: same rules, so no URL's verdict differs\n"
-    lines += f"{name}: group everyone -> ::error title=tea::milk\n{name}: + Disallow: / (line 2)\n"
+    lines = "crawler *: group everyone -> none\ncrawler *: no URL's verdict changes\n"
+    lines += f"{name}: group everyone -> ::error title=tea::milk\n{name}: + Disallow: / (line 2)\n{name}: may fetch everything -> nothing, for example /: allow -> deny 2\n"
     assert reported(compare(tmp_path, b"", new), "old.txt (empty)") == (1, lines, "")
 
 
@@ -305,5 +375,5 @@ def test_many_rules(tmp_path):
     old, new = rules(b"a"), rules(b"b")
     assert reported(for_ferris(tmp_path, old, old)) == (0, NOTHING, "")
     result = for_ferris(tmp_path, old, new)
-    assert (result.status, result.out.count("\n")) == (1, 50_001)
+    assert (result.status, result.out.count("\n")) == (1, 50_002)
     assert result.out.splitlines()[25_000] == "crawler Ferris: - Disallow: /a24999 (line 25000)"

@@ -1,11 +1,11 @@
 -- What a comparison finds: decisions, sitemaps and rules.
 use Rattle.std.proofs.Common.{◌≡◌, ◌∙◌, ◌↔◌, ◌||◌, ℕ, zero, suc, Bool, true, false, List, [], ◌∷◌, Contains}
-use Rattle.std.proofs.Common.{None, Option, Some, ap, arith, not, refl, ⊎_elim, subst, ◌==◌, if◌then◌else◌}
-use Rattle.std.proofs.Common.{length, sym, ◌+◌, ◌<◌, Bor, ◌++◌, append_assoc, bytes_eq, cond, drop, map}
+use Rattle.std.proofs.Common.{None, Option, Some, ap, arith, not, refl, subst, ◌==◌, if◌then◌else◌}
+use Rattle.std.proofs.Common.{length, sym, ◌&&◌, ◌+◌, ◌<◌, Bor, ◌++◌, append_assoc, bytes_eq, cond, drop, map}
 use Rattle.std.proofs.Common.{slice_index_or, take}
 use Rattle.std.proofs.Math.{Bool.beq, Seq.drop-nil}
 use Rattle.std.specs.{List.AllZip, BTreeSet.BTreeSet, BTreeSet.Updates, BTreeSet.contains}
-use Rattle.std.proofs.lemmas.{Bool.and_parts, Bool.or_cases, Grind.common_steps, Slice.Eq.bytes_eq-Decides}
+use Rattle.std.proofs.lemmas.{Bool.and_parts, Grind.common_steps, Slice.Eq.bytes_eq-Decides}
 use Rattle.std.proofs.lemmas.{List.map_more, Map.Text.is_eq-slice_cmp}
 use Rattle.std.proofs.lemmas.List.{Folds.Any-from_list_any, drop_more}
 use Rattle.texting_robots.specs.Callers.{IsDenied, IsVerdict, LineValue, PlacedRule, Rule, placed_rules}
@@ -94,6 +94,15 @@ neither compared same =
     let none = and_parts (length compared.removed == 0) (length compared.added == 0) same in
     (none_of compared.removed none.0, none_of compared.added none.1)
 
+pub none_changed : (agent : List ℕ) (older newer : List LineValue) (removed added : List PlacedRule)
+    → removed ≡ rules_only_in older newer agent → added ≡ rules_only_in newer older agent
+    → (length removed == 0 && length added == 0) ≡ true → (text : List ℕ) (allowed : Bool)
+    → IsVerdict (rules_for agent older) text allowed ↔ IsVerdict (rules_for agent newer) text allowed
+none_changed agent older newer removed added removed_are added_are none text allowed =
+    let (first, second) = and_parts (length removed == 0) (length added == 0) none in
+    same_rules_decide_alike agent older newer text allowed (sym removed_are ∙ none_of removed first)
+    (sym added_are ∙ none_of added second)
+
 beq_self : (b : Bool) → beq b b ≡ true
 beq_self true = refl
 beq_self false = refl
@@ -113,11 +122,9 @@ module _ (urls : List (List ℕ)) (older newer : List LineValue) (agent : List �
       (sym is.added_are ∙ none.1)
 
   pub reported_alike : (text : List ℕ) (allowed : Bool)
-      → (is_unchanged compared || has_same_rules compared) ≡ true
+      → is_unchanged compared ≡ true
       → IsVerdict (rules_for agent older) text allowed ↔ IsVerdict (rules_for agent newer) text allowed
-  reported_alike text allowed said =
-      alike text allowed
-      (⊎_elim (unchanged_has_same compared) (λ same. same) (or_cases (is_unchanged compared) _ said))
+  reported_alike text allowed said = alike text allowed (unchanged_has_same compared said)
 
   module _ (same : has_same_rules compared ≡ true) where
     same_decision : (text : List ℕ) (one other : Decision) → IsDecisionOn (placed_rules agent older) text one

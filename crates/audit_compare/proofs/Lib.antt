@@ -1,1 +1,2 @@
 pub mod CompareLemmas
+pub mod EveryUrlLemmas

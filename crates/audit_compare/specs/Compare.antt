@@ -1,19 +1,24 @@
 -- Two versions of a robots.txt file compared.
 use Rattle.std.specs.Prelude.{◌≡◌, ℕ, ◌==◌, Bool, true, false, not, ◌&&◌, ◌||◌, List, [], ◌∷◌, ◌++◌, Option}
 use Rattle.std.specs.Prelude.{Some, None, bytes_eq, codes, filter, flat_map, if◌then◌else◌, is_some, length}
-use Rattle.std.specs.Prelude.{map, nat_eq}
+use Rattle.std.specs.Prelude.{map, nat_eq, string_bytes}
 use Rattle.std.specs.{List.AllZip, List.list_all, List.list_any, Option.option_eq}
 use Rattle.std.proofs.Math.{Bool.beq}
 use Rattle.texting_robots.specs.Callers.{LineValue, PlacedRule, Rule, lines_read, placed_rules, sitemaps_in}
 use Rattle.texting_robots.specs.declared.decision.{Decision.Decision}
-use Rattle.printable_text.specs.declared.level.Level.TheVariants.{Error, Note, Warning}
+use Rattle.printable_text.specs.declared.level.Level.{Level, TheVariants.Error, TheVariants.Note}
+use Rattle.printable_text.specs.declared.level.Level.TheVariants.{Warning}
+use Rattle.robots_warnings.specs.declared.closed.Reach.{Reach, TheVariants.Nothing}
 use Rattle.robots_warnings.specs.{declared.facts.LineKinds.LineKinds, Facts.kinds_of}
 use Rattle.audit_core.specs.declared.group.Group.{Group}
 use Rattle.audit_core.specs.declared.group.Group.TheVariants.{Everyone, Named, Nobody, Star}
 use Rattle.audit_core.specs.Audit.{AgentValue, IsAgentAudit, VerdictValue, agents_requested}
 use Rattle.audit_core.specs.Findings.{Found}
-use Rattle.audit_compare.specs.declared.differences.Section.{Section, TheVariants.Groups}
-use Rattle.audit_compare.specs.declared.differences.Section.TheVariants.{Rejections, Rules, SameRules, Urls}
+use Rattle.audit_compare.specs.declared.differences.Section.{Section, TheVariants.EveryUrl, TheVariants.Groups}
+use Rattle.audit_compare.specs.declared.differences.Section.TheVariants.{Rejections, Rules, Urls}
+use Rattle.audit_compare.specs.declared.every_url.{Change.Change, Example.Example, Verdicts.Verdicts}
+use Rattle.audit_compare.specs.declared.every_url.Verdicts.TheVariants.{Other, Same, Undecided}
+use Rattle.audit_compare.specs.EveryUrl.{AreVerdicts, is_same}
 
 -- of the same kind, and with equal patterns, which are escaped values
 abbrev pub is_same_rule : Rule → Rule → Bool
@@ -59,8 +64,8 @@ url_changes removed added (one ∷ older) (other ∷ newer) =
     change_at removed added one other ++ url_changes removed added older newer
 url_changes removed added _ _ = []
 
--- what each file means for a crawler, the rules that the other one lacks, and the URLs on which decisions
--- differ
+-- what each file means for a crawler, the rules that the other one lacks, the URLs on which decisions differ,
+-- and what becomes of the verdicts of all URLs
 pub record ComparedValue : Type 0 where
   pub agent : List ℕ
   pub older : AgentValue
@@ -68,6 +73,7 @@ pub record ComparedValue : Type 0 where
   pub removed : List PlacedRule
   pub added : List PlacedRule
   pub changes : List UrlChangeValue
+  pub verdicts : Verdicts
 
 -- the lines are those of the older file, and of the newer one
 pub record IsCompared (urls : List (List ℕ)) (older newer : List LineValue) (agent : List ℕ)
@@ -79,6 +85,7 @@ pub record IsCompared (urls : List (List ℕ)) (older newer : List LineValue) (a
   pub added_are : compared.added ≡ rules_only_in newer older agent
   pub changes_are : compared.changes
       ≡ url_changes compared.removed compared.added compared.older.verdicts compared.newer.verdicts
+  pub verdicts_are : AreVerdicts (placed_rules agent older) (placed_rules agent newer) compared.verdicts
 
 abbrev pub is_listed : List (List ℕ) → List ℕ → Bool
 is_listed texts text = list_any (λ other. bytes_eq other text) texts
@@ -177,6 +184,29 @@ is_unchanged compared =
     ((not (is_rejected compared) && is_same_group compared.older.group compared.newer.group)
     && option_eq nat_eq compared.older.delay compared.newer.delay) && has_same_rules compared
 
+-- that a crawler loses everything is an error, and that the home page is closed is a warning
+abbrev pub level_by : Reach → (is_home_closed : Bool) → Level
+level_by Nothing is_home_closed = Error
+level_by reach is_home_closed = if is_home_closed then Warning else Note
+
+abbrev pub is_home_closed : Example → Bool
+is_home_closed example = bytes_eq (string_bytes example.path) (codes "/") && example.older.allowed
+
+abbrev pub change_level : Change → Level
+change_level change = level_by change.newer (is_home_closed change.example)
+
+abbrev pub verdict_change : Change → Found
+verdict_change change = record {
+  level = change_level change;
+  line = change.example.newer.line;
+  name = codes "verdicts";
+}
+
+abbrev pub verdict_changes : Verdicts → List Found
+verdict_changes Same = note (codes "same-verdicts") ∷ []
+verdict_changes (Other change) = verdict_change change ∷ []
+verdict_changes Undecided = note (codes "undecided-verdicts") ∷ []
+
 abbrev pub rejection_name : (is_new : Bool) → List ℕ
 rejection_name is_new = if is_new then codes "rejected" else codes "old-rejected"
 
@@ -197,8 +227,8 @@ accepted_changes Groups compared =
 accepted_changes Rules compared =
     map (rule_change false) compared.removed ++ map (rule_change true) compared.added
 accepted_changes Urls compared = map url_change compared.changes
-accepted_changes SameRules compared =
-    if has_same_rules compared && not (is_unchanged compared) then note (codes "same-rules") ∷ [] else []
+accepted_changes EveryUrl compared =
+    if is_unchanged compared then [] else verdict_changes compared.verdicts
 accepted_changes Rejections compared = []
 
 abbrev pub section_changes : Section → ComparedValue → List Found
@@ -231,11 +261,16 @@ abbrev pub all_differences : ComparisonValue → List Found
 all_differences comparison =
     emptied comparison.older comparison.newer
     ++ flat_map (crawler_changes (Rejections ∷ [])) comparison.crawlers
-    ++ flat_map (crawler_changes (Urls ∷ [])) comparison.crawlers
+    ++ flat_map (crawler_changes (EveryUrl ∷ Urls ∷ [])) comparison.crawlers
     ++ flat_map (crawler_changes (Groups ∷ Rules ∷ [])) comparison.crawlers ++ sitemap_changes comparison
 
 abbrev pub rejects_some : ComparisonValue → Bool
 rejects_some comparison = list_any is_rejected comparison.crawlers
+
+-- for no crawler a verdict changes
+abbrev pub keeps_verdicts : ComparisonValue → Bool
+keeps_verdicts comparison =
+    list_all (λ (compared : ComparedValue). is_same compared.verdicts) comparison.crawlers
 
 abbrev pub differs_nowhere : ComparisonValue → Bool
 differs_nowhere comparison =

@@ -3,12 +3,13 @@ ghost use Rattle.std.specs.Prelude.{◌≡◌, ◌++◌, IfErr, IfOk, map};
 ghost use Rattle.std.specs.List.{AllZip};
 ghost use Rattle.texting_robots.specs.Callers.{lines_read};
 ghost use Rattle.audit_core.specs.Audit.{agents_requested as specified_agents};
-ghost use Rattle.audit_compare.specs.Compare.{IsCompared, IsComparison, differs_nowhere, has_no_directive};
+ghost use Rattle.audit_compare.specs.Compare.{IsCompared, IsComparison, differs_nowhere, has_no_directive, keeps_verdicts};
 ghost use Rattle.audit_compare.specs.Compare.{rejects_some, side_of};
 ghost use Rattle.robots_warnings.specs.Read.{IsRead};
 
 use crate::compared::{Compared, compared_for};
 use crate::differences::{all_unchanged, is_rejected};
+use crate::every_url::is_same;
 use crate::sitemaps::sitemaps_only_in;
 use audit_core::agents::agents_requested;
 use audit_core::fault::Fault;
@@ -16,6 +17,9 @@ use robots_warnings::facts::LineKinds;
 use robots_warnings::read::FileRead;
 use std::alloc::{AllocError, Global};
 use std::marker::Model;
+
+/// Bounds how long the rules of all crawlers are compared.
+const BUDGET: usize = 50_000_000;
 
 #[derive(Clone, Copy)]
 pub struct NamedFile<'a> {
@@ -110,9 +114,10 @@ fn crawlers_of<'a>(
         (map (λ agent. agent.now) agents.now) crawlers.items) }
     ensures fault { IfErr result (λ fault. fault ≡ Fault.Memory) }
 {
+    let budget = BUDGET / agents.len().max(1);
     let mut crawlers = Vec::with_capacity(alloc, agents.len())?;
     for agent in agents {
-        crawlers.push(compared_for(alloc, agent, older, newer, urls)?)?;
+        crawlers.push(compared_for(alloc, agent, older, newer, urls, budget)?)?;
     }
     Ok(crawlers)
 }
@@ -150,6 +155,16 @@ pub fn rejects_some(comparison: &Comparison<'_>) -> bool
     ensures { result ≡ rejects_some comparison.now }
 {
     comparison.crawlers.iter().any(is_rejected)
+}
+
+/// No URL's verdict changes for a crawler.
+pub fn keeps_verdicts(comparison: &Comparison<'_>) -> bool
+    ensures { result ≡ keeps_verdicts comparison.now }
+{
+    comparison
+        .crawlers
+        .iter()
+        .all(|compared| is_same(&compared.verdicts))
 }
 
 pub fn differs_nowhere(comparison: &Comparison<'_>) -> bool

@@ -1,10 +1,12 @@
 //! What two versions of a file mean for a crawler.
-ghost use Rattle.std.specs.Prelude.{◌≡◌, ◌++◌, IfErr, IfOk, OnOk, map};
-ghost use Rattle.texting_robots.specs.Callers.{file_lines, lines_read};
+ghost use Rattle.std.specs.Prelude.{◌≡◌, ◌==◌, ◌&&◌, ◌++◌, IfErr, IfOk, OnOk, length, map};
+ghost use Rattle.texting_robots.specs.Callers.{file_lines, lines_read, placed_rules};
 ghost use Rattle.audit_compare.specs.Compare.{IsCompared, change_at, is_in_line_of, is_same_decision, rules_only_in};
 ghost use Rattle.audit_compare.specs.Compare.{url_changes};
+ghost use Rattle.audit_compare.specs.EveryUrl.{AreVerdicts};
 ghost use Rattle.robots_warnings.specs.Read.{IsRead};
 
+use crate::every_url::{Verdicts, verdicts_for};
 use crate::rule_sets::{RuleSet, rules_lacked};
 use audit_core::audit::{AgentAudit, Verdict, audit_for};
 use audit_core::fault::Fault;
@@ -43,6 +45,7 @@ pub struct Compared<'a> {
     /// Those that only the newer one has.
     pub added: Vec<Rule>,
     pub changes: Vec<UrlChange<'a>>,
+    pub verdicts: Verdicts,
 }
 
 impl<'a> Model for Compared<'a> {
@@ -143,12 +146,45 @@ fn changes_between<'a>(
     url_changes(alloc, rules, &older.verdicts, &newer.verdicts)
 }
 
+fn are_none(rules: &RuleChanges) -> bool
+    ensures { result ≡ (length rules.now.removed.items == 0 && length rules.now.added.items == 0) }
+{
+    rules.removed.is_empty() && rules.added.is_empty()
+}
+
+/// What becomes of the verdicts of all URLs. They are the same if the rules are.
+fn verdicts_of(
+    alloc: Global,
+    agent: &str,
+    older: &FileRead<'_>,
+    newer: &FileRead<'_>,
+    rules: &RuleChanges,
+    budget: usize,
+) -> Result<Verdicts, Fault>
+    requires older { IsRead older.now }
+    requires newer { IsRead newer.now }
+    requires removed { rules.now.removed.items
+        ≡ rules_only_in (file_lines older.now.site) (file_lines newer.now.site) agent.now }
+    requires added { rules.now.added.items
+        ≡ rules_only_in (file_lines newer.now.site) (file_lines older.now.site) agent.now }
+    ensures ok { IfOk result (AreVerdicts (placed_rules agent.now (lines_read older.now.bytes.now))
+        (placed_rules agent.now (lines_read newer.now.bytes.now))) }
+    ensures fault { IfErr result (λ fault. fault ≡ Fault.Memory) }
+{
+    if are_none(rules) {
+        return Ok(Verdicts::Same);
+    }
+    verdicts_for(alloc, agent, older, newer, budget)
+}
+
+/// The budget bounds how long rules are compared on all URLs.
 pub(crate) fn compared_for<'a>(
     alloc: Global,
     agent: &'a str,
     older: &FileRead<'_>,
     newer: &FileRead<'_>,
     urls: &[&'a str],
+    budget: usize,
 ) -> Result<Compared<'a>, Fault>
     requires older { IsRead older.now }
     requires newer { IsRead newer.now }
@@ -160,6 +196,7 @@ pub(crate) fn compared_for<'a>(
     let newer_audit = audit_for(alloc, agent, newer, urls)?;
     let rules = rule_changes(alloc, agent, &older.site, &newer.site)?;
     let changes = changes_between(alloc, &rules, &older_audit, &newer_audit)?;
+    let verdicts = verdicts_of(alloc, agent, older, newer, &rules, budget)?;
     Ok(Compared {
         agent,
         older: older_audit,
@@ -167,5 +204,6 @@ pub(crate) fn compared_for<'a>(
         removed: rules.removed,
         added: rules.added,
         changes,
+        verdicts,
     })
 }

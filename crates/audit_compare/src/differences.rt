@@ -5,15 +5,18 @@ ghost use Rattle.audit_core.specs.Findings.{Adds};
 ghost use Rattle.audit_compare.specs.Compare.{accepted_changes, change_name, crawler_changes, delay_changes};
 ghost use Rattle.audit_compare.specs.Compare.{group_changes, has_same_rules, is_rejected, is_same_group};
 ghost use Rattle.audit_compare.specs.Compare.{is_unchanged, rejection, rejection_name, rule_change};
-ghost use Rattle.audit_compare.specs.Compare.{rule_name, section_changes, url_change};
+ghost use Rattle.audit_compare.specs.Compare.{change_level, is_home_closed, rule_name, section_changes, url_change};
+ghost use Rattle.audit_compare.specs.Compare.{verdict_change};
 
 use crate::compared::{Compared, UrlChange};
+use crate::every_url::{Change, Example, Verdicts};
 use audit_core::findings::{Findings, add};
 use audit_core::group::Group;
 use audit_core::rules::Rule;
 use audit_core::texts::{DelayOrNone, Rejected};
 use printable_text::level::Level;
 use printable_text::report::Line;
+use robots_warnings::closed::Reach;
 use std::alloc::Global;
 use std::fmt;
 use std::fmt::Write;
@@ -26,7 +29,7 @@ pub(crate) enum Section {
     Groups,
     Rules,
     Urls,
-    SameRules,
+    EveryUrl,
 }
 
 fn is_same_group(one: Group, other: Group) -> bool
@@ -224,19 +227,95 @@ pub(crate) fn all_unchanged(crawlers: &[Compared<'_>]) -> bool
     crawlers.iter().all(is_unchanged)
 }
 
-fn add_same_rules(alloc: Global, found: &mut Findings, compared: &Compared<'_>) -> fmt::Result
-    ensures { OnOk result (Adds found.old.items found.new.items
-        (accepted_changes Section.SameRules compared.now)) }
+/// What a crawler may fetch.
+#[derive(Clone, Copy)]
+struct Fetched(Reach);
+
+impl fmt::Display for Fetched {
+    fn fmt<W: fmt::Write>(&self, f: &mut fmt::Formatter<W>) -> fmt::Result {
+        f.write_str(match self.0 {
+            Reach::Everything => "everything",
+            Reach::Nothing => "nothing",
+            Reach::Part => "a part",
+        })
+    }
+}
+
+fn is_home_closed(example: &Example) -> bool
+    ensures { result ≡ is_home_closed example.now }
 {
-    if !has_same_rules(compared) || is_unchanged(compared) {
+    example.path.as_str() == "/" && example.older.allowed
+}
+
+/// Of a crawler that loses everything, or the home page.
+fn change_level(change: &Change) -> Level
+    ensures { result ≡ change_level change.now }
+{
+    match change.newer {
+        Reach::Nothing => Level::Error,
+        _ if is_home_closed(&change.example) => Level::Warning,
+        _ => Level::Note,
+    }
+}
+
+fn add_verdict_change(
+    alloc: Global,
+    found: &mut Findings,
+    agent: &str,
+    change: &Change,
+) -> fmt::Result
+    ensures { OnOk result (Adds found.old.items found.new.items (verdict_change change.now ∷ [])) }
+{
+    let (older, newer) = (Fetched(change.older), Fetched(change.newer));
+    let (path, line) = (change.example.path.as_str(), change.example.newer.line);
+    let (old, new) = (Decided(change.example.older), Decided(change.example.newer));
+    let mut message = Line::new(alloc);
+    if change.older == change.newer {
+        write!(message, "crawler {agent}: verdicts change")?;
+    } else {
+        write!(message, "crawler {agent}: may fetch {older} -> {newer}")?;
+    }
+    write!(message, ", for example {path}: {old} -> {new}")?;
+    add(
+        alloc,
+        found,
+        change_level(change),
+        line,
+        "verdicts",
+        &message,
+    )
+}
+
+/// Adds what becomes of the verdicts of all URLs, if something differs for the crawler.
+fn add_verdicts(alloc: Global, found: &mut Findings, compared: &Compared<'_>) -> fmt::Result
+    ensures { OnOk result (Adds found.old.items found.new.items
+        (accepted_changes Section.EveryUrl compared.now)) }
+{
+    if is_unchanged(compared) {
         return Ok(());
     }
     let (mut message, agent) = (Line::new(alloc), compared.agent);
-    write!(
-        message,
-        "crawler {agent}: same rules, so no URL's verdict differs"
-    )?;
-    add(alloc, found, Level::Note, None, "same-rules", &message)
+    match &compared.verdicts {
+        Verdicts::Other(change) => return add_verdict_change(alloc, found, agent, change),
+        Verdicts::Same => {
+            write!(message, "crawler {agent}: no URL's verdict changes")?;
+            add(alloc, found, Level::Note, None, "same-verdicts", &message)
+        }
+        Verdicts::Undecided => {
+            write!(
+                message,
+                "crawler {agent}: it isn't decided whether a URL's verdict changes"
+            )?;
+            add(
+                alloc,
+                found,
+                Level::Note,
+                None,
+                "undecided-verdicts",
+                &message,
+            )
+        }
+    }
 }
 
 /// The name of the finding that a file is rejected.
@@ -297,7 +376,7 @@ fn add_section(
             add_rules(alloc, found, agent, true, &compared.added)
         }
         Section::Urls => add_urls(alloc, found, agent, &compared.changes),
-        Section::SameRules => add_same_rules(alloc, found, compared),
+        Section::EveryUrl => add_verdicts(alloc, found, compared),
     }
 }
 

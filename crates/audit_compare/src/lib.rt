@@ -4,6 +4,7 @@
 pub mod compare;
 pub mod compared;
 mod differences;
+pub mod every_url;
 pub mod laws;
 pub mod report;
 mod rule_sets;

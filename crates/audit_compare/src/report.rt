@@ -107,7 +107,12 @@ fn all_differences(alloc: Global, comparison: &Comparison<'_>) -> Result<Finding
     let (mut found, crawlers) = (Vec::new(alloc), &comparison.crawlers);
     add_emptied(alloc, &mut found, &comparison.older, &comparison.newer)?;
     add_crawlers(alloc, &mut found, &[Section::Rejections], crawlers)?;
-    add_crawlers(alloc, &mut found, &[Section::Urls], crawlers)?;
+    add_crawlers(
+        alloc,
+        &mut found,
+        &[Section::EveryUrl, Section::Urls],
+        crawlers,
+    )?;
     add_crawlers(
         alloc,
         &mut found,
@@ -158,8 +163,8 @@ fn write_report(alloc: Global, out: &mut Report, comparison: &Comparison<'_>) ->
         Section::Rejections,
         Section::Groups,
         Section::Rules,
+        Section::EveryUrl,
         Section::Urls,
-        Section::SameRules,
     ];
     write_side(out, "old: ", &comparison.older)?;
     write_side(out, ", new: ", &comparison.newer)?;

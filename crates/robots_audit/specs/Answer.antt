@@ -1,6 +1,6 @@
 -- What the program answers: to an audit, and to its arguments.
 use Rattle.std.specs.Prelude.{◌≡◌, ◌⊎◌, ℕ, Bool, true, false, List, [], None, Option, Some, codes, ⊤}
-use Rattle.std.specs.Prelude.{◌==◌, length, map, not, ◌&&◌, string_bytes}
+use Rattle.std.specs.Prelude.{◌==◌, length, map, not, ◌&&◌, if◌then◌else◌, string_bytes}
 use Rattle.std.specs.{List.list_any}
 use Rattle.clap.specs.{declared.parser.matches.ArgMatches.ArgMatches}
 use Rattle.html_writer.specs.{Page.IsSomePage}
@@ -18,6 +18,7 @@ use Rattle.audit_core.specs.declared.fault.Fault.TheVariants.{File, Format as Of
 use Rattle.audit_core.specs.declared.request.Format.TheVariants.{Github, Html, Json, Sarif}
 use Rattle.robots_audit.specs.Command.{HasFile, IsFormatOf, IsOn, IsRequestOf, value_of}
 use Rattle.audit_compare.specs.Compare.{ComparisonValue, IsComparison, all_differences, differs_nowhere}
+use Rattle.audit_compare.specs.Compare.{keeps_verdicts}
 use Rattle.audit_compare.specs.Compare.{rejects_some as rejects_one}
 use Rattle.audit_expect.specs.{Expectations.AreFailuresOf, UrlList.HasUrlsIn}
 use Rattle.audit_text.specs.{Github.github_text}
@@ -98,15 +99,20 @@ pub record IsListed (format : Format) (file old : List ℕ) (found : List Findin
   pub unwarned : answer.outcome.is_warned ≡ false
   pub silent : string_bytes answer.outcome.warnings ≡ []
 
+-- with `--verdicts`, all is well if for no crawler a verdict changes
+abbrev pub has_passed : (verdicts_only : Bool) → ComparisonValue → Bool
+has_passed verdicts_only comparison =
+    if verdicts_only then keeps_verdicts comparison else differs_nowhere comparison
+
 -- the answer to a comparison of two files with these names and bytes
-pub record IsCompared (requested : RequestValue) (older_name older newer_name newer : List ℕ)
-    (answer : Answer) : Type 0 where
+pub record IsCompared (verdicts_only : Bool) (requested : RequestValue)
+    (older_name older newer_name newer : List ℕ) (answer : Answer) : Type 0 where
   pub comparison : ComparisonValue
   pub of : IsComparison requested.agents requested.urls older_name older newer_name newer comparison
   pub found : List Finding
   pub found_are : map found_of found ≡ all_differences comparison
   pub listed : IsListed requested.format (shown_name requested.file) older_name found (rejects_one comparison)
-      (differs_nowhere comparison) answer
+      (has_passed verdicts_only comparison) answer
 
 -- a rejected file is a failure
 pub record IsExpected (format : Format) (name text file : List ℕ) (answer : Answer) : Type 0 where
@@ -156,7 +162,9 @@ pub record AnswersComparison (matches : ArgMatches) (name : List ℕ) (answer : 
   pub newer : List ℕ
   pub older_can_be : content_flaw older ≡ None
   pub newer_can_be : content_flaw newer ≡ None
-  pub compared : IsCompared requested name older (given_name requested.file) newer answer
+  pub verdicts_only : Bool
+  pub on : IsOn matches (codes "verdicts") verdicts_only
+  pub compared : IsCompared verdicts_only requested name older (given_name requested.file) newer answer
 
 -- what `--explain`, `--expect` and `--compare` request, in this order, or else an audit
 abbrev pub AnswersOptions : (explain expect compare : Option (List ℕ)) → (by_default : Bool) → ArgMatches

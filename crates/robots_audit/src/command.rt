@@ -22,8 +22,8 @@ use robots_warnings::table::is_name;
 use std::alloc::{AllocError, Global};
 
 const AFTER_HELP: &str = "\
-With --expect, give only FILE; with --compare only FILE, URLs, --urls and --agent; with either also --json or
---format; with --list-warnings or --explain nothing else. With --denied, give URLs or --urls.
+With --expect, give only FILE; with --compare only FILE, URLs, --urls, --agent and --verdicts; with either also
+--json or --format; with --list-warnings or --explain nothing else. With --denied, give URLs or --urls.
 
 Exit status, the first that applies:
   2  if the program couldn't do its work, or the file is rejected for a crawler

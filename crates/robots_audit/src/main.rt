@@ -141,7 +141,13 @@ fn compared(rt: &HostRuntime, matches: &ArgMatches<'_>, older: &str) -> Result<A
         bytes: &old,
     };
     let new_file = NamedFile { name, bytes: &new };
-    comparison(rt.alloc(), &whole, old_file, new_file)
+    comparison(
+        rt.alloc(),
+        &whole,
+        old_file,
+        new_file,
+        matches.get_flag("verdicts"),
+    )
 }
 
 /// `has_colors` is as for `requested`.

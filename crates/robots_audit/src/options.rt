@@ -12,6 +12,8 @@ enum Value {
     /// The option needs this other one, which follows what the text is called.
     TextWith(&'static str, &'static str),
     Texts(&'static str),
+    /// The option needs this other one.
+    AbsentWith(&'static str),
     /// One each time that the option is given.
     Repeated(&'static str),
     /// One of these words.
@@ -183,6 +185,14 @@ const PARAMETERS: &[Parameter] = &[
         excludes: &[&["expect"], OF_AUDITS],
     },
     Parameter {
+        id: "verdicts",
+        short: None,
+        long: Some("verdicts"),
+        value: Value::AbsentWith("compare"),
+        help: "With --compare: exit with status 1 only if the verdict of a URL may change",
+        excludes: &[],
+    },
+    Parameter {
         id: "list-warnings",
         short: None,
         long: Some("list-warnings"),
@@ -214,6 +224,7 @@ fn with_names<'a>(arg: Arg<'a>, short: Option<char>, long: Option<&'a str>) -> A
 fn with_value<'a>(arg: Arg<'a>, value: Value) -> Result<Arg<'a>, AllocError> {
     Ok(match value {
         Value::Absent => arg.action(ArgAction::SetTrue),
+        Value::AbsentWith(other) => arg.action(ArgAction::SetTrue).requires_arg(other)?,
         Value::Text(name) => arg.value_name(name),
         Value::TextWith(name, other) => arg.value_name(name).requires_arg(other)?,
         Value::Texts(name) => arg.value_name(name).num_args(0..),

@@ -1,7 +1,7 @@
 //! The audit of a file and the report on it, without the command line, input and output.
 ghost use Rattle.std.specs.Prelude.{◌≡◌, ◌⊎◌, IfErr, IfOk, Some, map, option_map, string_bytes};
 ghost use Rattle.robots_audit.specs.Answer.{IsAudited, IsCompared, IsExpected, IsFileUnreadable, IsFormatFault};
-ghost use Rattle.robots_audit.specs.Answer.{IsListed, IsOutput, given_name, has_all_urls, is_warned, leaves_out_allowed};
+ghost use Rattle.robots_audit.specs.Answer.{IsListed, IsOutput, given_name, has_all_urls, has_passed, is_warned, leaves_out_allowed};
 ghost use Rattle.printable_text.specs.Text.{IsShownReport};
 ghost use Rattle.audit_compare.specs.Compare.{IsComparison};
 ghost use Rattle.audit_core.specs.declared.fault.Entry.TheVariants.{Expectation};
@@ -9,7 +9,7 @@ ghost use Rattle.audit_core.specs.{Request.requested_by};
 ghost use Rattle.audit_expect.specs.Expect.{IsEntryFault, expectations_in};
 
 use audit_compare::compare::{
-    Comparison, NamedFile, compare, differs_nowhere, rejects_some as rejects_one,
+    Comparison, NamedFile, compare, differs_nowhere, keeps_verdicts, rejects_some as rejects_one,
 };
 use audit_compare::report::reported;
 use audit_core::answer::{Answer, Outcome};
@@ -161,7 +161,18 @@ fn listed(
     Ok(Answer { report, outcome })
 }
 
-/// Compares two files for the crawlers and URLs of the request, and writes the report.
+fn has_passed(verdicts_only: bool, compared: &Comparison<'_>) -> bool
+    ensures { result ≡ has_passed verdicts_only compared.now }
+{
+    if verdicts_only {
+        keeps_verdicts(compared)
+    } else {
+        differs_nowhere(compared)
+    }
+}
+
+/// Compares two files for the crawlers and URLs of the request, and writes the report. Either the verdicts
+/// alone decide whether all is well, or everything that differs.
 ///
 /// # Errors
 ///
@@ -172,13 +183,14 @@ pub fn comparison<'a>(
     request: &Request<'a>,
     older: NamedFile<'a>,
     newer: NamedFile<'a>,
+    verdicts_only: bool,
 ) -> Result<Answer, Fault>
-    ensures ok { IfOk result (IsCompared (requested_by request.now) older.entry.name.now older.entry.bytes.now
+    ensures ok { IfOk result (IsCompared verdicts_only (requested_by request.now) older.entry.name.now older.entry.bytes.now
         newer.entry.name.now newer.entry.bytes.now) }
     ensures fault { IfErr result (IsFormatFault request.now.format) }
 {
     let compared = compared_for(alloc, request, older, newer)?;
-    let (is_rejected, has_passed) = (rejects_one(&compared), differs_nowhere(&compared));
+    let (is_rejected, has_passed) = (rejects_one(&compared), has_passed(verdicts_only, &compared));
     let (format, name, old) = (request.format, request.shown_name(), older.name);
     let found = reported(alloc, &compared)?;
     Ok(listed(alloc, format, name, old, found, is_rejected, has_passed)?)

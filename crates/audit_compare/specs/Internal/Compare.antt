@@ -39,6 +39,7 @@ compared_of compared = record {
   removed = compared.removed.items;
   added = compared.added.items;
   changes = compared.changes.items;
+  verdicts = compared.verdicts;
 }
 
 abbrev pub side_of : InsideSide → SideValue

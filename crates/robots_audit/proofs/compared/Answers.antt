@@ -14,6 +14,8 @@ returns c = if_ok c.comparison.result (λ answer is. record {
   newer = c.in_ok-new.new.items;
   older_can_be = c.in_ok-old.ensures;
   newer_can_be = c.in_ok-new.ensures;
+  verdicts_only = c.get_flag.result;
+  on = (c.get_flag.ensures.value, c.get_flag.ensures.other, c.get_flag.ensures.none);
   compared = is;
 }) (rw (c.given_name-name.ensures, c.deref-2.ensures.value, c.deref-3.ensures.value)
     at c.comparison.ensures.ok)

@@ -1,6 +1,6 @@
 use Rattle.std.specs.Prelude.{IfOk}
 use Rattle.std.proofs.Common.{◌≡◌, ◌++◌, ◌∙◌, List, [], ◌∷◌, ap, ap₂, map, refl, subst}
-use Rattle.texting_robots.specs.Callers.{LineValue, label_by_value, lines_read}
+use Rattle.texting_robots.specs.Callers.{LineValue, label_by_value}
 use Rattle.texting_robots.specs.declared.labels.LabeledLine.{LabeledLine}
 use Rattle.robots_warnings.specs.{File.lines_of}
 use Rattle.audit_core.specs.Audit.{agents_requested}

@@ -1,0 +1,64 @@
+-- What comparisons of rules on all match targets imply.
+use Rattle.std.proofs.Common.{◌≡◌, ◌≢◌, ℕ, zero, suc, ◌<◌, true, false, List, [], ◌∷◌, ◌++◌, Contains, arith}
+use Rattle.std.proofs.Common.{Err, IfOk, None, Ok, Option, Result, Some, ap, codes, length, refl, string_bytes}
+use Rattle.std.specs.Option.{IfSome}
+use Rattle.std.proofs.lemmas.{Bool.false≢true}
+use Rattle.texting_robots.specs.Callers.{IsDenied, Matches, Rule, RobotValue, lines_read}
+use Rattle.texting_robots.specs.Callers.{placed_rules, robots_file}
+use Rattle.texting_robots.specs.{Pattern.MatchesWith, Decision.IsDecisionOn, declared.decision.Decision.Decision}
+use Rattle.robots_same.specs.Same.{HaveSameVerdicts}
+use Rattle.robots_warnings.specs.declared.closed.Reach.TheVariants.{Everything, Nothing}
+use Rattle.audit_core.specs.{Asked.asked_target, Internal.IsReading, declared.audit.Reading.TheVariants.Accepted}
+use Rattle.audit_core.specs.declared.fault.Fault.{Fault}
+use Rattle.audit_core.proofs.{AuditLemmas.ruling_made}
+use Rattle.audit_compare.specs.declared.every_url.{Example.Example}
+use Rattle.audit_compare.specs.EveryUrl.{IsExample, IsReach}
+
+decided : (agent file url : List ℕ) (robot : RobotValue) (decision : Decision)
+    → IsReading agent file (Accepted robot) → IsDecisionOn robot.rules (asked_target url) decision
+    → IsDecisionOn (placed_rules agent (lines_read file)) (asked_target url) decision
+decided agent file url robot decision of by =
+    (ruling_made (url ∷ []) file agent robot (record { url = url; decision = decision } ∷ []) of
+    (record { url_is = refl; decided = by }, tt)).1.0.decided
+
+pub example_read : (agent older newer : List ℕ) (was is : RobotValue) (result : Result (Option Example) Fault)
+    → IsReading agent older (Accepted was) → IsReading agent newer (Accepted is)
+    → IfOk result (λ found. IfSome found (IsExample was.rules is.rules))
+    → IfOk result (λ found. IfSome found
+    (IsExample (placed_rules agent (lines_read older)) (placed_rules agent (lines_read newer))))
+example_read agent older newer was is (Err fault) old new found = tt
+example_read agent older newer was is (Ok None) old new found = tt
+example_read agent older newer was is (Ok (Some example)) old new found = record {
+  was = decided agent older (string_bytes example.path) was example.older old found.was;
+  is = decided agent newer (string_bytes example.path) is example.newer new found.is;
+  differ = found.differ;
+}
+
+none_denied : (text : List ℕ) → IsDenied [] text → ⊥
+none_denied text (other, pattern, (k, below, at), matches, longer) = absurd (omega arith)
+
+abbrev pub closing : Rule
+closing = (codes "/", false)
+
+no_allow : (pattern text : List ℕ) → Contains (closing ∷ []) (pattern, true) → Matches pattern text
+    → length pattern < 1
+no_allow pattern text (zero, below, at) matches = absurd (false≢true (ap (λ (rule : Rule). rule.1) at))
+no_allow pattern text (suc k, below, at) matches = absurd (omega arith)
+
+all_denied : (rest : List ℕ) → codes "/" ++ rest ≢ robots_file → IsDenied (closing ∷ []) (codes "/" ++ rest)
+unfolding MatchesWith
+all_denied rest other = (
+  other,
+  codes "/",
+  (0, omega arith, refl),
+  (rest, refl, tt),
+  λ pattern has matches. no_allow pattern (codes "/" ++ rest) has matches,
+)
+
+pub everything : (rules others : List Rule) → others ≡ [] → HaveSameVerdicts (codes "/") rules others
+    → IsReach rules Everything
+everything rules others none same rest = (same rest true).1 (rw none (none_denied (codes "/" ++ rest)))
+
+pub nothing : (rules others : List Rule) → others ≡ closing ∷ [] → HaveSameVerdicts (codes "/") rules others
+    → IsReach rules Nothing
+nothing rules others is same rest other = (same rest false).1 (rw is (all_denied rest other))

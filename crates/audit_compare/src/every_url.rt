@@ -1,0 +1,179 @@
+//! Whether the verdict of any URL changes for a crawler, and what the crawler may fetch.
+ghost use Rattle.std.specs.Prelude.{◌≡◌, IfErr, IfOk, IsTrue, codes};
+ghost use Rattle.std.specs.Option.{IfSome};
+ghost use Rattle.texting_robots.specs.Callers.{lines_read, placed_rules};
+ghost use Rattle.audit_compare.specs.EveryUrl.{AreVerdicts, IsExample, IsReach, is_same};
+ghost use Rattle.robots_same.specs.Same.{HaveSameVerdicts};
+ghost use Rattle.robots_warnings.specs.Read.{IsRead};
+
+use audit_core::asked::decision_on;
+use audit_core::audit::{Reading, read_for};
+use audit_core::fault::Fault;
+use robots_same::compare::{Comparison, compare};
+use robots_same::rule::{Rule, rules_of};
+use robots_warnings::closed::Reach;
+use robots_warnings::read::FileRead;
+use std::alloc::{AllocError, Global};
+use texting_robots::Robot;
+use texting_robots::robot::Decision;
+
+/// A path whose verdict changes.
+#[derive(Drop)]
+pub struct Example {
+    pub path: String,
+    pub older: Decision,
+    pub newer: Decision,
+}
+
+/// What the crawler may fetch, and a path whose verdict changes.
+#[derive(Drop)]
+pub struct Change {
+    pub older: Reach,
+    pub newer: Reach,
+    pub example: Example,
+}
+
+/// What becomes of the verdicts of all URLs.
+#[derive(Drop)]
+pub enum Verdicts {
+    /// None changes.
+    Same,
+    /// Some change.
+    Other(Change),
+    Undecided,
+}
+
+pub(crate) fn is_same(verdicts: &Verdicts) -> bool
+    ensures { result ≡ is_same verdicts.now }
+{
+    matches!(verdicts, Verdicts::Same)
+}
+
+fn are_same(
+    alloc: Global,
+    rules: &[Rule],
+    others: &[Rule],
+    budget: usize,
+) -> Result<bool, AllocError>
+    ensures { IfOk result (λ same. IsTrue same → HaveSameVerdicts (codes "/") rules.now others.now) }
+{
+    match compare(alloc, b"/", rules, others, budget)? {
+        Comparison::Same => Ok(true),
+        _ => Ok(false),
+    }
+}
+
+/// A part is also said if the budget is too small.
+fn reach_of(alloc: Global, rules: &[Rule], budget: usize) -> Result<Reach, AllocError>
+    ensures { IfOk result (IsReach rules.now) }
+{
+    let mut others = Vec::new(alloc);
+    if are_same(alloc, rules, &others, budget)? {
+        return Ok(Reach::Everything);
+    }
+    others.push(Rule {
+        pattern: String::from_str(alloc, "/")?,
+        is_allow: false,
+    })?;
+    if are_same(alloc, rules, &others, budget)? {
+        return Ok(Reach::Nothing);
+    }
+    Ok(Reach::Part)
+}
+
+/// The path with its decisions, if the verdict changes.
+fn example_on(
+    alloc: Global,
+    older: &Robot,
+    newer: &Robot,
+    path: &str,
+) -> Result<Option<Example>, Fault>
+    ensures ok { IfOk result (λ found. IfSome found (IsExample older.now.rules newer.now.rules)) }
+    ensures fault { IfErr result (λ fault. fault ≡ Fault.Memory) }
+{
+    let was = decision_on(alloc, older, path)?;
+    let is = decision_on(alloc, newer, path)?;
+    if was.allowed == is.allowed {
+        return Ok(None);
+    }
+    Ok(Some(Example {
+        path: String::from_str(alloc, path)?,
+        older: was,
+        newer: is,
+    }))
+}
+
+/// The home page, or else this path.
+fn example_among(
+    alloc: Global,
+    older: &Robot,
+    newer: &Robot,
+    text: &[u8],
+) -> Result<Option<Example>, Fault>
+    ensures ok { IfOk result (λ found. IfSome found (IsExample older.now.rules newer.now.rules)) }
+    ensures fault { IfErr result (λ fault. fault ≡ Fault.Memory) }
+{
+    if let Some(home) = example_on(alloc, older, newer, "/")? {
+        return Ok(Some(home));
+    }
+    match std::str::from_utf8(text) {
+        Ok(path) => example_on(alloc, older, newer, path),
+        Err(_) => Ok(None),
+    }
+}
+
+/// The same, unless one of the files is rejected for the crawler.
+fn example_for(
+    alloc: Global,
+    agent: &str,
+    older: &FileRead<'_>,
+    newer: &FileRead<'_>,
+    text: &[u8],
+) -> Result<Option<Example>, Fault>
+    requires older { IsRead older.now }
+    requires newer { IsRead newer.now }
+    ensures ok { IfOk result (λ found. IfSome found
+        (IsExample (placed_rules agent.now (lines_read older.now.bytes.now))
+        (placed_rules agent.now (lines_read newer.now.bytes.now)))) }
+    ensures fault { IfErr result (λ fault. fault ≡ Fault.Memory) }
+{
+    let Reading::Accepted(was) = read_for(alloc, agent, older)? else {
+        return Ok(None);
+    };
+    let Reading::Accepted(is) = read_for(alloc, agent, newer)? else {
+        return Ok(None);
+    };
+    example_among(alloc, &was, &is, text)
+}
+
+/// What becomes of the verdicts if the rules differ. The budget bounds each of three comparisons. That they
+/// change is only said with an example, and of that both robots are asked.
+pub(crate) fn verdicts_for(
+    alloc: Global,
+    agent: &str,
+    older: &FileRead<'_>,
+    newer: &FileRead<'_>,
+    budget: usize,
+) -> Result<Verdicts, Fault>
+    requires older { IsRead older.now }
+    requires newer { IsRead newer.now }
+    ensures ok { IfOk result (AreVerdicts (placed_rules agent.now (lines_read older.now.bytes.now))
+        (placed_rules agent.now (lines_read newer.now.bytes.now))) }
+    ensures fault { IfErr result (λ fault. fault ≡ Fault.Memory) }
+{
+    let old_rules = rules_of(alloc, &older.site, agent)?;
+    let new_rules = rules_of(alloc, &newer.site, agent)?;
+    let text = match compare(alloc, b"/", &old_rules, &new_rules, budget)? {
+        Comparison::Same => return Ok(Verdicts::Same),
+        Comparison::Differ(text) => text,
+        Comparison::Undecided => Vec::new(alloc),
+    };
+    let Some(example) = example_for(alloc, agent, older, newer, &text)? else {
+        return Ok(Verdicts::Undecided);
+    };
+    Ok(Verdicts::Other(Change {
+        older: reach_of(alloc, &old_rules, budget)?,
+        newer: reach_of(alloc, &new_rules, budget)?,
+        example,
+    }))
+}
