@@ -1,5 +1,6 @@
 """`robots_audit --needless`: if all lines that it reports are deleted, every verdict is the same."""
 
+import itertools
 import json
 import random
 import re
@@ -79,6 +80,27 @@ def test_some_lines_are_reported():
     """The files above aren't all without needless rules."""
     lines = ["User-agent: *", "Disallow: /a", "Disallow: /ab", "Allow: /b", "Disallow: /a$b", "Disallow: /*c", "Disallow: /c"]
     assert found_in(lines) == [3, 4, 5, 7]
+
+
+TEXTS = ["/" + "".join(letters) for size in range(5) for letters in itertools.product("abc", repeat=size)]
+
+
+@pytest.mark.parametrize("seed", range(20))
+def test_every_needless_rule_is_found(seed):
+    """Without any other rule, the verdict on some short path is another one."""
+    some = random.Random(seed)
+    rules = [f"{some.choice(['Allow', 'Disallow'])}: {some.choice(PATHS)}" for _ in range(8)]
+    lines = ["User-agent: a", *rules]
+    numbers = found_in(lines)
+    left = [line for number, line in enumerate(lines, 1) if number not in numbers]
+
+    def verdicts(lines):
+        report = json.loads(run("robots_audit", ["--json", "--agent=a", "-", *TEXTS], "\n".join(lines).encode()).out)
+        return [verdict["allowed"] for verdict in report["agents"][0]["verdicts"]]
+
+    for at, line in enumerate(left[1:], 1):
+        if len(left) > 2 and line not in ("Allow: /", "Allow: ", "Disallow: "):
+            assert verdicts(left[:at] + left[at + 1 :]) != verdicts(left), (lines, line)
 
 
 # Files, and their needless lines. No theorem says that they are found, only that what is found is needless.
