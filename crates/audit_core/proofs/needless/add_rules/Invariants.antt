@@ -1,6 +1,6 @@
 use Rattle.std.proofs.Common.{◌≡◌, ◌++◌, map, take}
 use Rattle.audit_core.specs.Needless.{needless_warning}
-use Rattle.audit_core.proofs.needless.add_needless.Given as goal
+use Rattle.audit_core.proofs.needless.add_rules.Given as goal
 
 abbrev pub invariant-loop-rule : goal.invariant-loop-rule
 invariant-loop-rule l =
