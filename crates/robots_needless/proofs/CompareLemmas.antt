@@ -1,11 +1,11 @@
 -- What comparisons of lists of rules say.
 use mathlib.Core.Logic.Iff
-use Rattle.std.proofs.Common.{rules}
 use Rattle.std.proofs.Common.{◌≡◌, ◌≢◌, ◌<◌, ◌≤◌, ◌+◌, ◌*◌, ◌↔◌, ◌⊎◌, inl, inr, ℕ, zero, suc, Bool, true, false, List, []}
-use Rattle.std.proofs.Common.{◌∷◌, ◌++◌, Contains, arith, get_or, length, map-append, refl, subst, sym}
+use Rattle.std.proofs.Common.{◌∷◌, ◌++◌, Contains, arith, get_or, length, refl, subst, sym}
 use Rattle.std.proofs.Common.{bytes_eq}
 use Rattle.std.proofs.lemmas.Bool.{cases_Bool, ne_eqb}
 use Rattle.std.proofs.lemmas.Bool.Decides.{not_from_Decides}
+use Rattle.std.proofs.lemmas.List.{map-append}
 use Rattle.std.proofs.lemmas.List.Elements.{Contains-append_cases, Contains-append_left, Contains-append_right}
 use Rattle.std.proofs.lemmas.List.Elements.{Contains-push, Contains-push_cases}
 use Rattle.std.proofs.lemmas.Slice.Eq.{bytes_eq-Decides}
@@ -66,11 +66,15 @@ same_denied some others text members =
 
 last_cases : (some : List PlacedRule) (rule : PlacedRule) (x : Rule)
     → Contains (unplaced (some ++ rule ∷ [])) x → Contains (unplaced some) x ⊎ (◌≡◌ {A = Rule} rule.rule x)
-last_cases some rule x = search (rules, map-append, Contains-push_cases)
+last_cases some rule x has =
+    Contains-push_cases (unplaced some) rule.rule x
+    (rw (map-append (λ (placed : PlacedRule). placed.rule) some (rule ∷ [])) at has)
 
 to_last : (some : List PlacedRule) (rule : PlacedRule) (x : Rule)
     → Contains (unplaced some) x ⊎ (◌≡◌ {A = Rule} rule.rule x) → Contains (unplaced (some ++ rule ∷ [])) x
-to_last some rule x (inl has) = search (rules, map-append, Contains-append_left)
+to_last some rule x (inl has) =
+    rw (map-append (λ (placed : PlacedRule). placed.rule) some (rule ∷ []))
+    (Contains-append_left (unplaced some) (rule.rule ∷ []) x has)
 to_last some rule x (inr same) =
     subst (Contains (unplaced (some ++ rule ∷ []))) same
     (unplaced_of (some ++ rule ∷ []) rule (Contains-push some rule))
@@ -211,27 +215,34 @@ kinds_differ p q same = grind arith
 same_pattern : (p q : List ℕ) → ◌≡◌ {A = Rule} (p, false) (q, false) → p ≡ q
 same_pattern p q same = grind arith
 
-none_allows : (w n q : List ℕ) → ¬ Contains ((w, false) ∷ (n, false) ∷ []) (q, true)
-none_allows w n q has = elim (cons_cases (w, false) ((n, false) ∷ []) (q, true) has) [
-  | inl same ↦ kinds_differ w q same
-  | inr (zero, below, at) ↦ kinds_differ n q at
-  | inr (suc k, below, at) ↦ absurd (omega arith)
+no_allow : (p q : List ℕ) (others : List Rule) → ¬ Contains {X = Rule} others (q, true)
+    → ¬ Contains {X = Rule} ((p, false) ∷ others) (q, true)
+no_allow p q others none has = elim (cons_cases {A = Rule} (p, false) others (q, true) has) [
+  | inl same ↦ kinds_differ p q same
+  | inr other ↦ none other
 ]
+
+no_allows : (p q : List ℕ) → ¬ Contains {X = Rule} ((p, false) ∷ []) (q, true)
+no_allows p q = no_allow p q [] (λ (k, below, at). omega arith)
 
 matched_by : (w text : List ℕ) → IsDenied ((w, false) ∷ []) text → Matches w text
 matched_by w text (differs, p, (zero, below, at), fits, longest) =
     subst (λ r. Matches r text) (sym (same_pattern w p at)) fits
 matched_by w text (differs, p, (suc k, below, at), fits, longest) = absurd (omega arith)
 
-pub covers_by : (both one : List Rule) (w n : List ℕ) → both ≡ (w, false) ∷ (n, false) ∷ []
-    → one ≡ (w, false) ∷ [] → HaveSameVerdicts [] both one → Covers w n
-covers_by both one w n refl refl same text differs fits =
-    matched_by w text ((same text false).0
-    (differs, n, (1, omega arith, refl), fits, λ q has. absurd (none_allows w n q has)))
+pub covers_by : (w n : List ℕ) → HaveSameVerdicts [] ((w, false) ∷ (n, false) ∷ []) ((w, false) ∷ [])
+    → Covers w n
+covers_by w n same text differs fits =
+    matched_by w text ((same text false).0 (
+      differs,
+      n,
+      (1, omega arith, refl),
+      fits,
+      λ q has. absurd (no_allow w q ((n, false) ∷ []) (no_allows n q) has),
+    ))
 
-pub nothing_by : (rules : List Rule) (p : List ℕ) → rules ≡ (p, false) ∷ [] → HaveSameVerdicts [] rules []
-    → MatchesNothing p
-nothing_by rules p refl same text fits = elim (cases_Bool (bytes_eq text robots_file)) [
+pub nothing_by : (p : List ℕ) → HaveSameVerdicts [] ((p, false) ∷ []) [] → MatchesNothing p
+nothing_by p same text fits = elim (cases_Bool (bytes_eq text robots_file)) [
   | inl file ↦ (bytes_eq-Decides text robots_file).0 file
   | inr other ↦
       let differs = not_from_Decides _ (bytes_eq-Decides text robots_file) other in
@@ -240,7 +251,7 @@ nothing_by rules p refl same text fits = elim (cases_Bool (bytes_eq text robots_
         p,
         (0, omega arith, refl),
         fits,
-        λ q (k, below, at) here. absurd (grind arith),
+        λ q has. absurd (no_allows p q has),
       ) in
       absurd (omega arith)
 ]

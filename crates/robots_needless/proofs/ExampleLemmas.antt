@@ -1,7 +1,7 @@
 -- The worked examples.
 use mathlib.Core.Logic.Iff
 use Rattle.std.proofs.Common.{◌≢◌, ◌↔◌, ℕ, zero, suc, Bool, true, false, List, []}
-use Rattle.std.proofs.Common.{◌∷◌, Contains, codes, refl, arith}
+use Rattle.std.proofs.Common.{◌∷◌, Contains, ap, codes, length, refl, arith}
 use Rattle.std.proofs.lemmas.Bool.{false≢true}
 use Rattle.texting_robots.specs.{Rules.PlacedRule, Rules.Rule, Rules.unplaced, Verdict.IsVerdict}
 use Rattle.texting_robots.specs.Pattern.{Matches, MatchesWith}
@@ -15,16 +15,15 @@ use Rattle.robots_needless.specs.Examples as example
 again : (others : List Rule) (text : List ℕ) (answer : Bool)
     → IsVerdict ((codes "/a", false) ∷ (codes "/a", false) ∷ others) text answer
     ↔ IsVerdict ((codes "/a", false) ∷ others) text answer
-again others text = verdicts _ _ text (same_denied _ _ text (λ x here. (less x, more x)))
+again others text =
+    let rule : Rule = (codes "/a", false) in
+    verdicts (rule ∷ rule ∷ others) (rule ∷ others) text
+    (same_denied (rule ∷ rule ∷ others) (rule ∷ others) text (λ x here. (less x, λ (k, below, at). (suc k, omega arith, at))))
   where
-    less : (x : Rule) → Contains ((codes "/a", false) ∷ (codes "/a", false) ∷ others) x
-        → Contains ((codes "/a", false) ∷ others) x
+    less : (x : Rule) → Contains {X = Rule} ((codes "/a", false) ∷ (codes "/a", false) ∷ others) x
+        → Contains {X = Rule} ((codes "/a", false) ∷ others) x
     less x (zero, below, at) = (0, omega arith, at)
     less x (suc k, below, at) = (k, omega arith, at)
-
-    more : (x : Rule) → Contains ((codes "/a", false) ∷ others) x
-        → Contains ((codes "/a", false) ∷ (codes "/a", false) ∷ others) x
-    more x (k, below, at) = (suc k, omega arith, at)
 
 pub one_of_two : example.one_of_two
 one_of_two = (
@@ -50,12 +49,12 @@ between = λ needless.
 
 wider : (text : List ℕ) → Matches (codes "/b*a$") text → Matches (codes "/*a") text
 unfolding MatchesWith
-wider text (s, slash, u, b, v, below, w, a, ends) =
-    (s, slash, v, suffix_trans below (98 ∷ [], b), w, a, tt)
+wider text (s, slash, (u, b, (v, below, (w, a, ends)))) =
+    (s, slash, (v, suffix_trans below (98 ∷ [], b), (w, a, tt)))
 
 pub covering : example.covering
 covering = (
   λ text differs fits. wider text fits,
   λ covers. not_matching true (codes "/b*a$") (codes "/a") refl
-      (covers (codes "/a") (λ same. omega arith) (matching _ _ _ refl)),
+      (covers (codes "/a") (λ same. omega (arith, ap length same)) (matching _ _ _ refl)),
 )

@@ -54,7 +54,20 @@ pub settled_more : (P : NeedlessRule → Type 0) (lines : List LineValue) (agent
 settled_more P lines agents last old new stayed stays are grow more accepted is agent has =
     elim (Contains-push_cases agents last agent has) [
       | inl before ↦
-          let (all, was) = are agent before in (grind arith)
+          let (accepted, was) = are agent before in
+          let reduced = was.reduced in (
+            accepted,
+            record {
+              left = was.left;
+              reduced = record {
+                removed = reduced.removed;
+                same = reduced.same;
+                denied = reduced.denied;
+                go = λ placed has. grow.found placed.line (reduced.go placed has);
+              };
+              stay = λ placed has. more placed.line (was.stay placed has);
+            },
+          )
       | inr same ↦
           subst (λ a. (¬ IsRejected a lines) × IsSettled (placed_rules a lines) new stays)
           same (accepted, is)

@@ -12,7 +12,7 @@ use mathlib.Core.Logic.Iff
 use Rattle.std.proofs.lemmas.List.Elements.{All-contains, All-contains_itself, All-filter, filter_passes}
 use Rattle.std.proofs.lemmas.List.Elements.{Contains-append_cases, Contains-append_left, Contains-push}
 use Rattle.std.proofs.lemmas.List.Sorted.{Contains-permutation, IsPermutation-sym}
-use Rattle.std.proofs.lemmas.List.Sorted.{IsPermutation-append_left}
+use Rattle.std.proofs.lemmas.List.Sorted.{IsPermutation-append_comm, IsPermutation-append_left, IsPermutation-append_right}
 use Rattle.std.proofs.lemmas.List.Sorted.{IsPermutation-trans}
 use Rattle.std.proofs.lemmas.List.{get_or-map, length-map}
 use Rattle.std.proofs.lemmas.List.{Folds.Any-from_list_any, Folds.list_any_at}
@@ -151,6 +151,11 @@ updated : (old new : Reasons) (line : ℕ) (reason : Reason) → Updates nat_cmp
     → ((line ≡ n) × (get nat_cmp new n ≡ Some reason)) ⊎ (get nat_cmp new n ≡ get nat_cmp old n)
 updated old new line reason set n = grind arith
 
+rest_to_front : (front rest : List PlacedRule) (rule : PlacedRule)
+    → IsPermutation (front ++ (rest ++ rule ∷ [])) ((front ++ rule ∷ []) ++ rest)
+rest_to_front front rest rule =
+    search (rules, append_assoc, IsPermutation-append_right, IsPermutation-append_comm)
+
 module _ {all left : List PlacedRule} {start found : Reasons} (is : IsReducing all left start found) where
   pub reordered : (others : List PlacedRule) → IsPermutation left others → IsReducing all others start found
   reordered others same = record {
@@ -164,10 +169,17 @@ module _ {all left : List PlacedRule} {start found : Reasons} (is : IsReducing a
     grow = is.grow;
   }
 
-  pub rule_gone : (others : List PlacedRule) (rule : PlacedRule) → left ≡ others ++ rule ∷ []
-      → (reason : Reason) (new : Reasons) → Goes others rule reason
-      → Updates nat_cmp found new rule.line (Some reason) → IsReducing all others start new
-  rule_gone others rule last reason new goes set =
+  pub rule_stays : (kept rest : List PlacedRule) (rule : PlacedRule) → left ≡ kept ++ (rest ++ rule ∷ [])
+      → IsReducing all ((kept ++ rule ∷ []) ++ rest) start found
+  rule_stays kept rest rule last =
+      reordered ((kept ++ rule ∷ []) ++ rest) (rw last (rest_to_front kept rest rule))
+
+  pub rule_gone : (kept rest : List PlacedRule) (rule : PlacedRule) → left ≡ kept ++ (rest ++ rule ∷ [])
+      → (reason : Reason) (new : Reasons) → Goes (kept ++ rest) rule reason
+      → Updates nat_cmp found new rule.line (Some reason) → IsReducing all (kept ++ rest) start new
+  rule_gone kept rest rule is_left reason new goes set =
+      let others = kept ++ rest in
+      let last : left ≡ others ++ rule ∷ [] = is_left ∙ sym (append_assoc kept rest (rule ∷ [])) in
       let removed = is.reduced.removed in
       let same : IsPermutation all ((others ++ rule ∷ []) ++ removed) = rw last at is.reduced.same in
       let listed : (placed : PlacedRule) → Contains (others ++ rule ∷ []) placed → Contains all placed =

@@ -1,6 +1,6 @@
 -- When the check finds a rule needless, and what it collects.
 use Rattle.std.specs.Prelude.{◌≡◌, ◌⊎◌, ◌↔◌, ℕ, Bool, List, [], ◌∷◌, ◌++◌, Contains, IsPermutation}
-use Rattle.std.specs.Prelude.{Some, not}
+use Rattle.std.specs.Prelude.{Some, not, true}
 use Rattle.std.specs.BTreeSet.{BTreeSet, contains}
 use Rattle.std.specs.{BTreeMap.BTreeMap, BTreeMap.get, List.list_all, Option.IsSome, Ordering.nat_cmp}
 use Rattle.texting_robots.specs.Callers.{IsDenied, IsRejected, LineValue, Matches, PlacedRule, placed_rules}

@@ -12,7 +12,7 @@ pub returns-clause-accepted : goal.returns-clause-accepted
 returns-clause-accepted c rejected =
     let agent = c.args.agent.now in
     let file = c.args.site.now in
-    let (_, sitemaps, is) = c.in-Ok.ensures in
+    let (_, sitemaps, is) = c.in-Ok.ensures.robot in
     not_rejected agent file _ is (has_lines file (IsRejected agent) rejected)
 
 pub returns-clause-settled : goal.returns-clause-settled
