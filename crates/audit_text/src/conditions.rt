@@ -112,7 +112,7 @@ static CONDITIONS: [(&str, &str); 63] = [
     ("needless-rule",
         "with --needless: the rule matches nothing, another rule matches everything that it matches and makes it superfluous, or it is an Allow of what is allowed without it, and all such rules can be deleted together; deleting only some of them may change a verdict. Allow: / and an empty Disallow are meant as they are, and none is reported if the file is larger than 512,000 bytes or rejected for a crawler, if its first line would begin with a byte of a byte order mark then, or if crawlers need each other's rules in too many ways; nor a rule without which User-agent lines would join those below. Crawlers that apply the first rule that matches, or read an empty Disallow otherwise, may need them, so mend empty-disallow first"),
     ("needless-undecided",
-        "with --needless: comparing a crawler's rules without this one would take too long, so neither this one nor those above it in rank are reported as needless-rule, unless they are for another crawler"),
+        "with --needless: comparing a crawler's rules with and without this one would take too long; neither it nor those that are tried after it are reported as needless-rule"),
 ];
 
 /// What is proved about what warnings report, with the theorem of `warnings_laws`.

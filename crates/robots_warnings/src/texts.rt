@@ -175,7 +175,7 @@ pub(crate) static MESSAGES: [(Cause, &str); 86] = [
     (Cause::NotNeeded,
         "this rule isn't needed: if all needless rules are deleted, the verdicts stay the same; at least one crawler also gets another one of its kind, which matches everything that it matches; delete it together with the others, or correct it"),
     (Cause::NeedlessUndecided,
-        "whether this rule can be deleted isn't decided, nor whether longer rules of its crawler can, as there are too many rules, or too many *"),
+        "whether this rule can be deleted isn't decided, nor whether some others of its crawler can, as there are too many rules, or too many *"),
 ];
 
 /// In this order, too: a file that triggers the warning in a report on all crawlers, or as robots.txt in the
@@ -268,5 +268,5 @@ pub(crate) static EXAMPLES: [(Cause, &str); 86] = [
     (Cause::MatchesNothing, "# robots_audit robots.txt --needless\nUser-agent: *\nDisallow: /a\nDisallow: /$b"),
     (Cause::AllowedAnyway, "# robots_audit robots.txt --needless\nUser-agent: *\nDisallow: /a\nAllow: /b"),
     (Cause::NotNeeded, "# robots_audit robots.txt --needless\nUser-agent: *\nDisallow: /a\nDisallow: /ab"),
-    (Cause::NeedlessUndecided, "# robots_audit robots.txt --needless\nUser-agent: *\nDisallow: /\\{3000 a*}b"),
+    (Cause::NeedlessUndecided, "# robots_audit robots.txt --needless\nUser-agent: *\nDisallow: /\\{2000 a*}b"),
 ];
