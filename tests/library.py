@@ -12,7 +12,13 @@ from support import CC, CRATES, ROOT
 
 LIBRARY = CRATES / "robots_c"
 ARCHIVE = LIBRARY / "out/librobots_c.a"
-DEPENDENCIES = re.search(r"^robots_c staticlib: (.*)$", (ROOT / "crates.txt").read_text(), re.M)[1].split()
+ROWS = {name: row.split() for name, row in re.findall(r"^(\w+)[^:#\n]*:(.*)$", (ROOT / "crates.txt").read_text(), re.M)}
+
+
+def below(crate):
+    """The crates of the repository that a crate uses, directly or through others."""
+    used = [it for it in ROWS[crate] if it in ROWS]
+    return {*used}.union(*map(below, used))
 
 
 def is_built(made, *crates):
@@ -32,12 +38,14 @@ def rlib(name):
 
 
 def build_archive():
-    """Proves and builds the library over what `rt ci` left, as `rt lib` does over libraries that it proves once more, in minutes."""
-    for name in filter(lambda it: (CRATES / it).is_dir(), DEPENDENCIES):
+    """Proves the exports and builds the library over what `rt ci` left, as `rt lib` does over libraries that it proves once more."""
+    for name in below("robots_c"):
         assert is_built(rlib(name), name), f"crates/{name} isn't built: run `rt ci`, or `rt lib` in crates/robots_c"
     words = [kit() / "bin/rattle", "build", "--crate-name", "robots_c", "src/lib.rt", "--crate-type", "staticlib"]
-    for name in ["std", *DEPENDENCIES]:
-        words += ["--extern", f"{name}={rlib(name)}", "-L", f"dependency={rlib(name).parent}"]
+    for name in ["std", *ROWS["robots_c"]]:
+        words += ["--extern", f"{name}={rlib(name)}"]
+    for name in ["std", *below("robots_c")]:
+        words += ["-L", f"dependency={rlib(name).parent}"]
     words += ["--antt-project", kit() / "rattle/logic/antt-project.json", "--logic-built", kit() / "logic_built"]
     words += ["--toolchain", kit() / "toolchain", "--backend", "llvm", "-o", ARCHIVE, "--jobs", str(len(os.sched_getaffinity(0)))]
     words += ["--incremental", ARCHIVE.parent / "incremental"]  # so that a later build proves what changed
@@ -48,7 +56,7 @@ def build_archive():
 
 def archive():
     """The path of the library, which is built if its sources have changed."""
-    if not is_built(ARCHIVE, "robots_c", "printable_text", "robots_responses", "texting_robots"):
+    if not is_built(ARCHIVE, "robots_c", *below("robots_c")):
         build_archive()
     return ARCHIVE
 

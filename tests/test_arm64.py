@@ -5,7 +5,7 @@ import subprocess
 from pathlib import Path
 
 import pytest
-from library import LIBRARY, is_built, make
+from library import LIBRARY, below, is_built, make
 from support import ROOT, cases_of, input_of, run, spelled, wanted_of
 from test_c_library import STRICT
 
@@ -14,7 +14,7 @@ TOOLS = "aarch64-linux-gnu-"
 QEMU = Path(shutil.which("qemu-aarch64") or "/")
 if not QEMU.is_file() or not shutil.which(f"{TOOLS}gcc"):
     pytest.skip(f"qemu-aarch64 or {TOOLS}gcc is missing", allow_module_level=True)
-if not is_built(ARCHIVE, "robots_c", "printable_text", "robots_responses", "texting_robots"):
+if not is_built(ARCHIVE, "robots_c", *below("robots_c")):
     pytest.skip("./release --all hasn't built the C library for arm64", allow_module_level=True)
 CASES = cases_of((ROOT / "tests/golden/ask.toml").read_text())
 

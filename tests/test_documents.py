@@ -14,8 +14,8 @@ from support import ALL_WARNINGS, CRATES, DOCUMENTS, PAGES, ROOT, WARNINGS, prog
 LIBRARY = CRATES / "texting_robots"
 FINDINGS = {
     name for crate in ("compare/specs/Compare", "expect/specs/Expectations")
-    for name in re.findall(r'(?:note \(| \{ text = )codes "(.*?)"', (CRATES / f"audit_{crate}.antt").read_text())
-} - {"same-rules", "unchanged"}  # the text alone says so; fmt: skip
+    for name in re.findall(r'codes "(.*?)"', (CRATES / f"audit_{crate}.antt").read_text())
+} - {"same-rules"}  # the text alone says so; fmt: skip
 README, GUIDE, PROGRAMS, PROOFS, CONTRACTS = map(DOCUMENTS.get, ["README.md", *(f"docs/{name}.md" for name in ("GUIDE", "PROGRAMS", "PROOFS", "CONTRACTS"))])
 
 

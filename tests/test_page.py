@@ -183,7 +183,7 @@ def test_page_on_a_small_file():
 def test_page_has_no_start_of_a_command():
     """GitHub takes `##[` for one, whether it is in one text or between two."""
     file = b"User-agent: *\nDisallow: /##[error]a\nDisallow: /##\xff[a # ##[error]b\nSitemap: https://example.com/##[error]c\n##[error]d\n"
-    written = page("--agent=Ferris", "--date", "##[error]e", "-", "/##[error]f", "/#", "[", file=file)
+    written = page("--agent=Ferris", "--date", "##[error]e", "-", "/##[error]f", "/#", "/[", file=file)
     assert "##[" not in written and "<dd>%23%23&lsqb;error]e</dd>" in written
 
 

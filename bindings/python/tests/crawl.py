@@ -32,8 +32,9 @@ def no_more_memory():
 class WithoutMemoryToParse(RobotParser):
     @classmethod
     def from_crawler(cls, crawler, robotstxt_body):
-        with no_more_memory() if robotstxt_body else contextlib.nullcontext():
-            return super().from_crawler(crawler, robotstxt_body)
+        body = bytearray(robotstxt_body)  # which the parser copies
+        with no_more_memory() if body else contextlib.nullcontext():
+            return super().from_crawler(crawler, body)
 
 
 class WithoutMemoryToDecide(RobotParser):

@@ -97,12 +97,16 @@ def test_verdicts_within_a_budget():
 
 
 def test_size():
-    """Each byte of a file is kept twice. A robot takes 74 bytes for each of 60 rules, and the one of all agents that no line names is shared."""
-    assert Robots(b"#" * 1000).size - Robots(b"").size == 2000
-    file = Robots(b"User-agent: own\nUser-agent: *\n" + b"Disallow: /a\n" * 60)
+    """Each byte of a file is kept once for one agent, and else twice. A robot takes 74 bytes for each of 60 rules, and the one of all agents
+    that no line names is shared."""
+    empty, long = Robots(b""), Robots(b"#" * 1000)
+    assert long.size == 1000 and long.allowed("/", "x") and empty.allowed("/", "x") and long.size - empty.size == 1000
+    assert long.allowed("/", "y") and empty.allowed("/", "y") and long.size - empty.size == 2000
+    body = b"User-agent: own\nUser-agent: *\n" + b"Disallow: /a\n" * 60
+    file = Robots(body)
     sizes = [file.size for agent in ["own", "x", "y", "own"] if file.allowed("/", agent)]
-    own, unnamed = sizes[0] - Robots(bytes(file._site.body)).size, sizes[1] - sizes[0]
-    assert own == unnamed and 60 * 74 < own < 60 * 74 + 400 and sizes[2:] == [sizes[1]] * 2
+    own = sizes[0] - len(body)
+    assert 60 * 74 < own < 60 * 74 + 400 and sizes[1] > 2 * len(body) + own and sizes[2:] == [sizes[1], sizes[1] + own]
 
 
 def test_denials():
@@ -206,6 +210,7 @@ def test_agents_that_are_not_named_share_the_group_of_all():
     for agent in ["", "*", "OtherBot", "Ferris", "bötbot"]:
         assert robots.verdicts(["/all", "/ferris"], agent) == [Verdict(False, 2), Verdict(True, None)]
     assert robots.verdicts(["/all", "/ferris"], "FERRISBOT") == [Verdict(True, None), Verdict(False, 4)]
+    assert robots.allowed("/", "")
     kept = {agent: robot._opened for agent, robot in robots._site.robots.items()}
     assert kept[""] == kept["OtherBot"] == kept["Ferris"] != kept["FERRISBOT"]
 

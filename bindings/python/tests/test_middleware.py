@@ -291,11 +291,11 @@ def test_lifetime(monkeypatch):
 def test_the_file_that_was_not_used_for_longest_goes_first():
     """The bytes are random, so that none is kept compressed."""
     filler = b"#" + random.Random(1).randbytes(9000).replace(b"\n", b"#")
-    robots, crawler = ours(file(filler), TEXTING_ROBOTS_BUDGET=45_000)
+    robots, crawler = ours(file(filler), TEXTING_ROBOTS_BUDGET=36_000)
     for name, fetched in [("a", 1), ("b", 1), ("a", 0), ("c", 1), ("a", 0), ("c", 0), ("b", 1), ("a", 1)]:
         before = len(crawler.engine.requests)
         assert allowed(robots, f"http://{name}.example/") and len(crawler.engine.requests) - before == fetched, name
-    assert robots._cache.size == sum(site.memory + site.size for site in robots._cache._sites.values()) <= 45_000
+    assert robots._cache.size == sum(site.memory + site.size for site in robots._cache._sites.values()) <= 36_000
 
 
 def test_a_file_that_is_larger_than_the_budget_is_kept_alone():

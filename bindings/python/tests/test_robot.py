@@ -33,11 +33,12 @@ def test_a_robot_says_what_the_file_says_to_its_crawler():
     assert Robot(memoryview(SHOP), "x").verdicts(["/search\n", "/b"]) == [Verdict(False, 2), Verdict(True, None)]
 
 
-def test_it_takes_about_half_the_memory():
-    file = b"User-agent: *\n" + b"".join(b"Disallow: /thread/%d\n" % n for n in range(100, 140))
-    robots = Robots(file)
-    assert robots.allowed("/", "FerrisBot")
-    assert len(file) < 969 and Robot(file, "FerrisBot").size < 0.6 * robots.size
+def test_a_robots_of_one_agent_takes_the_memory_of_a_robot_and_of_the_file():
+    file = b"User-agent: *\nCrawl-delay: 1\nSitemap:/\n" + b"".join(b"Disallow: /account/archives/%d\n" % n for n in range(10, 40))
+    robots, robot = Robots(file), Robot(file, "FerrisBot")
+    assert robots.allowed("/", "FerrisBot") and robots.delay("FerrisBot") == robot.delay == 1 and robots.sitemaps == ["/"]
+    assert robots.size == len(file) + robot.size < 3700 and len(file) == 969
+    assert robots.allowed("/", "x") and robots.size > 2 * len(file) + robot.size
 
 
 def test_its_errors():

@@ -81,7 +81,7 @@ def test_a_long_call_lets_other_threads_run():
 
     def parse():
         for _ in range(20):
-            Robots(b"a\n" * 250_000)
+            Robots(b"a\n" * 250_000).allowed("/", "a")
         done.set()
 
     thread = threading.Thread(target=parse)

@@ -131,6 +131,18 @@ fn url_changes<'a>(
     Ok(found)
 }
 
+fn changes_between<'a>(
+    alloc: Global,
+    rules: &RuleChanges,
+    older: &AgentAudit<'a>,
+    newer: &AgentAudit<'a>,
+) -> Result<Vec<UrlChange<'a>>, AllocError>
+    ensures { IfOk result (λ found. found.items
+        ≡ url_changes rules.now.removed.items rules.now.added.items older.now.verdicts newer.now.verdicts) }
+{
+    url_changes(alloc, rules, &older.verdicts, &newer.verdicts)
+}
+
 pub(crate) fn compared_for<'a>(
     alloc: Global,
     agent: &'a str,
@@ -147,7 +159,7 @@ pub(crate) fn compared_for<'a>(
     let older_audit = audit_for(alloc, agent, older, urls)?;
     let newer_audit = audit_for(alloc, agent, newer, urls)?;
     let rules = rule_changes(alloc, agent, &older.site, &newer.site)?;
-    let changes = url_changes(alloc, &rules, &older_audit.verdicts, &newer_audit.verdicts)?;
+    let changes = changes_between(alloc, &rules, &older_audit, &newer_audit)?;
     Ok(Compared {
         agent,
         older: older_audit,

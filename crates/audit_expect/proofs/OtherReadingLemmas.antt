@@ -272,13 +272,11 @@ no_mark [] place past = refl
 no_mark (label ∷ labels) zero past = absurd (omega (arith, past))
 no_mark (label ∷ labels) (suc place) past = no_mark labels place (omega (arith, past))
 
-pub marked_at : (labels : List LabeledLine) (number : ℕ) (line d : LabeledLine) → number ≢ 0
-    → number - 1 < length labels → line ≡ slice_index_or labels (number - 1) d
+pub marked_at : (labels : List LabeledLine) (number place : ℕ) (line d : LabeledLine) → number ≡ suc place
+    → place < length labels → line ≡ slice_index_or labels place d
     → is_empty_label (label_by_value line) ≡ is_marked (marks_in (map label_by_value labels)) number
-marked_at labels zero line d some within is = absurd (some refl)
-marked_at labels (suc place) line d some within is = rw is (sym (mark_at labels place d within))
+marked_at labels number place line d next within is = rw (next, is) (sym (mark_at labels place d within))
 
-pub unmarked_at : (labels : List LabeledLine) (number : ℕ) → length labels ≤ number - 1
+pub unmarked_at : (labels : List LabeledLine) (number place : ℕ) → number ≡ suc place → length labels ≤ place
     → false ≡ is_marked (marks_in (map label_by_value labels)) number
-unmarked_at labels zero past = refl
-unmarked_at labels (suc place) past = sym (no_mark labels place past)
+unmarked_at labels number place next above = rw next (sym (no_mark labels place above))

@@ -131,10 +131,10 @@ fn add_if_failing(alloc: Global, found: &mut Findings, checked: &Checked<'_>) ->
     Ok(add(alloc, found, Level::Error, line, "expectation", &message)?)
 }
 
-fn failures(
+fn failures<'a>(
     alloc: Global,
-    expectations: &[Expectation<'_>],
-    read: &FileRead<'_>,
+    expectations: &[Expectation<'a>],
+    read: &'a FileRead<'_>,
 ) -> Result<Findings, Fault>
     requires { IsRead read.now }
     ensures ok { IfOk result (λ found. AreFailuresOn read.now.bytes.now (map expectation_value expectations.now)

@@ -1,13 +1,13 @@
 -- JSON without floating-point numbers, and SARIF.
 use Rattle.std.specs.Prelude.{◌&&◌, if◌then◌else◌}
 use Rattle.std.proofs.Common.{◌≡◌, ◌∙◌, ◌==◌, ℕ, Bool, true, false, List, [], ◌∷◌, ◌++◌, None, Option, Some}
-use Rattle.std.proofs.Common.{ap, append-nil, arith, flat_map, inl, inr, map, option_map, refl, sym}
+use Rattle.std.proofs.Common.{ap, append-nil, arith, flat_map, inl, inr, length, map, option_map, refl, subst, sym}
 use Rattle.std.specs.{List.list_all}
 use Rattle.std.specs.Str.{IsUtf8, all_scalars, chars, encode_utf8_all}
 use Rattle.std.proofs.lemmas.Bool.{and_parts, cases_Bool, Decides.nat_tests}
 use Rattle.std.proofs.lemmas.{List.Concat.flat_map-append, List.Folds.list_all-append, Simd.map-map}
 use Rattle.std.proofs.lemmas.Str.{chars-encodes, encodes-append, scalars-chars}
-use Rattle.serde_json.specs.Data.{Data, Members, array, object}
+use Rattle.serde_json.specs.Data.{Data, Members, array, null, object}
 use Rattle.serde_json.specs.{View.items_of, Written.compact_text, Written.has_float, Written.members_text}
 use Rattle.texting_robots.specs.Callers.{Allow, CrawlDelay, Disallow, Label, LineValue, Raw, Sitemap}
 use Rattle.texting_robots.specs.Callers.{UserAgent}
@@ -32,22 +32,25 @@ pub listed : {X Y : Type 0} (json : Y → Data) (value : X → Y) (xs : List X)
 listed json value xs = ap (λ (values : List Data). array (items_of values)) (sym (map-map json value xs))
 
 -- a JSON object is a report of one line
-json_report : (members : Members) → IsReport (json_line (object members))
-json_report members = record {
+object_report : (members : Members) → IsReport (json_line (object members))
+object_report members = record {
   lines = sanitized (compact_text (object members)) ∷ [];
   each = (brace_plain (members_text false members), tt);
   text_is = sym (append-nil (json_line (object members)));
 }
 
+json_report : (value : Data) (members : Members) → value ≡ object members → IsReport (json_line value)
+json_report value members is = subst (λ (value : Data). IsReport (json_line value)) (sym is) (object_report members)
+
 pub audit_report : (has_rows : Bool) (audit : AuditValue) (found : List Finding)
     → IsReport (json_line (audit_json has_rows audit found))
-audit_report has_rows audit found = json_report _
+audit_report has_rows audit found = json_report (audit_json has_rows audit found) _ refl
 
 pub findings_report : (file old : List ℕ) (found : List Finding) → IsReport (findings_text file old found)
-findings_report file old found = json_report _
+findings_report file old found = json_report (findings_json file old found) _ refl
 
 pub log_report : (uri : List ℕ) (found : List Finding) → IsReport (json_line (log_json uri found))
-log_report uri found = json_report _
+log_report uri found = json_report (log_json uri found) _ refl
 
 -- ---- No number is a floating-point number.
 
@@ -64,9 +67,13 @@ word_whole : (word : Option (List ℕ)) → has_float (word_json word) ≡ false
 word_whole None = refl
 word_whole (Some word) = refl
 
+printed_whole : (is_empty : Bool) (text : List ℕ)
+    → has_float (if is_empty then null else sanitized_json text) ≡ false
+printed_whole true text = refl
+printed_whole false text = refl
+
 text_whole : (text : List ℕ) → has_float (text_json text) ≡ false
-text_whole [] = refl
-text_whole (b ∷ text) = refl
+text_whole text = printed_whole (length text == 0) text
 
 known_whole : (is_known : Bool) → has_float (known_json is_known) ≡ false
 known_whole true = refl

@@ -1,6 +1,7 @@
 //! The list of all warnings, and the explanation of one.
 ghost use Rattle.std.specs.Prelude.{◌≡◌, ◌==◌, IfErr, IfOk, true};
 ghost use Rattle.robots_warnings.specs.Table.{is_name};
+ghost use Rattle.audit_core.specs.Answer.{IsText};
 ghost use Rattle.audit_text.specs.Explain.{IsUnexplained};
 
 use crate::conditions::{Named, conditions, corrections, theorems};
@@ -66,7 +67,9 @@ fn write_explanation(alloc: Global, out: &mut Report, name: &str) -> fmt::Result
 }
 
 /// The list of all warnings as the answer.
-pub fn list_warnings(alloc: Global) -> Result<Answer, Fault> {
+pub fn list_warnings(alloc: Global) -> Result<Answer, Fault>
+    ensures { IfOk result IsText }
+{
     let mut out = Report::new(alloc);
     write_list(alloc, &mut out)?;
     Ok(text_answer(alloc, out))
@@ -75,7 +78,7 @@ pub fn list_warnings(alloc: Global) -> Result<Answer, Fault> {
 /// The explanation of the warning with this name as the answer. The error is `Fault::UnknownWarning` if there
 /// is none.
 pub fn explain(alloc: Global, name: &str) -> Result<Answer, Fault>
-    ensures answer { IfOk result (λ answer. is_name name.now ≡ true) }
+    ensures answer { IfOk result (λ answer. (is_name name.now ≡ true) × IsText answer) }
     ensures fault { IfErr result (IsUnexplained name.now) }
 {
     if !is_name(name) {

@@ -1,2 +1,3 @@
-pub mod WritingLemmas
 pub mod PageLemmas
+pub mod SafeLemmas
+pub mod WritingLemmas

@@ -34,133 +34,9 @@ use Rattle.html_writer.specs.Page.{closed_in, followed_by, is_tag, is_void, name
 use Rattle.html_writer.proofs.WritingLemmas.{Reads, attributes_weaker, content_read, style_read, end_read}
 use Rattle.html_writer.proofs.WritingLemmas.{each_form, escaped-is, kind_inside, start_read, text_read}
 use Rattle.html_writer.proofs.WritingLemmas.{void_read}
-
--- ---- Printable pieces.
-
-is_kept : (char : ℕ) → is_printable true char ≡ true → is_character char ≡ true
-is_kept char plain = grind (arith, nat_tests)
-
-printable_text : (bytes : List ℕ) → IsPrintable bytes → IsText bytes
-printable_text bytes is =
-    let plain = AllPass-from_list_all (is_printable true) (chars bytes) is.all in
-    let are = list_all-from_AllPass is_character (chars bytes)
-    (λ k d below. is_kept (get_or (chars bytes) k d) (plain k d below)) in
-    subst IsText (encodes-chars bytes is.utf8)
-    (chars_pass is_character (λ byte high. grind (arith, nat_tests)) (chars bytes) are)
-
-safe_both : (bytes : List ℕ) → list_all is_safe_byte bytes ≡ true
-    → (list_all (is_printable_byte true) bytes ≡ true) × (list_all is_no_bracket bytes ≡ true)
-safe_both [] are = (refl, refl)
-safe_both (byte ∷ bytes) are =
-    let both = and_parts (is_safe_byte byte) (list_all is_safe_byte bytes) are in
-    let here = and_parts (is_printable_byte true byte) (is_no_bracket byte) both.0 in
-    let later = safe_both bytes both.1 in
-    (rw here.0 later.0, rw here.1 later.1)
-
-ascii_safe : (bytes : List ℕ) → list_all is_safe_byte bytes ≡ true → IsSafe bytes
-ascii_safe bytes are =
-    let both = safe_both bytes are in
-    (ascii_printable true bytes both.0, both.1)
-
-letter_safe : (byte : ℕ) → is_letter byte ≡ true → is_safe_byte byte ≡ true
-letter_safe byte is = grind (arith, nat_tests)
-
-name_byte_safe : (byte : ℕ) → is_name_byte byte ≡ true → is_safe_byte byte ≡ true
-name_byte_safe byte is = grind (arith, nat_tests)
-
-name_bytes_safe : (bytes : List ℕ) → IsTrue (list_all is_name_byte bytes)
-    → IsTrue (list_all is_safe_byte bytes)
-name_bytes_safe [] are = refl
-name_bytes_safe (byte ∷ bytes) are =
-    let both = and_parts (is_name_byte byte) (list_all is_name_byte bytes) are in
-    rw (name_byte_safe byte both.0) (name_bytes_safe bytes both.1)
-
-name_safe : (name : List ℕ) → IsTrue (is_name name) → IsSafe name
-name_safe [] named = ascii_safe [] refl
-name_safe (byte ∷ bytes) named =
-    let both = and_parts (is_letter byte) (list_all is_name_byte bytes) named in
-    ascii_safe (byte ∷ bytes) (rw (letter_safe byte both.0) (name_bytes_safe bytes both.1))
-
-escaped_bracketless : (bytes : List ℕ) → list_all is_no_bracket (flat_map escaped_byte bytes) ≡ true
-escaped_bracketless [] = refl
-escaped_bracketless (byte ∷ bytes) =
-    rw (list_all-append, one) (escaped_bracketless bytes)
-  where
-    one : list_all is_no_bracket (escaped_byte byte) ≡ true
-    one =
-        each_form (λ b. list_all is_no_bracket (escaped_byte b) ≡ true) byte refl refl refl refl refl
-        (λ not_38 not_60 not_62 not_34 not_91.
-        let plain : is_no_bracket byte ≡ true = ap not not_91 in
-        rw (not_38, not_60, not_62, not_34, not_91, plain) refl)
-
-value_safe : (bytes : List ℕ) → IsPrintable bytes → IsSafe (escaped bytes)
-value_safe bytes is =
-    rw (escaped-is bytes) (
-      escaped_printable escaped_byte refl (λ byte high. grind (arith, nat_tests)) bytes is,
-      escaped_bracketless bytes,
-    )
-
-both_safe : {one two : List ℕ} → IsSafe one → IsSafe two → IsSafe (one ++ two)
-both_safe {one} {two} is too =
-    (append_printable true one two is.0 too.0, rw (list_all-append, is.1) too.1)
-
-fails : (a b c later : Bool) → c ≡ false → later ≡ false → ((a && (b && (c && true))) || later) ≡ false
-fails a b c later none quiet = rw (none, quiet) (both a b)
-  where
-    both : (a b : Bool) → ((a && (b && false)) || false) ≡ false
-    both true true = refl
-    both true false = refl
-    both false b = refl
-
--- a text without `[` has no start of a command
-bracketless_quiet : (bytes : List ℕ) → list_all is_no_bracket bytes ≡ true → has_command bytes ≡ false
-bracketless_quiet [] are = refl
-bracketless_quiet (a ∷ []) are = fails (nat_eq 35 a) true false false refl refl
-bracketless_quiet (a ∷ b ∷ []) are =
-    let later = (and_parts (is_no_bracket a) (list_all is_no_bracket (b ∷ [])) are).1 in
-    fails (nat_eq 35 a) (nat_eq 35 b) false (has_command (b ∷ [])) refl (bracketless_quiet (b ∷ []) later)
-bracketless_quiet (a ∷ b ∷ c ∷ rest) are =
-    let later = (and_parts (is_no_bracket a) (list_all is_no_bracket (b ∷ c ∷ rest)) are).1 in
-    let last = (and_parts (is_no_bracket b) (list_all is_no_bracket (c ∷ rest)) later).1 in
-    let isnt = (and_parts (is_no_bracket c) (list_all is_no_bracket rest) last).0 in
-    fails (nat_eq 35 a) (nat_eq 35 b) (nat_eq 91 c) (has_command (b ∷ c ∷ rest)) (grind (arith, nat_tests))
-    (bracketless_quiet (b ∷ c ∷ rest) later)
-
-style_safe : (css : List ℕ) → IsSafe css → IsSafe (style_bytes css)
-unfolding style_bytes
-style_safe css is =
-    both_safe (ascii_safe (codes "<style>") refl) (both_safe is (ascii_safe (codes "</style>") refl))
-
-open_safe : (name : List ℕ) → IsSafe name → IsSafe (tag_open name)
-unfolding tag_open
-open_safe name is = both_safe (ascii_safe (codes "<") refl) is
-
-end_safe : (name : List ℕ) → IsSafe name → IsSafe (end_tag name)
-unfolding end_tag
-end_safe name is =
-    both_safe (ascii_safe (codes "</") refl) (both_safe is (ascii_safe (codes ">") refl))
-
-close_safe : IsSafe tag_close
-unfolding tag_close
-close_safe = ascii_safe (codes ">") refl
-
-void_close_safe : IsSafe void_close
-unfolding void_close
-void_close_safe = ascii_safe (codes "/>") refl
-
-attribute_safe : (a : Attribute) → IsSafe a.name → IsSafe (escaped a.value) → IsSafe (attribute_bytes a)
-unfolding attribute_bytes
-attribute_safe a name value =
-    both_safe (ascii_safe (codes " ") refl)
-    (both_safe name
-    (both_safe (ascii_safe (codes "=\"") refl) (both_safe value (ascii_safe (codes "\"") refl))))
-
-attributes_safe : (before attributes : List Attribute) → AreAttributes IsPrintable before attributes
-    → IsSafe (flat_map attribute_bytes attributes)
-attributes_safe before [] are = ascii_safe [] refl
-attributes_safe before (a ∷ attributes) (named, new, is, rest) =
-    both_safe (attribute_safe a (name_safe a.name named) (value_safe a.value is))
-    (attributes_safe (before ++ a ∷ []) attributes rest)
+use Rattle.html_writer.proofs.SafeLemmas.{ascii_safe, attributes_safe, both_safe, bracketless_quiet}
+use Rattle.html_writer.proofs.SafeLemmas.{close_safe, end_safe, name_safe, open_safe, printable_text}
+use Rattle.html_writer.proofs.SafeLemmas.{style_safe, value_safe, void_close_safe}
 
 -- ---- Names of attributes.
 
@@ -183,7 +59,7 @@ named_attributes before (a ∷ attributes) are (value, values) =
       rw (any_named a.name before) at rest.0,
       value,
       named_attributes (before ++ a ∷ []) attributes
-          (rw (map-append (λ (a : Attribute). a.name) before (a ∷ [])) rest.1) values,
+          (grind (arith, map-append, before)) values,
     )
 
 -- ---- Reading goes on where it was.
@@ -204,26 +80,18 @@ piece_read old new piece last state reads added =
 kind_plain : (opened : List Opened) → IsTrue (list_all is_tag (map name_in opened))
     → (has_references (kind_of opened) ≡ true) × (has_elements (kind_of opened) ≡ true)
 kind_plain [] are = (refl, refl)
-kind_plain (o ∷ opened) are =
-    let tag = (and_parts (is_tag o.tag.name) (list_all is_tag (map name_in opened)) are).0 in
-    let named = and_parts (is_name o.tag.name) (is_ordinary o.tag.name && not (is_title o.tag.name)) tag in
-    let plain = and_parts (is_ordinary o.tag.name) (not (is_title o.tag.name)) named.1 in
-    let styled = not-true (is_style o.tag.name) (and_parts (not (is_style o.tag.name)) _ plain.0).0 in
-    let kind = kind_inside o.tag.name styled in
-    (kind.0, kind.1 ∙ plain.1)
+kind_plain (o ∷ opened) are = grind (arith, and_parts, kind_inside, not-true)
 
 nil_open : IsOpen [] []
-nil_open = record { safe = ascii_safe [] refl; state = refl; names_are = refl; are_tags = refl }
+nil_open = grind (arith, ascii_safe)
 
 pub nothing_open : (opened : List (Bor (List ℕ))) (bytes : List ℕ) → opened ≡ [] → bytes ≡ []
     → IsOpen (names_of opened) bytes
-nothing_open opened bytes none empty =
-    subst (IsOpen (names_of opened)) (sym empty)
-    (subst (λ (o : List (Bor (List ℕ))). IsOpen (names_of o) []) (sym none) nil_open)
+nothing_open opened bytes none empty = grind (arith, nil_open)
 
 module _ (names : List (List ℕ)) (old new : List ℕ) (is : IsOpen names old) where
   has : has_references (kind_of (so_far old).opened) ≡ true
-  has = (kind_plain (so_far old).opened is.are_tags).0
+  has = grind (arith, kind_plain)
 
   may : has_elements (kind_of (so_far old).opened) ≡ true
   may = (kind_plain (so_far old).opened is.are_tags).1
@@ -231,15 +99,7 @@ module _ (names : List (List ℕ)) (old new : List ℕ) (is : IsOpen names old) 
   -- the elements that are open stay so
   kept_open : (last : Reader) → so_far new ≡ last → last.state ≡ data_state
       → last.opened ≡ (so_far old).opened → IsSafe new → IsOpen names new
-  kept_open last same state opened safe =
-      let both : (so_far new).opened ≡ (so_far old).opened = ap (λ (r : Reader). r.opened) same ∙ opened in
-      record {
-        safe = safe;
-        state = ap (λ (r : Reader). r.state) same ∙ state;
-        names_are = is.names_are ∙ ap (λ (o : List Opened). map name_in o) (sym both);
-        are_tags =
-            subst (λ (o : List Opened). IsTrue (list_all is_tag (map name_in o))) (sym both) is.are_tags;
-      }
+  kept_open last same state opened safe = grind arith
 
   pub text_is : (line : List ℕ) → IsPrintableIn false line → new ≡ old ++ escaped line
       → so_far new ≡ followed_by (text line) (so_far old)
@@ -254,10 +114,10 @@ module _ (names : List (List ℕ)) (old new : List ℕ) (is : IsOpen names old) 
       record {
         safe = subst IsSafe (sym added)
             (both_safe is.safe (value_safe line (line_printable line plain)));
-        state = ap (λ (r : Reader). r.state) same;
-        names_are = is.names_are ∙ ap (λ (r : Reader). map name_in r.opened) (sym same);
+        state = cc;
+        names_are = cc;
         are_tags =
-            subst (λ (r : Reader). IsTrue (list_all is_tag (map name_in r.opened))) (sym same) is.are_tags;
+            grind arith;
       }
 
   pub title_is : (line : List ℕ) → IsPrintableIn false line → new ≡ old ++ written (title line)
@@ -297,10 +157,7 @@ module _ (names : List (List ℕ)) (old new : List ℕ) (is : IsOpen names old) 
     attributes = adds.attributes
 
     printable_attributes : AreAttributes IsPrintable [] attributes
-    printable_attributes =
-        named_attributes [] attributes
-        (subst (λ (l : List (List ℕ)). are_names [] l ≡ true) (sym adds.named.names_are) labeled)
-        adds.named.printable
+    printable_attributes = grind (arith, named_attributes)
 
     text_attributes : AreAttributes IsText [] attributes
     text_attributes = attributes_weaker IsPrintable IsText printable_text [] attributes printable_attributes
@@ -308,10 +165,7 @@ module _ (names : List (List ℕ)) (old new : List ℕ) (is : IsOpen names old) 
     whole : (end : List ℕ) → new ≡ mid ++ end
         → new ≡ old ++ (tag_open name ++ (flat_map attribute_bytes attributes ++ end))
     whole end added =
-        added ∙ ap (λ (t : List ℕ). t ++ end) adds.added
-        ∙ append_assoc old (tag_open name ++ flat_map attribute_bytes attributes) end
-        ∙ ap (λ (t : List ℕ). old ++ t)
-        (append_assoc (tag_open name) (flat_map attribute_bytes attributes) end)
+        cc (append_assoc old (tag_open name ++ flat_map attribute_bytes attributes) end, append_assoc (tag_open name) (flat_map attribute_bytes attributes) end)
 
     tag_safe : IsTrue (is_name name) → (end : List ℕ) → IsSafe end → new ≡ mid ++ end
         → IsSafe new
@@ -337,22 +191,10 @@ module _ (names : List (List ℕ)) (old new : List ℕ) (is : IsOpen names old) 
         (whole tag_close added)
 
     start_is : is_tag name ≡ true → new ≡ mid ++ tag_close → Opens name labels (so_far old) (so_far new)
-    start_is tag added = record { attributes = attributes; named = adds.named; new_is = start_same tag added }
+    start_is tag added = grind (arith, start_same)
 
     start_open : is_tag name ≡ true → new ≡ mid ++ tag_close → IsOpen (names ++ name ∷ []) new
-    start_open tag added =
-        let same = start_same tag added in
-        let named = and_parts (is_name name) (is_ordinary name && not (is_title name)) tag in
-        record {
-          safe = tag_safe named.0 tag_close close_safe added;
-          state = ap (λ (r : Reader). r.state) same;
-          names_are =
-              reverse-append names (name ∷ []) ∙ ap (λ (l : List (List ℕ)). name ∷ l) is.names_are
-              ∙ ap (λ (r : Reader). map name_in r.opened) (sym same);
-          are_tags =
-              subst (λ (r : Reader). IsTrue (list_all is_tag (map name_in r.opened))) (sym same)
-              (rw tag is.are_tags);
-        }
+    start_open tag added = grind (arith, and_parts, close_safe, reverse-append, start_same, tag_safe)
 
     void_same : is_void name ≡ true → new ≡ mid ++ void_close
         → so_far new ≡ followed_by (void [] name attributes (text [])) (so_far old)
@@ -365,33 +207,23 @@ module _ (names : List (List ℕ)) (old new : List ℕ) (is : IsOpen names old) 
         (whole void_close added)
 
     void_is : is_void name ≡ true → new ≡ mid ++ void_close → HasVoid name labels (so_far old) (so_far new)
-    void_is is_one added =
-        record { attributes = attributes; named = adds.named; new_is = void_same is_one added }
+    void_is is_one added = grind (arith, void_same, is_one)
 
     void_open : is_void name ≡ true → new ≡ mid ++ void_close → IsOpen names new
-    void_open is_one added =
-        let same = void_same is_one added in
-        let both = and_parts (is_name name) (is_among void_names name) is_one in
-        record {
-          safe = tag_safe both.0 void_close void_close_safe added;
-          state = ap (λ (r : Reader). r.state) same;
-          names_are = is.names_are ∙ ap (λ (r : Reader). map name_in r.opened) (sym same);
-          are_tags =
-              subst (λ (r : Reader). IsTrue (list_all is_tag (map name_in r.opened))) (sym same) is.are_tags;
-        }
+    void_open is_one added = grind (arith, and_parts, tag_safe, void_close_safe, void_same, is_one)
 
 -- ---- The innermost element ends.
 
 same_head : (one two : List ℕ) (rest more : List (List ℕ)) → one ∷ rest ≡ two ∷ more → one ≡ two
-same_head one two rest more is = ap (λ (l : List (List ℕ)). slice_index_or l 0 []) is
+same_head one two rest more is = cc
 
 same_tail : (one two : List ℕ) (rest more : List (List ℕ)) → one ∷ rest ≡ two ∷ more → rest ≡ more
-same_tail one two rest more is = ap (λ (l : List (List ℕ)). drop 1 l) is
+same_tail one two rest more is = cc
 
 module _ (names : List (List ℕ)) (name : List ℕ) (old new : List ℕ) (is : IsOpen (names ++ name ∷ []) old)
     (added : new ≡ old ++ end_tag name) where
   last_is : name ∷ reverse names ≡ map name_in (so_far old).opened
-  last_is = sym (reverse-append names (name ∷ [])) ∙ is.names_are
+  last_is = cc (reverse-append names (name ∷ []))
 
   ends : (opened : List Opened) → (so_far old).opened ≡ opened
       → name ∷ reverse names ≡ map name_in opened → IsTrue (list_all is_tag (map name_in opened))
@@ -408,32 +240,30 @@ module _ (names : List (List ℕ)) (name : List ℕ) (old new : List ℕ) (is : 
       let reads = end_read outer o.before (so_far old).content o.tag.name o.tag.attributes named.0 styled in
       let result : so_far new ≡ now =
       piece_read old new (end_tag o.tag.name) now is.state
-      (subst (λ (l : List Opened). Reads (reader data_state l (so_far old).content) (end_tag o.tag.name) now)
-      (sym same) reads)
-      (added ∙ ap (λ (n : List ℕ). old ++ end_tag n) head) in (
-        result ∙ ap (λ (l : List Opened). closed_in l (so_far old).content) (sym same),
+      (grind arith)
+      (cc) in (
+        cc,
         record {
-          safe = subst IsSafe (sym (added ∙ ap (λ (n : List ℕ). old ++ end_tag n) head))
+          safe = subst IsSafe (cc)
               (both_safe is.safe (end_safe o.tag.name (name_safe o.tag.name named.0)));
-          state = ap (λ (r : Reader). r.state) result;
-          names_are = same_tail name o.tag.name (reverse names) (map name_in outer) last
-              ∙ ap (λ (r : Reader). map name_in r.opened) (sym result);
+          state = cc;
+          names_are = cc (same_tail name o.tag.name (reverse names) (map name_in outer) last);
           are_tags =
-              subst (λ (r : Reader). IsTrue (list_all is_tag (map name_in r.opened))) (sym result) both.1;
+              grind arith;
         },
       )
 
   end_is : so_far new ≡ closed (so_far old)
-  end_is = (ends (so_far old).opened refl last_is is.are_tags).0
+  end_is = grind (arith, ends, last_is)
 
   end_open : IsOpen names new
-  end_open = (ends (so_far old).opened refl last_is is.are_tags).1
+  end_open = grind (arith, ends, last_is)
 
 -- ---- The same, as the functions that write a page need it.
 
 cleared_line : (front line bytes : List ℕ) → front ≡ [] → line ≡ front ++ sanitized bytes
     → line ≡ sanitized bytes
-cleared_line front line bytes none added = added ∙ ap (λ (t : List ℕ). t ++ sanitized bytes) none
+cleared_line front line bytes none added = cc
 
 pub sanitized_line : (front line bytes : List ℕ) → front ≡ [] → line ≡ front ++ sanitized bytes
     → IsPrintableIn false line
@@ -445,8 +275,7 @@ pub text_written : (names : List (List ℕ)) (old new front line bytes : List �
     → front ≡ [] → line ≡ front ++ sanitized bytes → new ≡ old ++ escaped line
     → so_far new ≡ followed_by (text (sanitized bytes)) (so_far old)
 text_written names old new front line bytes is none line_is added =
-    text_is names old new is line (sanitized_line front line bytes none line_is) added
-    ∙ ap (λ (t : List ℕ). followed_by (text t) (so_far old)) (cleared_line front line bytes none line_is)
+    cc (text_is names old new is line (sanitized_line front line bytes none line_is) added, cleared_line front line bytes none line_is)
 
 pub element_begun : (names labels : List (List ℕ)) (name old new : List ℕ) → IsOpen names old
     → is_tag name ≡ true → are_names [] labels ≡ true → AddsStart name labels old new
@@ -460,7 +289,7 @@ pub begun_open : (before after : List (Bor (List ℕ))) (name : Bor (List ℕ)) 
     → IsOpen (names_of after) new
 begun_open before after name labels old new is tag labeled adds pushed =
     subst (λ (names : List (List ℕ)). IsOpen names new)
-    (sym (ap names_of pushed ∙ map-append (λ (n : Bor (List ℕ)). n.now) before (name ∷ [])))
+    (cc (map-append (λ (n : Bor (List ℕ)). n.now) before (name ∷ [])))
     (start_open (names_of before) old new is name.now labels adds.mid labeled adds.tag tag adds.added)
 
 pub void_added : (names labels : List (List ℕ)) (name old new : List ℕ) → IsOpen names old
@@ -477,9 +306,7 @@ voided_open names labels name old new is one labeled adds =
 popped : (before after : List (Bor (List ℕ))) (name : Bor (List ℕ)) (old : List ℕ)
     → IsOpen (names_of before) old → before ≡ after ++ name ∷ []
     → IsOpen (names_of after ++ name.now ∷ []) old
-popped before after name old is pops =
-    subst (λ (names : List (List ℕ)). IsOpen names old)
-    (ap names_of pops ∙ map-append (λ (n : Bor (List ℕ)). n.now) after (name ∷ [])) is
+popped before after name old is pops = grind (arith, map-append)
 
 pub element_ended : (before after : List (Bor (List ℕ))) (name : Bor (List ℕ)) (old new : List ℕ)
     → IsOpen (names_of before) old → before ≡ after ++ name ∷ [] → new ≡ old ++ end_tag name.now
@@ -496,9 +323,7 @@ ended_open before after name old new is pops added =
 -- if no element is open, nothing changes
 pub none_ended : (before : List (Bor (List ℕ))) (old : List ℕ) → IsOpen (names_of before) old → before ≡ []
     → so_far old ≡ closed (so_far old)
-none_ended before old is none =
-    by (so_far old).opened refl
-    (sym (ap (λ (b : List (Bor (List ℕ))). reverse (names_of b)) none) ∙ is.names_are)
+none_ended before old is none = grind (arith, by)
   where
     by : (opened : List Opened) → (so_far old).opened ≡ opened → [] ≡ map name_in opened
         → so_far old ≡ closed (so_far old)
@@ -508,30 +333,16 @@ none_ended before old is none =
     by (o ∷ opened) same names = absurd (cc)
 
 pub adds_none : (old : List ℕ) → AddsAttributes [] old old
-adds_none old = record {
-  attributes = [];
-  named = record { names_are = refl; printable = tt };
-  added = sym (append-nil old);
-}
+adds_none old = grind (arith, append-nil)
 
 adds_more : (names : List (List ℕ)) (name value old mid new : List ℕ) → AddsAttributes names old mid
     → IsPrintableIn false value → new ≡ mid ++ attribute_bytes (attribute name value)
     → AddsAttributes (names ++ name ∷ []) old new
 adds_more names name value old mid new adds plain added = record {
   attributes = adds.attributes ++ attribute name value ∷ [];
-  named = record {
-    names_are = map-append (λ (a : Attribute). a.name) adds.attributes (attribute name value ∷ [])
-        ∙ ap (λ (l : List (List ℕ)). l ++ name ∷ []) adds.named.names_are;
-    printable =
-        each_last adds.attributes (attribute name value) adds.named.printable (line_printable value plain);
-  };
+  named = grind (arith, line_printable, map-append, each_last);
   added =
-      added ∙ ap (λ (t : List ℕ). t ++ attribute_bytes (attribute name value)) adds.added
-      ∙ append_assoc old (flat_map attribute_bytes adds.attributes) (attribute_bytes (attribute name value))
-      ∙ ap (λ (t : List ℕ). old ++ t) (sym (flat_map-append attribute_bytes adds.attributes
-      (attribute name value ∷ [])
-      ∙ ap (λ (t : List ℕ). flat_map attribute_bytes adds.attributes ++ t)
-      (append-nil (attribute_bytes (attribute name value)))));
+      cc (append_assoc old (flat_map attribute_bytes adds.attributes) (attribute_bytes (attribute name value)), flat_map-append attribute_bytes adds.attributes (attribute name value ∷ []), append-nil (attribute_bytes (attribute name value)));
 }
   where
     each_last : (attributes : List Attribute) (a : Attribute)
@@ -566,14 +377,13 @@ pub page_finished : (before : List (Bor (List ℕ))) (bytes front page : List �
 unfolding doctype
 page_finished before bytes front page is none first added =
     let opened = none_opened (so_far bytes).opened
-    (sym (ap (λ (b : List (Bor (List ℕ))). reverse (names_of b)) none) ∙ is.names_are) in
+    (cc) in
     let whole = both_safe (ascii_safe doctype refl) is.safe in
-    subst IsSomePage (sym (added ∙ ap (λ (t : List ℕ). t ++ bytes) first)) (
+    subst IsSomePage (cc) (
       (so_far bytes).content,
       record {
         printable = whole.0;
         quiet = bracketless_quiet (doctype ++ bytes) whole.1;
-        read = ap₂ (λ (state : State) (opened : List Opened). finished state opened (so_far bytes).content)
-            is.state opened;
+        read = cc;
       },
     )

@@ -30,9 +30,7 @@ one_same byte is = grind (arith, nat_tests)
 
 each_same : (bytes : List ℕ) → list_all is_written_as_is bytes ≡ true → flat_map escaped_byte bytes ≡ bytes
 each_same [] are = refl
-each_same (byte ∷ bytes) are =
-    let (here, later) = and_parts (is_written_as_is byte) _ are in
-    rw (one_same byte here, each_same bytes later) refl
+each_same (byte ∷ bytes) are = grind (arith, and_parts, one_same, each_same bytes)
 
 pub escaped_same : (bytes : List ℕ) → list_all is_written_as_is bytes ≡ true → escaped bytes ≡ bytes
 escaped_same bytes are = escaped-is bytes ∙ each_same bytes are
@@ -56,10 +54,9 @@ with_text-followed bytes html two = refl
 pub followed_assoc : (one two three : Html) → (one ⊕ two) ⊕ three ≡ one ⊕ (two ⊕ three)
 followed_assoc (text bytes) two three = with_text-followed bytes two three
 followed_assoc (element before name attributes children after) two three =
-    ap (element before name attributes children) (followed_assoc after two three)
-followed_assoc (void before name attributes after) two three =
-    ap (void before name attributes) (followed_assoc after two three)
-followed_assoc (style before css after) two three = ap (style before css) (followed_assoc after two three)
+    cc (followed_assoc after two three)
+followed_assoc (void before name attributes after) two three = cc (followed_assoc after two three)
+followed_assoc (style before css after) two three = cc (followed_assoc after two three)
 
 module _ (P Q : List ℕ → Type 0) (weaker : (bytes : List ℕ) → P bytes → Q bytes) where
   pub attributes_weaker : (before attributes : List Attribute) → AreAttributes P before attributes
@@ -70,10 +67,9 @@ module _ (P Q : List ℕ → Type 0) (weaker : (bytes : List ℕ) → P bytes �
 
 followed-nil : (html : Html) → html ⊕ text [] ≡ html
 followed-nil (text bytes) = ap text (append-nil bytes)
-followed-nil (element before name attributes children after) =
-    ap (element before name attributes children) (followed-nil after)
-followed-nil (void before name attributes after) = ap (void before name attributes) (followed-nil after)
-followed-nil (style before css after) = ap (style before css) (followed-nil after)
+followed-nil (element before name attributes children after) = cc (followed-nil after)
+followed-nil (void before name attributes after) = cc (followed-nil after)
+followed-nil (style before css after) = cc (followed-nil after)
 
 -- ---- What is written is read back, piece by piece.
 
@@ -84,10 +80,7 @@ pub record Reads (from : Reader) (bytes : List ℕ) (last : Reader) : Type 0 whe
 read_on : {from mid last : Reader} {one two : List ℕ} → Reads from one mid → Reads mid two last
     → Reads from (one ++ two) last
 read_on {from = from} {one = one} {two = two} first second =
-    record {
-      leads = λ more. ap (run from) (append_assoc one two more)
-          ∙ first.leads (two ++ more) ∙ second.leads more;
-    }
+    grind (arith, append_assoc, first.leads, second.leads)
 
 -- bytes are read one by one, if each is as `form` writes it
 collected : (form : ℕ → List ℕ) (test : ℕ → Bool) (after : List ℕ → Reader)
@@ -95,7 +88,7 @@ collected : (form : ℕ → List ℕ) (test : ℕ → Bool) (after : List ℕ �
     → Reads (after done) (form byte) (after (done ++ byte ∷ [])))
     → (done bytes : List ℕ) → list_all test bytes ≡ true
     → Reads (after done) (flat_map form bytes) (after (done ++ bytes))
-collected form test after one done [] are = rw append-nil (record { leads = λ more. refl })
+collected form test after one done [] are = grind (arith, append-nil)
 collected form test after one done (byte ∷ bytes) are =
     let both = and_parts (test byte) (list_all test bytes) are in
     rw (append_assoc done (byte ∷ []) bytes) at
@@ -126,9 +119,7 @@ pub each_form : (P : ℕ → Type 0) (byte : ℕ) → P 38 → P 60 → P 62 →
     → ((byte == 38) ≡ false → (byte == 60) ≡ false → (byte == 62) ≡ false → (byte == 34) ≡ false
     → (byte == 91) ≡ false → P byte)
     → P byte
-each_form P byte amp lt gt quot bracket other =
-    or 38 amp (λ not_38. or 60 lt (λ not_60. or 62 gt (λ not_62. or 34 quot (λ not_34.
-    or 91 bracket (other not_38 not_60 not_62 not_34)))))
+each_form P byte amp lt gt quot bracket other = grind (arith, or, other)
   where
     or : (n : ℕ) → P n → ((byte == n) ≡ false → P byte) → P byte
     or n is isnt = elim (cases_Bool (byte == n)) [
@@ -148,8 +139,7 @@ module _ (opened : List Opened) where
   text_read content bytes has are =
       rw (escaped-is bytes) (rw (followed-nil content) at
       (collected escaped_byte is_character (λ done. reading (content ⊕ text done))
-      (λ done byte is. rw (followed_assoc content (text done) (text (byte ∷ []))) at
-      (one (content ⊕ text done) byte is)) [] bytes are))
+      (grind (arith, followed_assoc, one, content)) [] bytes are))
     where
       one : (content : Html) (byte : ℕ) → is_character byte ≡ true
           → Reads (reading content) (escaped_byte byte) (reading (content ⊕ text (byte ∷ [])))
@@ -167,11 +157,7 @@ module _ (opened : List Opened) where
   value_read content tag name value are =
       let after = λ (done : List ℕ). reader (attribute_value tag name done) opened content in
       rw (escaped-is value) (collected escaped_byte is_character after
-      (λ done byte is. each_form (λ b. Reads (after done) (escaped_byte b) (after (done ++ b ∷ []))) byte
-      (record { leads = λ more. refl }) (record { leads = λ more. refl }) (record { leads = λ more. refl })
-      (record { leads = λ more. refl }) (record { leads = λ more. refl })
-      (λ not_38 not_60 not_62 not_34 not_91. rw (not_38, not_60, not_62, not_34, not_91)
-      (record { leads = λ more. rw (not_34, not_38, is) }))) [] value are)
+      (grind (arith, each_form, after)) [] value are)
 
   attribute_read : (content : Html) (label name value : List ℕ) (before : List Attribute)
       → IsTrue (is_name name) → IsTrue (not (has_attribute before name)) → IsTrue (is_text value)
@@ -183,18 +169,18 @@ module _ (opened : List Opened) where
       let at_name = λ (done : List ℕ). reader (attribute_name tag done) opened content in
       let at_value = λ (done : List ℕ). reader (attribute_value tag name done) opened content in
       let equals : Reads (at_name name) (61 ∷ 34 ∷ []) (at_value []) =
-      record { leads = λ more. rw (new, run) } in
+      grind arith in
       let last : Reads (at_value value) (34 ∷ [])
-      (after_tag content label (before ++ attribute name value ∷ [])) = record { leads = λ more. refl } in
+      (after_tag content label (before ++ attribute name value ∷ [])) = grind arith in
       read_on (name_read (after_tag content label before) (32 ∷ []) at_name name named
-      (λ byte is. record { leads = λ more. rw is }) (λ done next is. record { leads = λ more. rw (is, run) }))
+      (grind arith) (grind arith))
       (read_on equals (read_on (value_read content tag name value are) last))
 
   attributes_read : (content : Html) (label : List ℕ) (before attributes : List Attribute)
       → AreAttributes IsText before attributes
       → Reads (after_tag content label before) (flat_map attribute_bytes attributes)
       (after_tag content label (before ++ attributes))
-  attributes_read content label before [] are = rw (append-nil before) (record { leads = λ more. refl })
+  attributes_read content label before [] are = grind (arith, append-nil)
   attributes_read content label before (a ∷ attributes) (named, new, valued, are) =
       rw (append_assoc before (a ∷ []) attributes) at
       (read_on (attribute_read content label a.name a.value before named new valued)
@@ -211,8 +197,8 @@ module _ (opened : List Opened) where
   tag_read content name attributes byte bytes last has named are isnt end =
       read_on (name_read (reading content) (60 ∷ [])
       (λ done. reader (tag_name done) opened content) name named
-      (λ byte is. record { leads = λ more. rw (is, has) })
-      (λ done next is. record { leads = λ more. rw (is, run) }))
+      (grind arith)
+      (grind arith))
       (completed attributes (read_on (attributes_read content name [] attributes are) end))
     where
       completed : (attributes : List Attribute)
@@ -229,12 +215,7 @@ module _ (opened : List Opened) where
       → Reads (reading content) (html.start_tag name attributes)
       (reader data_state (record { before = content; tag = new_tag name attributes } ∷ opened) (text []))
   unfolding html.tag_close
-  start_read content name attributes has named ordinary are =
-      let innermost : Opened = record { before = content; tag = new_tag name attributes } in
-      let inner = reader data_state (innermost ∷ opened) (text []) in
-      let end : Reads (after_tag content name attributes) (62 ∷ []) inner =
-      record { leads = λ more. rw (ordinary, run) } in
-      tag_read content name attributes 62 [] inner has named are refl end
+  start_read content name attributes has named ordinary are = grind (arith, tag_read)
 
   pub void_read : (content : Html) (name : List ℕ) (attributes : List Attribute)
       → has_elements (kind_of opened) ≡ true → IsTrue (is_name name) → IsTrue (is_among void_names name)
@@ -242,11 +223,7 @@ module _ (opened : List Opened) where
       → Reads (reading content) (html.void_tag name attributes)
       (reading (content ⊕ void [] name attributes (text [])))
   unfolding html.void_close
-  void_read content name attributes has named is are =
-      let last = reading (content ⊕ void [] name attributes (text [])) in
-      let end : Reads (after_tag content name attributes) (47 ∷ 62 ∷ []) last =
-      record { leads = λ more. rw (is, run) } in
-      tag_read content name attributes 47 (62 ∷ []) last has named are refl end
+  void_read content name attributes has named is are = grind (arith, tag_read)
 
   pub end_read : (before content : Html) (name : List ℕ) (attributes : List Attribute) → IsTrue (is_name name)
       → is_style name ≡ false
@@ -257,12 +234,10 @@ module _ (opened : List Opened) where
       let innermost : Opened = record { before = before; tag = new_tag name attributes } in
       let at_name = λ (done : List ℕ). reader (end_tag_name done) (innermost ∷ opened) content in
       let last : Reads (at_name name) (62 ∷ [])
-      (reading (before ⊕ element [] name attributes content (text []))) = record {
-        leads = λ more. rw ((bytes_eq-Decides name name).1 refl, isnt, run);
-      } in
+      (reading (before ⊕ element [] name attributes content (text []))) = grind (arith, bytes_eq-Decides) in
       read_on (name_read (reader data_state (innermost ∷ opened) content) (60 ∷ 47 ∷ []) at_name name named
-      (λ byte is. record { leads = λ more. rw is })
-      (λ done next is. record { leads = λ more. rw (is, run) })) last
+      (grind arith)
+      (grind arith)) last
 
   pub style_read : (content : Html) (css : List ℕ) → has_elements (kind_of opened) ≡ true → IsTrue (is_css css)
       → Reads (reading content) (html.style_bytes css) (reading (content ⊕ style [] css (text [])))
@@ -271,20 +246,15 @@ module _ (opened : List Opened) where
       let innermost : Opened = record { before = content; tag = new_tag (codes "style") [] } in
       let in_style = λ (done : List ℕ). reader data_state (innermost ∷ opened) (text done) in
       let first : Reads (reading content) (codes "<style>") (in_style []) =
-      record { leads = λ more. rw has } in
+      grind arith in
       let last : Reads (in_style css) (codes "</style>") (reading (content ⊕ style [] css (text []))) =
-      record { leads = λ more. refl } in
+      grind arith in
       read_on first (read_on (unchanged (λ byte. is_character byte && not (byte == 60)) in_style
-      (λ done byte is.
-      let both = and_parts (is_character byte) (not (byte == 60)) is in
-      record { leads = λ more. rw (not-true (byte == 60) both.1, both.0, run) }) css are) last)
+      (grind (arith, and_parts, not-true)) css are) last)
 
 pub kind_inside : (name : List ℕ) → is_style name ≡ false
     → (has_references (kind_in name) ≡ true) × (has_elements (kind_in name) ≡ not (is_title name))
-kind_inside name isnt =
-    subst (λ (kind : Kind). (has_references kind ≡ true) × (has_elements kind ≡ not (is_title name)))
-    (sym (ap (λ (b : Bool). if b then raw_text else if is_title name then only_text else any_content) isnt))
-    (either (is_title name))
+kind_inside name isnt = grind (arith, either)
   where
     either : (b : Bool) → (has_references (if b then only_text else any_content) ≡ true)
         × (has_elements (if b then only_text else any_content) ≡ not b)

@@ -57,7 +57,7 @@ pub fn push_doctype(out: &mut Vec<u8>) -> Result<(), AllocError>
 pub fn push_open(out: &mut Vec<u8>, name: &str) -> Result<(), AllocError>
     ensures { OnOk result (out.new.items ≡ out.old.items ++ tag_open name.now) }
 {
-    out.extend_from_slice(b"<")?;
+    out.push(b'<')?;
     out.extend_from_slice(name.as_bytes())
 }
 
@@ -66,18 +66,18 @@ pub fn push_open(out: &mut Vec<u8>, name: &str) -> Result<(), AllocError>
 pub fn push_attribute(out: &mut Vec<u8>, name: &str, value: &str) -> Result<(), AllocError>
     ensures { OnOk result (out.new.items ≡ out.old.items ++ attribute_bytes (attribute name.now value.now)) }
 {
-    out.extend_from_slice(b" ")?;
+    out.push(b' ')?;
     out.extend_from_slice(name.as_bytes())?;
     out.extend_from_slice(b"=\"")?;
     push_text(out, value.as_bytes())?;
-    out.extend_from_slice(b"\"")
+    Ok(out.push(b'"')?)
 }
 
 #[tactic(auto, unfolding(crate::specs::Html::tag_close))]
 pub fn push_close(out: &mut Vec<u8>) -> Result<(), AllocError>
     ensures { OnOk result (out.new.items ≡ out.old.items ++ tag_close) }
 {
-    out.extend_from_slice(b">")
+    Ok(out.push(b'>')?)
 }
 
 #[tactic(auto, unfolding(crate::specs::Html::void_close))]
@@ -101,7 +101,7 @@ pub fn push_end(out: &mut Vec<u8>, name: &str) -> Result<(), AllocError>
 {
     out.extend_from_slice(b"</")?;
     out.extend_from_slice(name.as_bytes())?;
-    out.extend_from_slice(b">")
+    Ok(out.push(b'>')?)
 }
 
 /// The text is escaped.

@@ -4,21 +4,19 @@ use Rattle.std.proofs.Common.{◌≡◌, ℕ, ◌+◌, ◌<◌, ◌||◌, List, 
 use Rattle.std.proofs.Common.{slice_index_or, true, [], inl, inr, Option, None, string_bytes, ◌∙◌, ap}
 use Rattle.std.proofs.Common.{codes, subst, sym}
 use Rattle.std.proofs.{lemmas.List.drop_more}
-use Rattle.serde_json.specs.{Data.Data}
 use Rattle.printable_text.specs.{declared.level.Level.Level, Sanitize.IsPrintable}
 use Rattle.printable_text.specs.Text.{IsReport, IsShownReport, reaches}
 use Rattle.robots_warnings.specs.{Table.level_of, Message.WarningValue}
 use Rattle.robots_audit.specs.Answer.{Answers, AnswersAudit, AnswersOptions, AreAnnotations, HasUrls, IsAsked}
-use Rattle.robots_audit.specs.Answer.{IsListedIn, IsOutput, IsSafe, IsSafeAnswer, is_warned}
+use Rattle.robots_audit.specs.Answer.{IsListedIn, IsOutput, IsSafe, IsSafeAnswer, is_warned, reported}
 use Rattle.robots_audit.specs.{Command.value_of}
 use Rattle.clap.specs.{declared.parser.matches.ArgMatches.ArgMatches}
 use Rattle.printable_text.proofs.ReportLemmas.{report_printable, shown_colored, shown_nil}
-use Rattle.audit_core.specs.Request.{RequestValue, requested_by, requested_colors}
+use Rattle.audit_core.specs.Request.{RequestValue, has_rows, requested_by, requested_colors}
 use Rattle.audit_core.specs.{Answer.IsText, Audit.AuditValue, declared.answer.Answer.Answer, Findings.Found}
 use Rattle.audit_core.specs.{declared.findings.Finding.Finding, declared.request.Format.Format}
-use Rattle.audit_core.specs.declared.request.Format.TheVariants.{Text, Github, Html, Json, Sarif}
+use Rattle.audit_core.specs.declared.request.Format.TheVariants.{Github, Html, Json, Sarif}
 use Rattle.audit_text.proofs.{GithubLemmas.github_printable}
-use Rattle.audit_json.specs.{Json.json_line}
 use Rattle.audit_json.proofs.JsonLemmas.{audit_report, findings_report, log_report}
 
 pub warned_next : (least : Level) (warnings : List WarningValue) (at : ℕ) (warning : WarningValue)
@@ -82,24 +80,25 @@ text_safe answer is = record { report = inl is.report; warnings = silent true an
 annotated : (file text : List ℕ) (found : List Found) → AreAnnotations file found text → IsSafe text
 annotated file text found is = inr (inr (file, is.findings, is.text_is))
 
-lined : (text : List ℕ) (value : Data) → text ≡ json_line value → IsReport (json_line value) → IsSafe text
-lined text value is safe = inl (subst IsReport (sym is) safe)
+lined : (text line : List ℕ) → text ≡ line → IsReport line → IsSafe text
+lined text line is safe = inl (subst IsReport (sym is) safe)
 
 output_safe : (format : Format) (requested : RequestValue) (audit : AuditValue) (text : List ℕ)
     → IsOutput format requested audit text → IsSafe text
-output_safe Text requested audit text is = inl is
-output_safe Json requested audit text is = lined text _ is.text_is (audit_report _ _ is.warnings)
+output_safe Json requested audit text is =
+    lined text _ is.text_is (audit_report (has_rows requested) (reported requested audit) is.warnings)
 output_safe Html requested audit text is = inr (inl is)
 output_safe Github requested audit text is = annotated _ text _ is
 output_safe Sarif requested audit text is = lined text _ is.text_is (log_report _ is.findings)
+output_safe format requested audit text is = inl is
 
 listed_safe : (format : Format) (file old : List ℕ) (found : List Finding) (text : List ℕ)
     → IsListedIn format file old found text → IsSafe text
 listed_safe Json file old found text is = lined text _ is (findings_report file old found)
 listed_safe Github file old found text is = inr (inr (file, found, is))
-listed_safe Text file old found text is = inl is
 listed_safe Html file old found text is = absurd is
 listed_safe Sarif file old found text is = absurd is
+listed_safe format file old found text is = inl is
 
 report_safe : (by_default : Bool) (matches : ArgMatches) (answer : Answer) → Answers by_default matches answer
     → IsSafe answer.report.items

@@ -1,5 +1,5 @@
 -- What the program answers: to an audit, and to its arguments.
-use Rattle.std.specs.Prelude.{◌≡◌, ◌⊎◌, ℕ, Bool, true, false, List, [], None, Option, Some, codes, ⊥, ⊤}
+use Rattle.std.specs.Prelude.{◌≡◌, ◌⊎◌, ℕ, Bool, true, false, List, [], None, Option, Some, codes, ⊤}
 use Rattle.std.specs.Prelude.{◌==◌, length, map, not, ◌&&◌, string_bytes}
 use Rattle.std.specs.{List.list_any}
 use Rattle.clap.specs.{declared.parser.matches.ArgMatches.ArgMatches}
@@ -15,7 +15,7 @@ use Rattle.audit_core.specs.{Content.content_flaw, declared.fault.Fault.Fault}
 use Rattle.audit_core.specs.{declared.findings.Finding.Finding}
 use Rattle.audit_core.specs.Findings.{Found, findings, found_of}
 use Rattle.audit_core.specs.declared.fault.Fault.TheVariants.{File, Format as OfAudits, Memory, Words}
-use Rattle.audit_core.specs.declared.request.Format.TheVariants.{Github, Html, Json, Sarif, Text}
+use Rattle.audit_core.specs.declared.request.Format.TheVariants.{Github, Html, Json, Sarif}
 use Rattle.robots_audit.specs.Command.{HasFile, IsFormatOf, IsOn, IsRequestOf, value_of}
 use Rattle.audit_compare.specs.Compare.{ComparisonValue, IsComparison, all_differences, differs_nowhere}
 use Rattle.audit_compare.specs.Compare.{rejects_some as rejects_one}
@@ -41,14 +41,14 @@ pub record AreAnnotations (file : List ℕ) (found : List Found) (text : List �
   pub are : map found_of findings ≡ found
   pub text_is : text ≡ github_text file findings
 
--- the report in this format
+-- the report in this format; most are text
 abbrev pub IsOutput : Format → RequestValue → AuditValue → List ℕ → Type 0
-IsOutput Text requested audit text = IsReport text
 IsOutput Json requested audit text = IsJson (has_rows requested) (reported requested audit) text
 IsOutput Html requested audit text = IsSomePage text
 IsOutput Github requested audit text =
     AreAnnotations (shown_name requested.file) (findings (reported requested audit)) text
 IsOutput Sarif requested audit text = IsLog (shown_name requested.file) (reported requested audit) text
+IsOutput format requested audit text = IsReport text
 
 abbrev pub is_warned : Option Level → List WarningValue → Bool
 is_warned None warnings = false
@@ -75,8 +75,9 @@ pub record IsAudited (requested : RequestValue) (file : List ℕ) (answer : Answ
 abbrev pub IsListedIn : Format → (file old : List ℕ) → List Finding → List ℕ → Type 0
 IsListedIn Json file old found text = text ≡ findings_text file old found
 IsListedIn Github file old found text = text ≡ github_text file found
-IsListedIn Text file old found text = IsReport text
-IsListedIn format file old found text = ⊥
+IsListedIn Html file old found text = ⊥
+IsListedIn Sarif file old found text = ⊥
+IsListedIn format file old found text = IsReport text
 
 -- pages and logs are those of audits
 abbrev pub is_for_audits : Format → Bool

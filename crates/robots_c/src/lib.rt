@@ -8,37 +8,29 @@
 ghost use Rattle.std.specs.Prelude.{◌≡◌, ◌≢◌, ◌≤◌, ◌*◌, ◌⊎◌, Some, if◌then◌else◌, length, pos, unwrap_or};
 ghost use Rattle.std.specs.Borrow.{sem};
 ghost use base.Fml.{Lft, Share, flft};
-ghost use Rattle.robots_c.specs.Batch.{IsBatchPutIn, IsWhyNoBatch};
-ghost use Rattle.robots_c.specs.File.{GivesRobot, IsRobotFor, IsRobotOfSomeFile, bytes_read};
-ghost use Rattle.robots_c.specs.Kept.{Robots, lends, opens, owned_or_null};
-ghost use Rattle.robots_c.specs.Results.{ArePutIn, HasResult, is_allowed, line_named, no_result};
-ghost use Rattle.robots_c.specs.Status.{HasFault, HasFaultAt, IsAddress, IsWhyNoAddress};
-ghost use Rattle.robots_c.specs.Status.{IsWhyNoResult, IsWhyNoResults, IsWhyNoRobot, IsWhyNone};
-ghost use Rattle.robots_c.specs.Status.{IsWhyNotWithin, IsWhyUndecided, status_of};
-ghost use Rattle.robots_c.specs.Text.{IsTooLong, IsWritten};
+ghost use Rattle.c_calls.specs.Batch.{IsBatchPutIn, IsWhyNoBatch};
+ghost use Rattle.c_calls.specs.File.{GivesRobot, IsRobotFor, IsRobotOfSomeFile, bytes_read};
+ghost use Rattle.c_calls.specs.Kept.{Robots, lends, opens, owned_or_null};
+ghost use Rattle.c_calls.specs.Response.{SaysMeaning};
+ghost use Rattle.c_calls.specs.Results.{ArePutIn, HasResult, is_allowed, line_named, no_result};
+ghost use Rattle.c_calls.specs.Status.{HasFault, HasFaultAt, IsAddress, IsWhyNoAddress};
+ghost use Rattle.c_calls.specs.Status.{IsWhyNoResult, IsWhyNoResults, IsWhyNoRobot, IsWhyNone};
+ghost use Rattle.c_calls.specs.Status.{IsWhyNotWithin, IsWhyUndecided, status_of};
+ghost use Rattle.c_calls.specs.Text.{IsTooLong, IsWritten};
 ghost use Rattle.texting_robots.specs.Callers.{RobotValue, cost_of, seen_of};
 
-mod batch;
-mod fault;
-mod file;
-mod handle;
-mod kept;
-mod matrix;
-mod response;
 mod site;
-mod site_calls;
-mod texts;
-mod urls;
 
-use batch::query_batch;
-use fault::Fault;
-use handle::{bytes, close, cost, opened, query_delay};
-use kept::{Handle, Kept};
-use matrix::NO_RESULT;
+use c_calls::batch::query_batch;
+use c_calls::fault::Fault;
+use c_calls::handle::{bytes, close, cost, opened, query_delay};
+use c_calls::kept::{Handle, Kept};
+use c_calls::matrix::NO_RESULT;
+use c_calls::response::meaning;
+use c_calls::texts::{address, put};
+use c_calls::urls::{decide, query, query_many, query_within};
 use std::alloc::Global;
 use texting_robots::Robot;
-use texts::{address, put};
-use urls::{decide, query, query_many, query_within};
 
 /// The library's version as a number: 10,000 × major + 100 × minor + patch.
 #[unsafe(no_mangle)]
@@ -235,6 +227,20 @@ pub unsafe extern "C" fn robots_close(alloc: Global, robot: *mut u8)
         at: robot as *mut Robot,
         alloc,
     })
+}
+
+/// What the response to a request for a robots.txt file means: a number of `robots_meaning` in the header. A
+/// status that none has, such as 0, means no answer.
+#[unsafe(no_mangle)]
+pub extern "C" fn robots_response_meaning(
+    status: u32,
+    redirects: u32,
+    has_location: bool,
+    is_complete: bool,
+) -> i32
+    ensures { SaysMeaning status redirects has_location is_complete result }
+{
+    meaning(status, redirects, has_location, is_complete)
 }
 
 /// 1 if the crawler may fetch the URL with this result, and 0 if it may not.

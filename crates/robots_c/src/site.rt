@@ -1,123 +1,171 @@
-//! A site that C keeps between calls: a file that is read once for all crawlers.
-ghost use Rattle.std.specs.Prelude.{◌≡◌, ◌≢◌, ◌≤◌, ◌⊎◌, Some, IfErr, IfOk, length, pos};
-ghost use Rattle.robots_c.specs.File.{AreAgents, AreSitemaps, GivesRobot, HasDelay, IsRobotFor, bytes_read};
-ghost use Rattle.robots_c.specs.Status.{HasFault, HasFaultAt, IsWhyNoDelay, IsWhyNoSite, IsWhyNoRobot};
-ghost use Rattle.robots_c.specs.Status.{SaysNamed, status_of};
-ghost use Rattle.robots_c.specs.Text.{IsTooLong, IsWritten};
+//! The functions of `robots.h` for sites.
+ghost use Rattle.std.specs.Prelude.{◌≡◌, ◌≢◌, ◌≤◌, ◌⊎◌, ℕ, List, Some, length, pos};
+ghost use Rattle.std.specs.Borrow.{sem};
+ghost use base.Fml.{Lft, Share, flft};
+ghost use Rattle.c_calls.specs.{File.AreAgents, Results.IsMatrixPutIn, Text.IsTooLong, Text.IsWritten};
+ghost use Rattle.c_calls.specs.File.{AreSitemaps, HasDelay, IsRobotFor, IsSiteOfSomeFile, bytes_read};
+ghost use Rattle.c_calls.specs.Kept.{Robots, Sites, lends, opens, owned_or_null};
+ghost use Rattle.c_calls.specs.Status.{HasFault, HasFaultAt, IsWhyNoDelay, IsWhyNoSite, IsWhyNoMatrix};
+ghost use Rattle.c_calls.specs.Status.{IsWhyNoRobot, SaysNamed, status_of};
 
-use crate::fault::Fault;
-use crate::file::{delay_in, text_of};
-use crate::handle::for_any_thread;
-use crate::kept::{Handle, Kept};
-use crate::texts::{agents_in, put, sitemaps_in};
-use std::alloc::{AllocError, Global};
+use c_calls::fault::Fault;
+use c_calls::kept::{Handle, Kept};
+use c_calls::matrix::matrix_by;
+use c_calls::site;
+use std::alloc::Global;
 use texting_robots::{Robot, Site};
 
-pub(crate) fn close(site: Handle<Site>) {
-    drop(site.into_box());
-}
-
-fn open(alloc: Global, file: &[u8]) -> Result<Box<Site>, Fault>
-    ensures ok { IfOk result (λ site. site.value ≡ bytes_read file.now) }
-    ensures fault { IfErr result IsWhyNoSite }
+/// Reads a file for all crawlers, and writes a pointer to its site, which C owns from then on.
+#[unsafe(no_mangle)]
+pub extern "C" fn robots_site_open(alloc: Global, file: &[u8], out: &mut *mut u8) -> i32
+    ensures* opened { sem 𝓛 (opens Sites (λ site. site ≡ bytes_read file.now) result out.new) }
+    ensures kept { result ≢ pos 0 → out.new ≡ out.old }
+    ensures why { HasFault IsWhyNoSite result }
 {
-    let site = Box::new(alloc, Site::new(alloc, file)?)?;
-    for_any_thread(&*site);
-    Ok(site)
+    let Kept { status, at } = site::opened(alloc, file, *out as *mut Site);
+    *out = at as *mut u8;
+    status
 }
 
-/// If that fails, the pointer is `at`.
-pub(crate) fn opened(alloc: Global, file: &[u8], at: *mut Site) -> Kept<Site>
-    ensures opened { result.status ≡ pos 0 → result.value ≡ Some (bytes_read file.now) }
-    ensures kept { result.status ≢ pos 0 → result.at ≡ at }
-    ensures why { HasFault IsWhyNoSite result.status }
-{
-    match open(alloc, file) {
-        Ok(site) => Kept::boxed(0, site),
-        Err(fault) => Kept::nothing(fault.status(), at),
-    }
-}
-
-fn robot(alloc: Global, site: &Site, agent: &[u8]) -> Result<Box<Robot>, Fault>
-    ensures ok { IfOk result (λ robot. IsRobotFor agent.now site.now robot.value) }
-    ensures fault { IfErr result (IsWhyNoRobot agent.now site.now) }
-{
-    let agent = text_of(agent)?;
-    let robot = site.robot_without_sitemaps(alloc, agent)?;
-    Ok(Box::new(alloc, robot)?)
-}
-
-/// If that fails, the pointer is `at`, and the line of a rule that is too long is written.
-pub(crate) fn robot_opened(
+/// Writes a pointer to a crawler's robot, as `robots_open` does. The site is borrowed: the call only reads
+/// it.
+#[unsafe(no_mangle)]
+pub unsafe extern "C" fn robots_site_robot(
     alloc: Global,
-    site: &Site,
+    site: *const u8,
     agent: &[u8],
-    at: *mut Robot,
+    out: &mut *mut u8,
     line: &mut usize,
-) -> Kept<Robot>
-    ensures opened { result.status ≡ pos 0 → GivesRobot agent.now site.now (λ robot. result.value ≡ Some robot) }
-    ensures kept { result.status ≢ pos 0 → result.at ≡ at }
-    ensures why { HasFaultAt (IsWhyNoRobot agent.now site.now) result.status line.old line.new }
-{
-    match robot(alloc, site, agent) {
-        Ok(robot) => Kept::boxed(0, robot),
-        Err(fault) => Kept::nothing(fault.status_at(line), at),
-    }
-}
-
-pub(crate) fn delay(site: &Site, agent: &[u8], out: &mut u64) -> i32
-    ensures written { result ≡ pos 0 → HasDelay agent.now site.now (Some out.new) }
+) -> i32
+    ghost g: { Lft × Share × List ℕ }
+    requires* lent { sem 𝓛 (lends Sites site g) }
+    ensures* lent { sem 𝓛 (flft g.0 g.1) }
+    ensures* opened { sem 𝓛 (opens Robots (IsRobotFor agent.now g.2) result out.new) }
     ensures kept { result ≢ pos 0 → out.new ≡ out.old }
-    ensures why { HasFault (IsWhyNoDelay agent.now site.now) result }
+    ensures why { HasFaultAt (IsWhyNoRobot agent.now g.2) result line.old line.new }
 {
-    match delay_in(site, agent) {
-        Ok(delay) => {
-            *out = delay;
-            0
-        }
-        Err(fault) => fault.status(),
-    }
+    let Kept { status, at } = site::robot_opened(
+        alloc,
+        &*(site as *const Site),
+        agent,
+        *out as *mut Robot,
+        line,
+    );
+    *out = at as *mut u8;
+    status
 }
 
-pub(crate) fn bytes(site: &Site, out: &mut usize) -> i32
+/// Writes a matrix of numbers: a row for each crawler with a number for each URL, as `robots_decide` does.
+/// The crawlers are one string, and the URLs another, separated by LF. In the row of a crawler for which the
+/// file is rejected, each number is the least `i64`.
+#[unsafe(no_mangle)]
+pub unsafe extern "C" fn robots_site_matrix(
+    alloc: Global,
+    site: *const u8,
+    agents: &[u8],
+    urls: &[u8],
+    out: &mut [i64],
+) -> i32
+    ghost g: { Lft × Share × List ℕ }
+    requires* lent { sem 𝓛 (lends Sites site g) }
+    requires site { IsSiteOfSomeFile g.2 }
+    ensures* lent { sem 𝓛 (flft g.0 g.1) }
+    ensures written { result ≡ pos 0 → IsMatrixPutIn g.2 agents.now urls.now out.old out.new }
+    ensures kept { result ≢ pos 0 → out.new ≡ out.old }
+    ensures why { HasFault (IsWhyNoMatrix agents.now urls.now (length out.old)) result }
+{
+    matrix_by(alloc, &*(site as *const Site), agents, urls, out)
+}
+
+/// Writes a crawler's delay in microseconds. It doesn't allocate.
+#[unsafe(no_mangle)]
+pub unsafe extern "C" fn robots_site_delay(site: *const u8, agent: &[u8], out: &mut u64) -> i32
+    ghost g: { Lft × Share × List ℕ }
+    requires* lent { sem 𝓛 (lends Sites site g) }
+    ensures* lent { sem 𝓛 (flft g.0 g.1) }
+    ensures written { result ≡ pos 0 → HasDelay agent.now g.2 (Some out.new) }
+    ensures kept { result ≢ pos 0 → out.new ≡ out.old }
+    ensures why { HasFault (IsWhyNoDelay agent.now g.2) result }
+{
+    site::delay(&*(site as *const Site), agent, out)
+}
+
+/// Writes how many bytes of memory the site takes with this handle. It doesn't allocate.
+#[unsafe(no_mangle)]
+pub unsafe extern "C" fn robots_site_bytes(site: *const u8, out: &mut usize) -> i32
+    ghost g: { Lft × Share × List ℕ }
+    requires* lent { sem 𝓛 (lends Sites site g) }
+    ensures* lent { sem 𝓛 (flft g.0 g.1) }
     ensures status { result ≡ pos 0 }
-    ensures written { length site.now ≤ out.new }
+    ensures written { length g.2 ≤ out.new }
 {
-    *out = site.bytes();
-    0
+    site::bytes(&*(site as *const Site), out)
 }
 
-pub(crate) fn sitemaps(alloc: Global, site: &Site, out: &mut [u8], len: &mut usize) -> i32
-    ensures written { result ≡ pos 0 → IsWritten (AreSitemaps site.now) out.old out.new len.new }
-    ensures buffer_too_small { result ≡ status_of Fault.BufferTooSmall → IsTooLong (AreSitemaps site.now) (length out.old) len.new }
+/// Writes the sitemaps that the file lists, each followed by LF, and their total length. If the buffer is too
+/// small, it writes only the length.
+#[unsafe(no_mangle)]
+pub unsafe extern "C" fn robots_site_sitemaps(
+    alloc: Global,
+    site: *const u8,
+    out: &mut [u8],
+    len: &mut usize,
+) -> i32
+    ghost g: { Lft × Share × List ℕ }
+    requires* lent { sem 𝓛 (lends Sites site g) }
+    ensures* lent { sem 𝓛 (flft g.0 g.1) }
+    ensures written { result ≡ pos 0 → IsWritten (AreSitemaps g.2) out.old out.new len.new }
+    ensures buffer_too_small { result ≡ status_of Fault.BufferTooSmall → IsTooLong (AreSitemaps g.2) (length out.old) len.new }
     ensures length_kept { result ≢ pos 0 → result ≢ status_of Fault.BufferTooSmall → len.new ≡ len.old }
     ensures kept { result ≢ pos 0 → out.new ≡ out.old }
     ensures why { (result ≡ pos 0) ⊎ ((result ≡ status_of Fault.BufferTooSmall) ⊎ (result ≡ status_of Fault.Memory)) }
 {
-    match sitemaps_in(alloc, site) {
-        Ok(text) => put(&text, out, len),
-        Err(AllocError) => Fault::Memory.status(),
-    }
+    site::sitemaps(alloc, &*(site as *const Site), out, len)
 }
 
-pub(crate) fn agents(alloc: Global, site: &Site, out: &mut [u8], len: &mut usize) -> i32
-    ensures written { result ≡ pos 0 → IsWritten (AreAgents site.now) out.old out.new len.new }
-    ensures buffer_too_small { result ≡ status_of Fault.BufferTooSmall → IsTooLong (AreAgents site.now) (length out.old) len.new }
+/// The same for the names in the file's user-agent lines, each once.
+#[unsafe(no_mangle)]
+pub unsafe extern "C" fn robots_site_agents(
+    alloc: Global,
+    site: *const u8,
+    out: &mut [u8],
+    len: &mut usize,
+) -> i32
+    ghost g: { Lft × Share × List ℕ }
+    requires* lent { sem 𝓛 (lends Sites site g) }
+    ensures* lent { sem 𝓛 (flft g.0 g.1) }
+    ensures written { result ≡ pos 0 → IsWritten (AreAgents g.2) out.old out.new len.new }
+    ensures buffer_too_small { result ≡ status_of Fault.BufferTooSmall → IsTooLong (AreAgents g.2) (length out.old) len.new }
     ensures length_kept { result ≢ pos 0 → result ≢ status_of Fault.BufferTooSmall → len.new ≡ len.old }
     ensures kept { result ≢ pos 0 → out.new ≡ out.old }
     ensures why { (result ≡ pos 0) ⊎ ((result ≡ status_of Fault.BufferTooSmall) ⊎ (result ≡ status_of Fault.Memory)) }
 {
-    match agents_in(alloc, site) {
-        Ok(text) => put(&text, out, len),
-        Err(AllocError) => Fault::Memory.status(),
-    }
+    site::agents(alloc, &*(site as *const Site), out, len)
 }
 
-pub(crate) fn is_named(site: &Site, agent: &[u8]) -> i32
-    ensures { SaysNamed agent.now site.now result }
+/// 1 if a user-agent line names the crawler, 0 if none does, so that it has the robot of `*`, and -1 if its
+/// name isn't UTF-8. It doesn't allocate.
+#[unsafe(no_mangle)]
+pub unsafe extern "C" fn robots_site_is_named(site: *const u8, agent: &[u8]) -> i32
+    ghost g: { Lft × Share × List ℕ }
+    requires* lent { sem 𝓛 (lends Sites site g) }
+    ensures* lent { sem 𝓛 (flft g.0 g.1) }
+    ensures named { SaysNamed agent.now g.2 result }
 {
-    match text_of(agent) {
-        Ok(agent) => i32::from(site.is_named(agent)),
-        Err(fault) => fault.status(),
+    site::is_named(&*(site as *const Site), agent)
+}
+
+/// Frees what `robots_site_open` opened. A null pointer is ignored.
+#[unsafe(no_mangle)]
+pub unsafe extern "C" fn robots_site_close(alloc: Global, site: *mut u8)
+    ghost value: { List ℕ }
+    requires* owned { sem 𝓛 (owned_or_null Sites site value) }
+{
+    if site.is_null() {
+        return;
     }
+    site::close(Handle {
+        at: site as *mut Site,
+        alloc,
+    })
 }

@@ -13,16 +13,14 @@ use Rattle.robots_verdict.specs.Internal.{IsFirstLf, IsOneLine}
 pub line_found : (line input : List ℕ) (place : ℕ) → IsFirstLf input place
     → line_from line input ≡ Some (strip_last cr (line ++ take place input), drop (suc place) input)
 line_found line [] place is = absurd (omega (arith, is.within))
-line_found line (b ∷ input) zero is = let feed : b ≡ lf = is.feed in rw (feed, append-nil) refl
+line_found line (b ∷ input) zero is = grind (arith, append-nil, is.feed)
 line_found line (b ∷ input) (suc place) is =
     let later = line_found (line ++ b ∷ []) input place (record {
       within = omega (arith, is.within);
       feed = is.feed;
       before = λ k below. is.before (suc k) (omega (arith, below));
     }) in
-    rw (ne_eqb b lf (is.before 0 (omega arith))) (later
-    ∙ ap (λ (t : List ℕ). Some (strip_last cr t, drop (suc place) input))
-    (append_assoc line (b ∷ []) (take place input)))
+    rw (ne_eqb b lf (is.before 0 (omega arith))) (grind (arith, append_assoc, place))
 
 pub line_none : (line input : List ℕ) → IsOneLine input → None ≡ line_from line input
 line_none line [] one = refl
@@ -35,10 +33,7 @@ urls_after (Some (url, rest)) =
 
 urls_by : (line input : List ℕ) → urls_from line input ≡ urls_after (line_from line input)
 urls_by line [] = refl
-urls_by line (b ∷ input) = elim (cases_Bool (b == lf)) [
-  | inl feed ↦ rw feed refl
-  | inr other ↦ rw other (urls_by (line ++ b ∷ []) input)
-]
+urls_by line (b ∷ input) = grind (arith, cases_Bool, urls_by (line ++ b ∷ []) input)
 
 abbrev in_front : List (List ℕ) → List (List ℕ) × List ℕ → List (List ℕ) × List ℕ
 in_front urls found = (urls ++ found.0, found.1)
@@ -56,13 +51,7 @@ goes_first start = record { same = first (urls_from [] start) }
 
 pub goes_more : (start rest url next : List ℕ) (urls : List (List ℕ)) → GoOn start urls rest
     → Some (url, next) ≡ line_from [] rest → (length url == 0) ≡ false → GoOn start (urls ++ url ∷ []) next
-goes_more start rest url next urls so_far line filled =
-    let here : urls_after (Some (url, next)) ≡ option_map (with_url url) (urls_from [] next) = rw filled refl in
-    record {
-      same = so_far.same
-          ∙ ap (option_map (in_front urls)) (urls_by [] rest ∙ ap urls_after (sym line) ∙ here)
-          ∙ one_more (urls_from [] next);
-    }
+goes_more start rest url next urls so_far line filled = grind (arith, urls_by, one_more)
   where
     one_more : (found : Option (List (List ℕ) × List ℕ)) → option_map (in_front urls)
         (option_map (with_url url) found) ≡ option_map (in_front (urls ++ url ∷ [])) found
@@ -73,23 +62,15 @@ goes_more start rest url next urls so_far line filled =
 pub split_found : (input agent start rest url file : List ℕ) (urls : List (List ℕ))
     → Some (agent, start) ≡ line_from [] input → GoOn start urls rest → Some (url, file) ≡ line_from [] rest
     → (length url == 0) ≡ true → split input ≡ Some (record { agent = agent; urls = urls; file = file })
-split_found input agent start rest url file urls line so_far end empty =
-    let here : urls_after (Some (url, file)) ≡ Some ([], file) = rw empty refl in
-    ap after_agent (sym line)
-    ∙ ap (option_map (input_of agent)) (so_far.same
-    ∙ ap (option_map (in_front urls)) (urls_by [] rest ∙ ap urls_after (sym end) ∙ here))
-    ∙ ap (λ all. Some (record { agent = agent; urls = all; file = file })) (append-nil urls)
+split_found input agent start rest url file urls line so_far end empty = grind (arith, append-nil, urls_by)
 
 pub no_split : (input agent start rest : List ℕ) (urls : List (List ℕ))
     → Some (agent, start) ≡ line_from [] input → GoOn start urls rest → None ≡ line_from [] rest
     → split input ≡ None
-no_split input agent start rest urls line so_far end =
-    ap after_agent (sym line)
-    ∙ ap (option_map (input_of agent)) (so_far.same
-    ∙ ap (option_map (in_front urls)) (urls_by [] rest ∙ ap urls_after (sym end)))
+no_split input agent start rest urls line so_far end = cc (urls_by [] rest)
 
 pub no_agent : (input : List ℕ) → None ≡ line_from [] input → split input ≡ None
-no_agent input line = ap after_agent (sym line)
+no_agent input line = cc
 
 -- ---- Whether the lines are UTF-8.
 
@@ -98,8 +79,7 @@ all_utf8 texts = list_all is_utf8 (map (λ text. text.now) texts)
 
 utf8_at : (texts : List (Bor (List ℕ))) (i : ℕ) (d : Bor (List ℕ)) (b : Bool) → i < length texts
     → is_utf8 (slice_index_or texts i d).now ≡ b → all_utf8 (drop i texts) ≡ (b && all_utf8 (drop (i + 1) texts))
-utf8_at texts i d b below is =
-    ap all_utf8 (drop_more texts i d below) ∙ ap (λ b. b && all_utf8 (drop (i + 1) texts)) is
+utf8_at texts i d b below is = grind (arith, drop_more)
 
 pub utf8_next : (texts : List (Bor (List ℕ))) (i : ℕ) (d : Bor (List ℕ))
     → all_utf8 texts ≡ all_utf8 (drop i texts) → i < length texts
@@ -124,9 +104,7 @@ not_empty (b ∷ input) line = λ is. cc
 pub some_url : (input agent start rest url : List ℕ) (urls : List (List ℕ))
     → Some (agent, start) ≡ line_from [] input → GoOn start (urls ++ url ∷ []) rest
     → ¬ IsSomeAnd (split input) (λ parts. parts.urls ≡ [])
-some_url input agent start rest url urls line so_far is =
-    some urls (urls_from [] rest) (subst (λ parts. IsSomeAnd parts (λ parts. parts.urls ≡ []))
-    (ap after_agent (sym line) ∙ ap (option_map (input_of agent)) so_far.same) is)
+some_url input agent start rest url urls line so_far is = grind (arith, some)
   where
     some : (urls : List (List ℕ)) (found : Option (List (List ℕ) × List ℕ))
         → ¬ IsSomeAnd (option_map (input_of agent) (option_map (in_front (urls ++ url ∷ [])) found))
@@ -151,6 +129,5 @@ pub urls_allocated : {X : Type 0} (r : Result X Fault) (fault : Fault) (urls : L
     → IfErr r (λ fault. fault ≡ Memory → (input ≢ []) × ¬ IsSomeAnd (split input) (λ parts. parts.urls ≡ []))
 urls_allocated (Ok x) fault urls input is some same all = tt
 urls_allocated (Err e) fault urls [] is some same all = absurd (cc)
-urls_allocated (Err e) fault [] (b ∷ input) is some same all = λ memory. absurd (some (sym is ∙ memory) refl)
-urls_allocated (Err e) fault (url ∷ urls) (b ∷ input) is some same all =
-    λ memory. (λ none. cc, rw (same, all) (λ none. cc))
+urls_allocated (Err e) fault [] (b ∷ input) is some same all = grind (arith, some)
+urls_allocated (Err e) fault (url ∷ urls) (b ∷ input) is some same all = grind arith

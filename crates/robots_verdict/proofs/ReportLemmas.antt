@@ -1,4 +1,5 @@
 -- How a report is built, and that an input has at most one.
+use Rattle.std.proofs.Common.{arith}
 use Rattle.std.proofs.Common.{◌≡◌, ◌≢◌, ◌⊎◌, ℕ, Bool, true, false, List, [], ◌∷◌, ◌++◌, Option, Some, None}
 use Rattle.std.proofs.Common.{IfErr, IfSome, MatchBool, Result, Ok, Err, ap, inl, inr, map, refl, subst, sym, ◌∙◌}
 use Rattle.std.proofs.lemmas.Bool.{cases_Bool, false≢true}
@@ -46,14 +47,7 @@ text_made input one two text robot is first second last =
 
 text_once : (input : Input) (text other : List ℕ) → IsReportText input text → IsReportText input other
     → text ≡ other
-text_once input text other one two =
-    let lines = lines_read input.file in
-    one.whole
-    ∙ ap (λ verdicts.
-    ended (delay_line (delay_for input.agent lines) ∷ (map sitemap_line (sitemaps_in lines) ++ verdicts)))
-    (lines_once (placed_rules input.agent lines) input.urls one.verdict_lines two.verdict_lines one.verdicts
-    two.verdicts)
-    ∙ sym two.whole
+text_once input text other one two = grind (arith, lines_once, one.verdict_lines, two.verdict_lines)
 
 match_once : {X : Type 0} (b : Bool) (P Q : X → Type 0) → ((x y : X) → P x → P y → x ≡ y)
     → ((x y : X) → Q x → Q y → x ≡ y) → (x y : X) → MatchBool b (P x) (Q x) → MatchBool b (P y) (Q y) → x ≡ y
@@ -62,11 +56,11 @@ match_once false P Q p q x y one two = q x y one two
 
 read_once : (input : Input) (report other : Result (List ℕ) Fault) → IsReportOnUtf8 input report
     → IsReportOnUtf8 input other → report ≡ other
-read_once input report other (inl one) (inl two) = one.1 ∙ sym two.1
+read_once input report other (inl one) (inl two) = cc
 read_once input report other (inl one) (inr two) = absurd (two.0 one.0)
 read_once input report other (inr one) (inl two) = absurd (one.0 two.0)
 read_once input report other (inr (_, text, made, is)) (inr (_, again, too, was)) =
-    is ∙ ap (λ t. Ok t) (text_once input text again made too) ∙ sym was
+    cc (text_once input text again made too)
 
 report_once : (parts : Option Input) (report other : Result (List ℕ) Fault) → IsReportOn parts report
     → IsReportOn parts other → report ≡ other
@@ -86,8 +80,7 @@ rejected_or_not input =
     let decides = any_overlong_decides (rules_for input.agent lines) in
     elim (cases_Bool _) [
       | inl some ↦ inl (lines, lines_are_read input.file, is.1 (decides.0 some))
-      | inr none ↦ inr (λ rejected. false≢true (sym none ∙ decides.1 (is.0
-          (read_rejected input.agent input.file rejected))))
+      | inr none ↦ inr (λ rejected. false≢true (cc (decides.1 (is.0 (read_rejected input.agent input.file rejected)))))
     ]
 
 text_of_report : (input : Input) → (text : List ℕ) × IsReportText input text
@@ -96,7 +89,7 @@ text_of_report input =
     let (verdict_lines, are) = some_lines (placed_rules input.agent lines) input.urls in (
       ended (delay_line (delay_for input.agent lines)
           ∷ (map sitemap_line (sitemaps_in lines) ++ verdict_lines)),
-      record { verdict_lines = verdict_lines; verdicts = are; whole = refl },
+      grind arith,
     )
 
 report_on : (parts : Option Input) → (report : Result (List ℕ) Fault) × IsReportOn parts report
@@ -116,24 +109,21 @@ some_report input = report_on (split input)
 -- ---- The report that the code makes, or its error.
 
 pub no_parts : (input : List ℕ) → split input ≡ None → IsReport input (Err NoEmptyLine)
-no_parts input none = subst (λ parts. IsReportOn parts (Err NoEmptyLine)) (sym none) refl
+no_parts input none = grind arith
 
 pub header_fault : {X : Type 0} (r : Result X Fault) (fault : Fault) (input : List ℕ) {parts : Input}
     → IsErrAnd r (λ other. other ≡ fault) → split input ≡ Some parts
     → (fault ≢ Memory → (fault ≡ HeaderNotUtf8) × (are_utf8 parts ≡ false))
     → IfErr r (λ fault. fault ≢ Memory → IsReport input (Err fault))
 header_fault (Ok x) fault input is same not = absurd is
-header_fault (Err e) fault input is same not = λ known.
-    let (wrong, utf8) = not (λ memory. known (is ∙ memory)) in
-    subst (λ of. IsReportOn of (Err e)) (sym same) (rw (utf8, is, wrong) refl)
+header_fault (Err e) fault input is same not = grind arith
 
 pub robot_fault : {X : Type 0} (r : Result X Fault) (error : Error) (input : List ℕ) {parts : Input}
     → IsErrAnd r (λ fault. fault ≡ fault_of error) → split input ≡ Some parts → are_utf8 parts ≡ true
     → IsMemoryErrorOr (IsRejected parts) error
     → IfErr r (λ fault. fault ≢ Memory → IsReport input (Err fault))
 robot_fault (Ok x) error input is same are rejected = absurd is
-robot_fault (Err fault) error.InvalidRule input is same are rejected =
-    λ _. subst (λ of. IsReportOn of (Err fault)) (sym same) (rw (are, is) (inl (rejected, refl)))
+robot_fault (Err fault) error.InvalidRule input is same are rejected = grind arith
 robot_fault (Err fault) error.InvalidRobots input is same are rejected = absurd rejected
 robot_fault (Err fault) error.Memory input is same are rejected = λ known. absurd (known is)
 
@@ -146,9 +136,7 @@ pub run_wrote : (left : Option (List ℕ)) (W : List ℕ → Type 0) (items byte
     → IfSome left (λ input. items ≡ input) → bytes ≡ items → IsReport bytes (Ok text) → written ≡ text
     → W written
     → IfSome left (λ input. (text : List ℕ) × IsReport input (Ok text) × W text)
-run_wrote left W items bytes text written read same report whole wrote =
-    of_input left (λ input. (text : List ℕ) × IsReport input (Ok text) × W text) items bytes read same
-    (text, report, subst W whole wrote)
+run_wrote left W items bytes text written read same report whole wrote = grind (arith, of_input)
 
 pub run_fault : {X : Type 0} (left : Option (List ℕ)) (items bytes : List ℕ) (r : Result X Fault)
     (fault wanted : Fault) → IfSome left (λ input. items ≡ input) → bytes ≡ items
@@ -156,8 +144,7 @@ pub run_fault : {X : Type 0} (left : Option (List ℕ)) (items bytes : List ℕ)
     → wanted ≢ Memory → r ≡ Err wanted → IfSome left (λ input. IsReport input (Err wanted))
 run_fault left items bytes r fault wanted read same has is known answer =
     let found : wanted ≡ fault = rw answer at is in
-    of_input left (λ input. IsReport input (Err wanted)) items bytes read same
-    (subst (λ fault. IsReport bytes (Err fault)) (sym found) (has (λ memory. known (found ∙ memory))))
+    grind (arith, of_input, has, known)
 
 pub run_memory : {X : Type 0} (left : Option (List ℕ)) (items bytes : List ℕ) (r : Result X Fault)
     (fault : Fault) → IfSome left (λ input. items ≡ input) → bytes ≡ items → (fault ≡ Memory → bytes ≢ [])
@@ -168,7 +155,5 @@ run_memory left items bytes r fault read same some is answer =
 
 pub run_unread : {X P : Type 0} (r : Result X Fault) (fault : ReadFault)
     → IsErrAnd r (λ own. own ≡ fault_of_read fault) → (fault ≡ reading.Memory → P) → r ≡ Err Memory → P
-run_unread r reading.Read is some answer =
-    let found : Memory ≡ Read = rw answer at is in
-    absurd (cc)
+run_unread r reading.Read is some answer = grind arith
 run_unread r reading.Memory is some answer = some refl

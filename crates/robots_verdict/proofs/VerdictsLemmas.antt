@@ -1,5 +1,6 @@
 -- Verdict lines: how they are appended one by one, that the URLs determine them, and that rules which decide
 -- alike have the same lines.
+use Rattle.std.proofs.Common.{arith}
 use Rattle.std.proofs.Common.{◌≡◌, ℕ, ◌+◌, ◌<◌, List, [], ◌∷◌, ◌++◌, length, map, take, append_assoc, refl}
 use Rattle.std.proofs.Common.{slice_index_or, sym, ap, ◌∙◌}
 use Rattle.std.specs.{List.AllZip}
@@ -13,7 +14,7 @@ use Rattle.printable_text.proofs.{SanitizeLemmas.lines_added}
 
 module _ (rules : List PlacedRule) where
   pub adds_nothing : (text : List ℕ) → AddsVerdicts rules [] text text
-  adds_nothing text = record { lines = []; verdicts = tt; whole = sym (append-nil text) }
+  adds_nothing text = grind (arith, append-nil)
 
   -- appending the verdict and the line number, then the URL and LF, appends a verdict line
   pub adds_one : (decision : Decision) (url old mid new : List ℕ) → IsDecisionOn rules (prepared url) decision
@@ -24,7 +25,7 @@ module _ (rules : List PlacedRule) where
       let before = verdict_front decision.allowed decision.line in
       record {
         line = before ++ url;
-        verdict = record { decision = decision; decided = decided; whole = refl };
+        verdict = grind arith;
         whole = rw (back, front) (simp (append_assoc, append-nil));
       }
 
@@ -50,10 +51,7 @@ module _ (rules : List PlacedRule) where
       let text = prepared url in
       let answers =
       one_verdict (unplaced rules) text one.decision.allowed two.decision.allowed a.verdict b.verdict in
-      let numbers =
-      one_line_decides rules text one.decision.line two.decision.line a.deciding b.deciding in
-      one.whole ∙ ap (λ allowed. verdict_front allowed one.decision.line ++ url) answers
-      ∙ ap (λ number. verdict_front two.decision.allowed number ++ url) numbers ∙ sym two.whole
+      grind (arith, one_line_decides)
 
   pub lines_once : (urls lines others : List (List ℕ)) → AllZip (IsVerdictLine rules) urls lines
       → AllZip (IsVerdictLine rules) urls others → lines ≡ others
@@ -78,7 +76,7 @@ module _ (rules : List PlacedRule) where
         (
           record {
             decision = decision;
-            decided = record { verdict = answered.verdict; deciding = answered.deciding };
+            decided = grind arith;
             whole = refl;
           },
           are,
@@ -91,14 +89,5 @@ pub lines_like : (rules others : List PlacedRule) → AnswerAlike rules others
 lines_like rules others alike [] [] are = tt
 lines_like rules others alike [] (line ∷ lines) are = absurd are
 lines_like rules others alike (url ∷ urls) [] are = absurd are
-lines_like rules others alike (url ∷ urls) (line ∷ lines) (first, later) = (
-  record {
-    decision = first.decision;
-    decided = record {
-      verdict = (alike.verdicts (prepared url) first.decision.allowed).0 first.decided.verdict;
-      deciding = (alike.deciding (prepared url) first.decision.line).0 first.decided.deciding;
-    };
-    whole = first.whole;
-  },
-  lines_like rules others alike urls lines later,
-)
+lines_like rules others alike (url ∷ urls) (line ∷ lines) (first, later) =
+    grind (arith, alike.verdicts, alike.deciding, lines_like rules others alike urls lines later)

@@ -1,12 +1,12 @@
 -- Warnings about closed sites and about conflicting rules.
 use Rattle.std.specs.Prelude.{is_some}
-use Rattle.std.proofs.{lemmas.Grind.common_steps, lemmas.Option.same_Some, lemmas.Slice.Eq.bytes_eq-Decides}
-use Rattle.std.proofs.{lemmas.Bool.Decides.nat_tests, lemmas.List.Elements.All-contains}
-use Rattle.std.proofs.Common.{rules, Some, bytes_eq, codes, if◌then◌else◌, ◌∙◌, ◌≡◌, ℕ, ◌==◌, ◌&&◌, ◌||◌, []}
+use Rattle.std.proofs.{lemmas.Slice.Eq.bytes_eq-Decides}
+use Rattle.std.proofs.{lemmas.List.Elements.All-contains}
+use Rattle.std.proofs.Common.{rules, Some, bytes_eq, if◌then◌else◌, ◌∙◌, ◌≡◌, ℕ, ◌==◌, ◌&&◌, ◌||◌, []}
 use Rattle.std.proofs.Common.{Bool, true, false, List, ◌∷◌, Contains, append-nil, ap, arith, inl, inr, length}
 use Rattle.std.proofs.Common.{not, refl, subst, suc, sym, ◌⊎◌, Any, None, Option, ◌≢◌, ◌<◌, ◌++◌, All, nat_eq}
 use Rattle.std.proofs.Common.{nat_le}
-use Rattle.std.proofs.lemmas.Bool.{and_parts, cases_Bool, not-true, eqb-true, or_cases, eq-eqb, false≢true}
+use Rattle.std.proofs.lemmas.Bool.{and_parts, not-true, eqb-true, or_cases, eq-eqb, false≢true}
 use Rattle.std.specs.{List.list_all, List.list_any, Str.byte, Option.option_or, List.starts_with}
 use Rattle.std.proofs.lemmas.List.Folds.{list_any-from_Any, Any-from_list_any, list_all_at, list_any_at}
 use Rattle.texting_robots.specs.Callers.{AreRulesFor, LineValue, Matches, PlacedRule, Rule, escaped, IsDenied}
@@ -17,10 +17,10 @@ use Rattle.robots_warnings.specs.Closed.{without_stars, closing_line, is_allow, 
 use Rattle.robots_warnings.specs.Closed.{is_rival, line_closing, matches_no_path, opened_paths, reach_of}
 use Rattle.robots_warnings.specs.Conflicts.{IsConflict, allow_beside, at_line, compared, conflict_for}
 use Rattle.robots_warnings.specs.Conflicts.{first_line, first_of, is_like, line_if}
-use Rattle.robots_warnings.specs.{Contents.is_cut_to_root, declared.closed.Reach.Reach, Crawlers.other_group}
+use Rattle.robots_warnings.specs.{Contents.is_cut_to_root}
 use Rattle.robots_warnings.proofs.{ClosedLemmas.whole_site_stays}
 use Rattle.texting_robots.proofs.Shared.{computed_are, placed_of, in_front, plain_wildcards}
-use Rattle.robots_warnings.specs.declared.closed.Reach.TheVariants.{Everything, Nothing, Part}
+use Rattle.robots_warnings.specs.declared.closed.Reach.TheVariants.{Everything, Nothing}
 use Rattle.robots_needless.proofs.{TogetherLemmas.unplaced_of}
 use Rattle.warnings_laws.proofs.{WarningLemmas.without_path}
 
@@ -29,7 +29,7 @@ use Rattle.warnings_laws.proofs.{WarningLemmas.without_path}
 stars_match : (pattern : List ℕ) → list_all is_star_or_dollar pattern ≡ true → Matches pattern []
 unfolding MatchesWith
 stars_match [] stars = tt
-stars_match (b ∷ pattern) stars = grind (arith, and_parts, or_cases, eqb-true, stars_match pattern)
+stars_match (b ∷ pattern) stars = grind (arith, stars_match pattern)
 
 anything_matches : (pattern text : List ℕ) → is_anything pattern ≡ true → Matches pattern text
 unfolding MatchesWith
@@ -42,7 +42,7 @@ anything_matches (b ∷ pattern) text is =
 rest_matches : (pattern text : List ℕ) → (length pattern == 0 || is_anything pattern) ≡ true
     → Matches pattern text
 unfolding MatchesWith
-rest_matches pattern text rest = grind (arith, or_cases, eqb-true, anything_matches)
+rest_matches pattern text rest = grind (arith, anything_matches)
 
 root_matches : (pattern text : List ℕ) → is_root pattern ≡ true → Matches pattern (byte "/" ∷ text)
 unfolding MatchesWith
@@ -55,12 +55,12 @@ root_matches (b ∷ pattern) text root =
 stars_match_before : (pattern text : List ℕ) → Matches (without_stars pattern) text → Matches pattern text
 unfolding MatchesWith
 stars_match_before [] text rest = rest
-stars_match_before (b ∷ pattern) text rest = grind (arith, eqb-true, stars_match_before pattern text)
+stars_match_before (b ∷ pattern) text rest = grind (arith, stars_match_before pattern text)
 
 pub whole_site_matches : (pattern text : List ℕ) → is_whole_site pattern ≡ true
     → Matches pattern (byte "/" ∷ text)
 whole_site_matches pattern text whole =
-    grind (arith, or_cases, anything_matches, stars_match_before, root_matches)
+    grind (arith, anything_matches, stars_match_before, root_matches)
 
 pub cut_to_root_matches : (value tail comment path : List ℕ) → is_cut_to_root value tail comment ≡ true
     → Matches (escaped value) (byte "/" ∷ path)
@@ -86,7 +86,7 @@ first_found f (x ∷ xs) n is = by (f x) refl (first_found f xs n) is
 pub any_some : {X : Type 0} (f : X → Option ℕ) (xs : List X)
     → list_any (λ x. is_some (f x)) xs ≡ is_some (first_of f xs)
 any_some f [] = refl
-any_some f (x ∷ xs) = grind (arith, common_steps, any_some f xs)
+any_some f (x ∷ xs) = grind (arith, any_some f xs)
 
 pub first_some : {X : Type 0} (f : X → Option ℕ) (xs : List X) (x : X) → Contains xs x → is_some (f x) ≡ true
     → is_some (first_of f xs) ≡ true
@@ -101,16 +101,12 @@ pub unless_found : (a : Bool) (x : Option ℕ) (n : ℕ) → (if a then None els
     → (a ≡ false) × (x ≡ Some n)
 unless_found a x n h = grind arith
 
-kind_is : (is_allow kind : Bool) → (if is_allow then kind else not kind) ≡ true → kind ≡ is_allow
-kind_is true kind is = is
-kind_is false kind is = not-true kind is
-
 pub like_found : (is_empty : ℕ → Bool) (rules : List PlacedRule) (is_allow : Bool) (pattern : List ℕ)
     (other : ℕ) → first_line (is_like is_empty is_allow pattern) rules ≡ Some other
     → (one : PlacedRule) × Contains rules one × (one.rule.1 ≡ is_allow) × (compared one.rule.0 ≡ pattern)
     × (is_empty other ≡ false) × (one.line ≡ other)
 like_found is_empty rules is_allow pattern other found =
-    grind (arith, first_found, if_found, same_Some, and_parts, kind_is, bytes_eq-Decides, not-true)
+    grind (arith, first_found, bytes_eq-Decides)
 
 pub like_holds : (is_empty : ℕ → Bool) (rules : List PlacedRule) (is_allow : Bool) (pattern : List ℕ)
     (other : ℕ) (own : List ℕ) → compared own ≡ pattern → is_empty other ≡ false
@@ -119,7 +115,7 @@ pub like_holds : (is_empty : ℕ → Bool) (rules : List PlacedRule) (is_allow :
 like_holds is_empty rules is_allow pattern other own same stated has =
     first_some (line_if (is_like is_empty is_allow pattern)) rules
     (record { rule = (own, is_allow); line = other }) has
-    (rw (stated, (bytes_eq-Decides (compared own) pattern).1 same) (by is_allow))
+    (grind (arith, bytes_eq-Decides))
   where
     by : (b : Bool) → is_some (if (if b then b else not b) && true then Some other else None) ≡ true
     by true = refl
@@ -128,7 +124,7 @@ like_holds is_empty rules is_allow pattern other own same stated has =
 pub listed : (rules : List PlacedRule) (placed : PlacedRule) (is_allow : Bool) (number : ℕ)
     → Contains rules placed → placed.rule.1 ≡ is_allow → placed.line ≡ number
     → Contains rules (record { rule = (placed.rule.0, is_allow); line = number })
-listed rules placed is_allow number has kind at = grind (arith, common_steps)
+listed rules placed is_allow number has kind at = grind arith
 
 pub conflict_is : (is_empty : ℕ → Bool) (lines : List LineValue) (number other : ℕ) (agent : List ℕ)
     → conflict_for is_empty lines number agent ≡ Some other → IsConflict is_empty agent lines number other
@@ -146,7 +142,7 @@ conflict_is is_empty lines number other agent holds =
       pattern = placed.rule.0;
       allowed = allow.rule.0;
       same = same;
-      disallow = listed rules placed false number (k, below, at) denies (eqb-true placed.line number here);
+      disallow = grind arith;
       allow = listed rules allow true other has permits line;
       stated = stated;
     }
@@ -162,17 +158,13 @@ conflict_holds is_empty lines number other agent is =
     (record { rule = (is.pattern, false); line = number })
     (also_listed is.are own _ is.disallow) (rw (eq-eqb number number refl) allowed)
 
-star_or_same : (pattern : List ℕ)
-    → (compared pattern ≡ pattern) ⊎ ((pattern ≡ codes "*") × (compared pattern ≡ codes "/"))
-star_or_same pattern = grind (arith, bytes_eq, bytes_eq-Decides)
-
 -- the second pattern matches what the first one matches, and is as long
 pub Wins : (pattern other text : List ℕ) → Type 0
 Wins pattern other text = (Matches pattern text → Matches other text) × (length pattern ≡ length other)
 
 pub same_wins : (pattern other text : List ℕ) → other ≡ pattern → Wins pattern other text
 unfolding Wins
-same_wins pattern other text same = grind (arith, common_steps)
+same_wins pattern other text same = grind arith
 
 root_wins : (pattern other path : List ℕ) → is_whole_site other ≡ true → length pattern ≡ length other
     → Wins pattern other (byte "/" ∷ path)
@@ -181,7 +173,7 @@ root_wins pattern other path whole long = grind (arith, whole_site_matches)
 
 pub wins_on_paths : (pattern other path : List ℕ) → compared other ≡ compared pattern
     → Wins pattern other (byte "/" ∷ path)
-wins_on_paths pattern other path same = search (rules, star_or_same, same_wins, root_wins)
+wins_on_paths pattern other path same = search (rules, same_wins, root_wins)
 
 -- the same, without its name
 pub path_wins : (pattern other path : List ℕ) → compared other ≡ compared pattern
@@ -191,7 +183,7 @@ path_wins pattern other path same = wins_on_paths pattern other path same
 
 one_rule : (agent : List ℕ) (lines : List LineValue) (place : ℕ) (rule other : Rule)
     → HoldsRule agent lines place rule → HoldsRule agent lines place other → rule ≡ other
-one_rule agent lines place rule other one two = grind (arith, common_steps)
+one_rule agent lines place rule other one two = grind arith
 
 pub conflict_never_decides : (is_empty : ℕ → Bool) (agent : List ℕ) (lines : List LineValue)
     (rules : List PlacedRule) (number other : ℕ) (text : List ℕ)
@@ -224,7 +216,7 @@ none_at : {X : Type 0} (test : X → Bool) (xs : List X) → list_any test xs �
 none_at test xs none k d below = grind (arith, list_any_at)
 
 is_shorter : (n m : ℕ) → nat_le n m ≡ false → m < n
-is_shorter n m isnt = grind (arith, nat_tests)
+is_shorter n m isnt = grind arith
 
 pub closed_denies : (is_exempt : List ℕ → Bool) (agent : List ℕ) (lines : List LineValue)
     (rules : List PlacedRule) (text : List ℕ)
@@ -250,9 +242,7 @@ closed_denies is_exempt agent lines rules text is are differs opens =
           let isnt = All-contains (λ other. is_rival is_exempt placed.rule.0 other ≡ false) all allow
           (none_at (is_rival is_exempt placed.rule.0) all (not-true _ alone))
           (also_listed are own allow listed) in
-          shorter (length placed.rule.0) pattern matches
-          (grind arith)
-          (cases_Bool (is_exempt pattern)) (cases_Bool (matches_no_path pattern)),
+          grind (arith, shorter),
     )
   where
     shorter : (n : ℕ) (pattern : List ℕ) → Matches pattern (byte "/" ∷ text)
@@ -277,8 +267,7 @@ literally_starts pattern path text is matches =
           by (not-true _ none) []
           (grind (arith, bytes_eq-Decides, append-nil))
       | inr ended ↦
-          by (not-true _ none) (codes "$")
-          (subst (λ pattern. Matches pattern text) (sym ((bytes_eq-Decides _ pattern).0 ended)) matches)
+          grind (arith, bytes_eq-Decides, by)
     ]
   where
     by : list_any is_star_or_dollar path ≡ false → (rest : List ℕ) → Matches (path ++ rest) text
@@ -312,33 +301,18 @@ closes_everything agent lines rules number text is are none =
         list_any-from_Any (starts_with nat_eq (byte "/" ∷ text)) (opened_paths lines)
         (k, path, below, at, begins)
 
-abbrev reach_if : (other all shut : Bool) → Reach
-reach_if other all shut = if other then Part else if all then Everything else if shut then Nothing else Part
-
-everything_if : (other all shut : Bool) → reach_if other all shut ≡ Everything → all ≡ true
-everything_if other all shut is = grind arith
-
-nothing_if : (other all shut : Bool) → reach_if other all shut ≡ Nothing → shut ≡ true
-nothing_if other all shut is = grind arith
-
-abbrev is_shut : List PlacedRule → Bool
-is_shut rules = is_some (closing_line (λ pattern. false) rules)
-
 pub fetches_everything : (agent : List ℕ) (lines : List LineValue) (rules : List PlacedRule) (text : List ℕ)
     → reach_of lines agent ≡ Everything → AreRulesFor agent lines rules → ¬ IsDenied (unplaced rules) text
 fetches_everything agent lines rules text is are (differs, pattern, has, matches, longest) =
     let all = placed_rules agent lines in
     let (denies, listed, same) = placed_of rules (pattern, false) has in
     let (k, below, at) = also_listed are (computed_are agent lines) denies listed in
-    let isnt = list_all_at is_allow all k denies below
-    (ap is_allow at ∙ ap (λ (rule : Rule). rule.1) same) in
-    (grind (arith, everything_if))
+    grind (arith, list_all_at)
 
 pub fetches_nothing : (agent : List ℕ) (lines : List LineValue) (rules : List PlacedRule) (text : List ℕ)
     → reach_of lines agent ≡ Nothing → AreRulesFor agent lines rules → byte "/" ∷ text ≢ robots_file
     → IsDenied (unplaced rules) (byte "/" ∷ text)
 fetches_nothing agent lines rules text is are differs =
-    let all = placed_rules agent lines in
     closed_denies (λ pattern. false) agent lines rules text
-    (nothing_if (is_some (other_group lines agent)) (list_all is_allow all) (is_shut all) is) are differs
-    (λ pattern exempt. absurd (false≢true exempt))
+    (grind arith) are differs
+    (grind arith)

@@ -1,17 +1,17 @@
 -- Which lines are empty Disallows, what `empty-disallow` says of rules, and what it means if no line has it.
 use Rattle.std.specs.Prelude.{is_some}
-use Rattle.std.proofs.lemmas.Bool.{or_right, and_parts, not-true, cases_lt, false≢true, cases_Bool, eq-eqb}
+use Rattle.std.proofs.lemmas.Bool.{and_parts, cases_lt, false≢true, cases_Bool, eq-eqb}
 use Rattle.std.proofs.lemmas.Bool.{eqb-true, or_cases}
-use Rattle.std.proofs.Common.{rules, ◌≡◌, ◌↔◌, ◌==◌, ◌&&◌, ◌||◌, ℕ, Bool, true, false, List, [], ◌∷◌, None}
-use Rattle.std.proofs.Common.{Some, ap, arith, codes, if◌then◌else◌, inl, inr, map, refl, slice_get, subst}
+use Rattle.std.proofs.Common.{rules, ◌≡◌, ◌↔◌, ◌==◌, ◌&&◌, ℕ, Bool, true, false, List, [], ◌∷◌, None}
+use Rattle.std.proofs.Common.{Some, ap, arith, codes, inl, inr, map, refl, slice_get, subst}
 use Rattle.std.proofs.Common.{suc, sym, zero, ◌∙◌, ◌<◌, Contains, Option, length, not}
-use Rattle.std.proofs.lemmas.{Grind.common_steps, Option.option_and_then_some, Option.same_Some}
+use Rattle.std.proofs.lemmas.{Option.option_and_then_some, Option.same_Some}
 use Rattle.std.proofs.lemmas.Slice.Zip.{AllZip-left, AllZip-right}
 use Rattle.texting_robots.specs.Callers.{Allow, AreLabelsOf, Disallow, IsLineOf, Label, LineValue, lines_read}
 use Rattle.texting_robots.specs.Callers.{bodies_in, bodies_read, escaped, placed_rules, unplaced, AreRulesFor}
 use Rattle.texting_robots.specs.Callers.{IsDenied}
 use Rattle.texting_robots.specs.Callers.{IsVerdict, Matches, PlacedRule, Rule}
-use Rattle.texting_robots.specs.Internal.Statement.{kind_by, kind_with, skip_blanks, statement_of, tail_as}
+use Rattle.texting_robots.specs.Internal.Statement.{kind_by, skip_blanks, statement_of}
 use Rattle.texting_robots.proofs.Shared.{one_statement, statement_found, computed_are, lines_of_file_bodies}
 use Rattle.texting_robots.proofs.Shared.{placed_of}
 use Rattle.robots_warnings.specs.Conflicts.{IsEmptyDisallow, begins_with_d, is_empty_at, is_empty_disallow}
@@ -23,33 +23,22 @@ use Rattle.texting_robots.specs.{Pattern.MatchesWith, Statement.IsStatement}
 use Rattle.robots_needless.proofs.TogetherLemmas.{in_filter, to_filter, unplaced_of}
 use Rattle.warnings_laws.proofs.ConflictLemmas.{first_found, first_some, like_found, like_holds, listed}
 use Rattle.warnings_laws.proofs.ConflictLemmas.{also_listed, if_found, path_wins, unless_found}
-use Rattle.std.specs.{Option.IsSomeAnd, Char.to_ascii_lowercase, List.AllZip, Str.byte}
+use Rattle.std.specs.{Option.IsSomeAnd, List.AllZip}
 use Rattle.texting_robots.specs.declared.parser.statement.{Kind.Kind}
 use Rattle.texting_robots.specs.declared.parser.statement.Kind.TheVariants as kind
 
 skipped : (body : List ℕ) → without_front body ≡ skip_blanks body
 skipped body = grind arith
 
-d_selects : (text : List ℕ) → begins_with_d text ≡ true → kind_by text ≡ Some kind.Disallow
-d_selects text h = grind arith
-
-lower_d : (b : ℕ) → to_ascii_lowercase b ≡ 100 → (b == byte "d" || b == byte "D") ≡ true
-lower_d b is = grind (arith, common_steps)
-
-only_d : (letter : ℕ) → kind_with letter ≡ Some kind.Disallow → letter ≡ 100
-only_d letter is = grind (arith, common_steps)
-
 selects_d : (text : List ℕ) → kind_by text ≡ Some kind.Disallow → begins_with_d text ≡ true
-selects_d text is = grind (arith, lower_d, only_d)
+selects_d text is = grind arith
 
 selected : (kind : Kind) (value body : List ℕ) → IsStatement kind value body
     → kind_by (skip_blanks body) ≡ Some kind
 unfolding statement_of
 selected kind value body is =
     let text = skip_blanks body in
-    option_and_then_some _ (kind_by text) (kind, value) (statement_found kind value body is) (λ k by found.
-    option_and_then_some _ (tail_as k text) (kind, value) found (λ tail reads same.
-    by ∙ ap (λ (p : Kind × List ℕ). Some p.0) (same_Some _ _ same)))
+    option_and_then_some _ (kind_by text) (kind, value) (statement_found kind value body is) (grind arith)
 
 pub empty_is_allow : (line : LineValue) (body : List ℕ) → IsLineOf line body
     → IsStatement kind.Disallow [] body → line ≡ Allow (codes "/")
@@ -63,7 +52,7 @@ empty_stated : (line : LineValue) (body : List ℕ) → IsLineOf line body → i
 empty_stated (Allow own) body of_body holds = elim (is_stated (Allow own) body of_body) [
   | inr (same, is) ↦ is
   | inl is ↦
-      (grind (arith, d_selects, skipped, selected))
+      (grind (arith, selected))
 ]
 empty_stated line body of_body holds = cc
 
@@ -71,7 +60,7 @@ empty_holds : (line : LineValue) (body : List ℕ) → IsLineOf line body → Is
     → is_empty_disallow line body ≡ true
 empty_holds line body of_body is =
     let d : begins_with_d (without_front body) ≡ true =
-    ap begins_with_d (skipped body) ∙ selects_d (skip_blanks body) (selected kind.Disallow [] body is) in
+    cc (skipped body, selects_d (skip_blanks body) (selected kind.Disallow [] body is)) in
     rw (empty_is_allow line body of_body is) d
 
 abbrev OfBody : Label → List ℕ → Type 0
@@ -117,9 +106,9 @@ at_found : (labels : List Label) (number i : ℕ) (label : Label) → slice_get 
     → label.number ≡ number → is_empty_disallow label.line label.body ≡ true
     → is_empty_at labels number ≡ true
 at_found [] number i label at same empty = cc
-at_found (first ∷ labels) number zero label at same empty = grind (arith, common_steps)
+at_found (first ∷ labels) number zero label at same empty = grind arith
 at_found (first ∷ labels) number (suc i) label at same empty =
-    grind (arith, or_right, at_found labels number i label at same empty)
+    grind (arith, at_found labels number i label at same empty)
 
 pub zips : (file : List ℕ) → AllZip IsLineOf (lines_read file) (bodies_read file)
 zips file = search (rules, lines_of_file_bodies)
@@ -138,13 +127,7 @@ empty_disallows name file labels number are hold = (
       let (i, label, at, same, empty) = found_at labels number is in
       let (own, also, of_body) = right_at OfBody labels bodies i label pairs at in
       let beside = there i label at in
-      let one = same_Some _ _ (sym also ∙ beside) in (
-        i,
-        label.body,
-        sym same ∙ (are.each i label at).0,
-        beside,
-        empty_stated label.line label.body (subst (IsLineOf label.line) one of_body) empty,
-      ),
+      grind (arith, empty_stated),
   λ (i, body, is, beside, stated).
       let (label, at, of_body) = left_at OfBody labels bodies i body pairs beside in
       let one = same_Some _ _ (sym beside ∙ there i label at) in
@@ -193,8 +176,7 @@ overruled_is is_empty lines number other agent holds =
       alone = λ allowed there alike listed. elim (cases_Bool (is_empty there)) [
         | inl is ↦ is
         | inr isnt ↦
-            absurd (false≢true (sym no_allow
-            ∙ like_holds is_empty rules true root there allowed alike isnt listed))
+            absurd (false≢true (cc (like_holds is_empty rules true root there allowed alike isnt listed)))
       ];
     }
 
@@ -216,7 +198,7 @@ overruled_holds is_empty lines number other agent is =
           let (one, has, allows, same, stated, line) = like_found is_empty rules true root n found in
           let allow = listed rules one true n has allows line in
           let empty = is.alone one.rule.0 n same (also_listed own is.are _ allow) in
-          absurd (false≢true (sym stated ∙ empty))
+          grind arith
       | inr none ↦
           first_some (at_line number (overruled_by is_empty rules)) rules
           (record { rule = (is.own, true); line = number })
@@ -229,39 +211,32 @@ one_byte : (pattern text : List ℕ) → length pattern ≡ 1 → Matches patter
 unfolding MatchesWith
 one_byte [] text long matches path = absurd (omega arith)
 one_byte (b ∷ c ∷ pattern) text long matches path = absurd (omega arith)
-one_byte (b ∷ []) text long (s, takes, end) (rest, begins, more) = grind (arith, common_steps)
+one_byte (b ∷ []) text long (s, takes, end) (rest, begins, more) = grind arith
 
 root_wins : (pattern text : List ℕ) → compared pattern ≡ root → Matches root text
     → Matches pattern text × (length pattern ≡ 1)
 unfolding MatchesWith
 root_wins pattern text same (rest, begins, more) =
     let wins = path_wins root pattern rest same in
-    (subst (Matches pattern) (sym begins) (wins.0 (rest, refl, tt)), sym wins.1)
+    grind arith
 
 module _ (agent file : List ℕ) (rules : List PlacedRule)
     (are : AreRulesFor agent (lines_read file) rules) where
   abbrev bodies : List (List ℕ)
   bodies = bodies_read file
 
-  value_of : (b : Bool) (value : List ℕ) → (if b then Allow value else Disallow value) ≡ Allow root
-      → (b ≡ true) × (value ≡ root)
-  value_of b value h = grind arith
-
   pub rule_there : (placed : PlacedRule) → Contains rules placed → IsEmptyDisallow bodies placed.line
       → placed.rule ≡ (root, true)
   rule_there placed has (position, body, is, at, stated) =
       let (here, on, holds) = (are.held placed).0 has in
-      let place : here ≡ position = omega arith in
       let (own, also, of_body) = right_at IsLineOf (lines_read file) bodies here _
       (zips file) holds.line.0 in
-      let one : own ≡ body = same_Some _ _ (sym also ∙ ap (slice_get bodies) place ∙ at) in
+      let one : own ≡ body = grind arith in
       let line = empty_is_allow _ body (subst (IsLineOf _) one of_body) stated in
-      let (kind_is, value_is) = value_of placed.rule.1 holds.value line in
-      ap (λ (p : List ℕ). (p, placed.rule.1)) (holds.pattern ∙ ap escaped value_is)
-      ∙ ap (λ b. (root, b)) kind_is
+      grind arith
 
   some_escaped : (b : ℕ) (value : List ℕ) → 0 < length (escaped (b ∷ value))
-  some_escaped b value = grind (arith, common_steps)
+  some_escaped b value = grind arith
 
   some_bytes : (pattern : List ℕ) (line : ℕ)
       → Contains rules (record { rule = (pattern, false); line = line }) → 0 < length pattern
@@ -295,14 +270,14 @@ module _ (agent file : List ℕ) (rules : List PlacedRule)
     from rule has =
         let (placed, listed, is) = placed_of stated rule has in
         let (own, passes) = in_filter (λ (one : PlacedRule). not (is_empty one.line)) rules placed listed in
-        (placed, own, not-true (is_empty placed.line) passes, is)
+        grind arith
 
     denies_stated : (placed : PlacedRule) (p : List ℕ) → Contains rules placed → placed.rule ≡ (p, false)
         → is_empty placed.line ≡ false
     denies_stated placed p has is = elim (cases_Bool (is_empty placed.line)) [
       | inl empty ↦
           let there = rule_there placed has (right placed.line empty) in
-          absurd (false≢true (ap (λ (rule : Rule). rule.1) (sym is ∙ there)))
+          grind arith
       | inr isnt ↦ isnt
     ]
 
@@ -334,7 +309,7 @@ module _ (agent file : List ℕ) (rules : List PlacedRule)
                 also_listed are_all are one listed_too,
                 allows,
                 like,
-                subst (λ n. is_empty n ≡ false) (sym line) stated_too,
+                grind arith,
               )
           | inr lacking ↦
               let isnt = denies_stated deny deny.rule.0 own (ap (λ b. (deny.rule.0, b)) denies) in
@@ -342,10 +317,10 @@ module _ (agent file : List ℕ) (rules : List PlacedRule)
               let found = like_holds is_empty all false root deny.line deny.rule.0 alike isnt has in
               let at_root = rule_there allow there (right allow.line empty) in
               let given = listed all allow true allow.line (also_listed are are_all allow there)
-              (ap (λ (rule : Rule). rule.1) at_root) refl in
+              (grind arith) refl in
               let holds = first_some (at_line allow.line (overruled_by is_empty all)) all
               (record { rule = (allow.rule.0, true); line = allow.line }) given
-              (rw (eq-eqb allow.line allow.line refl, empty, lacking) found) in
+              (grind arith) in
               absurd (false≢true (sym (ap is_some (silent allow there)) ∙ holds))
         ]
 
@@ -359,12 +334,9 @@ module _ (agent file : List ℕ) (rules : List PlacedRule)
           let (deny, own, isnt, is) = from (p, false) denied in
           let alike = ap (λ (rule : Rule). compared rule.0) is ∙ one_byte p text short fits path in
           let (one, there_too, allows, like, stated_too) =
-          allow_beside allow deny there empty own (ap (λ (rule : Rule). rule.1) is) alike in
+          allow_beside allow deny there empty own (cc) alike in
           let (matches, long) = root_wins one.rule.0 text like path in
-          let less = longest one.rule.0
-          (subst (λ b. Contains (unplaced stated) (one.rule.0, b)) allows (kept one there_too stated_too))
-          matches in
-          omega arith
+          grind (arith, kept)
 
       longer : 1 < length p
       longer = elim (cases_lt 1 (length p)) [
@@ -372,7 +344,7 @@ module _ (agent file : List ℕ) (rules : List PlacedRule)
         | inr short ↦
             let (deny, own, isnt, is) = from (p, false) denied in
             let some = some_bytes p deny.line
-            (subst (λ (rule : Rule). Contains rules (record { rule = rule; line = deny.line })) is own) in
+            (grind arith) in
             absurd (never_short (omega arith))
       ]
 
@@ -388,12 +360,12 @@ module _ (agent file : List ℕ) (rules : List PlacedRule)
               elim (cases_Bool (is_empty allow.line)) [
                 | inl empty ↦
                     let at_root = rule_there allow there (right allow.line empty) in
-                    let q_is : q ≡ root = ap (λ (rule : Rule). rule.0) (sym same ∙ at_root) in
+                    let q_is : q ≡ root = grind arith in
                     subst (λ q. length q < length p) (sym q_is)
                     (longer text p has fits longest allow there empty
                     (subst (λ q. Matches q text) q_is matches))
                 | inr stays ↦
-                    longest q (subst (Contains (unplaced stated)) same (kept allow there stays)) matches
+                    grind (arith, kept)
               ],
         )
 

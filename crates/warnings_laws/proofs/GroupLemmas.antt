@@ -1,9 +1,9 @@
 -- Warnings about groups. Lines with `two-delays` can be deleted: the delay of every crawler stays the same. A
 -- line with `replaces-star` is in the group of a crawler that has no Disallow of `*`.
-use Rattle.std.proofs.lemmas.{Grind.common_steps, Option.same_Some, Option.slice_get-map}
+use Rattle.std.proofs.lemmas.{Option.slice_get-map}
 use Rattle.std.proofs.Common.{rules, codes, if◌then◌else◌, inl, inr, refl, subst, sym, ◌≤◌, ◌-◌, ◌≡◌, ◌+◌, ℕ}
 use Rattle.std.proofs.Common.{◌∙◌, suc, zero, Bool, true, false, not, List, [], ◌∷◌, All, Contains, map}
-use Rattle.std.proofs.Common.{Option, None, Some, filter, slice_get, take, ap, ap₂, arith}
+use Rattle.std.proofs.Common.{Option, None, Some, filter, slice_get, take, ap, arith}
 use Rattle.std.specs.List.{enumerate_from, fold, list_any, count_by}
 use Rattle.std.proofs.lemmas.Bool.{and_parts, cases_Bool, false≢true, cases_lt, not-true, or_cases, or_right}
 use Rattle.std.proofs.lemmas.List.{get_or-map, length-map, Elements.Contains-append_cases}
@@ -11,9 +11,9 @@ use Rattle.std.proofs.lemmas.List.{Sorted.sum_by-IsPermutation}
 use Rattle.texting_robots.specs.Callers.{AreLabelsOf, Label, LineValue, UserAgent, delay_for}
 use Rattle.texting_robots.specs.Callers.{group_name, AreRulesFor, HoldsRule, PlacedRule, Rule, placed_rules}
 use Rattle.texting_robots.specs.Executable.{captured_delays, delay_before_agents}
-use Rattle.texting_robots.specs.Group.{is_agent, is_agent_named, passes_at, is_group}
+use Rattle.texting_robots.specs.Group.{is_agent, passes_at, is_group}
 use Rattle.texting_robots.specs.Internal.Group.{if_captured, start_of, step}
-use Rattle.texting_robots.proofs.Shared.{delays_are, given_captured, only_agents, taken_decides, before_agent}
+use Rattle.texting_robots.proofs.Shared.{delays_are, given_captured, taken_decides, before_agent}
 use Rattle.texting_robots.proofs.Shared.{before_agents, first_more, computed_are, one_list}
 use Rattle.robots_warnings.specs.Checks.{Check, position_checks}
 use Rattle.robots_warnings.specs.Positions.{are_different, first_delay, is_other_delay, last_group, sole_name}
@@ -25,8 +25,8 @@ use Rattle.warnings_laws.proofs.{WarningLemmas.below_agent}
 use Rattle.std.proofs.lemmas.List.Folds.{Any-from_list_any, list_any-from_Any}
 use Rattle.texting_robots.specs.{Labels.AreOneRun, Labels.IsInOwnGroup, Line.delay_in}
 use Rattle.robots_warnings.specs.declared.positions.Preceding.TheVariants.{Other}
-use Rattle.robots_warnings.specs.Closed.{denies, is_first_name, is_partial, is_replacing, lacks_all}
-use Rattle.robots_warnings.specs.Closed.{replacing, replacing_from, star_count, star_rules, is_whole_site}
+use Rattle.robots_warnings.specs.Closed.{is_first_name, is_partial, is_replacing, lacks_all}
+use Rattle.robots_warnings.specs.Closed.{replacing, replacing_from, star_count, star_rules}
 use Rattle.std.specs.{Option.option_or, Str.str_to_ascii_lowercase}
 use Rattle.std.proofs.lemmas.Slice.{Eq.bytes_eq-Decides}
 use Rattle.texting_robots.specs.declared.groups.{GroupTracker.GroupTracker}
@@ -53,20 +53,20 @@ condition_holds : (line : Option ℕ) (about : Option (List ℕ)) (checks : List
     → Contains (warned line about checks) warning
     → (warning.line ≡ line) × Contains checks (warning.cause, true)
 condition_holds line about [] warning (k, below, at) = absurd (omega arith)
-condition_holds line about ((cause, true) ∷ checks) warning (zero, below, at) = grind (arith, common_steps)
+condition_holds line about ((cause, true) ∷ checks) warning (zero, below, at) = grind arith
 condition_holds line about ((cause, true) ∷ checks) warning (suc k, below, at) =
     let (same, has) = condition_holds line about checks warning (k, omega arith, at) in
-    (same, (suc has.0, omega (arith, has.1), has.2))
+    (same, (suc has.0, omega arith, has.2))
 condition_holds line about ((cause, false) ∷ checks) warning has =
     let (same, later) = condition_holds line about checks warning has in
-    (same, (suc later.0, omega (arith, later.1), later.2))
+    (same, (suc later.0, omega arith, later.2))
 
 -- of the checks of a position, only the last one gives this warning
 other_here : (last : Option ℕ) (preceding : Preceding) (above : Option (List ℕ)) (first : Option ℕ)
     (label : Label) (lines : List LineValue)
     → Contains (position_checks last preceding above first label lines) (TwoDelays, true)
     → is_other_delay first label ≡ true
-other_here last preceding above first label lines has = grind (arith, common_steps)
+other_here last preceding above first label lines has = grind arith
 
 is_other : (last : Option ℕ) (preceding : Preceding) (above : Option (List ℕ)) (first : Option ℕ)
     (labels : List Label) (number : ℕ)
@@ -79,11 +79,11 @@ is_other last preceding above first (label ∷ labels) number has =
       | inl here ↦
           let (same, check) = condition_holds (Some label.number) None checks _ here in
           let other = other_here last preceding above first label (lines_of (label ∷ labels)) check in
-          (0, record { label = label; at = refl; other = other }, cc)
+          (0, grind arith, cc)
       | inr later ↦
           let (place, is, number_is) = is_other last (preceding_with preceding label.line)
           (sole_name preceding above label.line) (first_delay first label.line) labels number later in
-          (suc place, record { label = is.label; at = is.at; other = is.other }, number_is)
+          (suc place, grind arith, number_is)
     ]
 
 abbrev left_from : (ℕ → Bool) → ℕ → List LineValue → List LineValue
@@ -93,7 +93,7 @@ left_from gone position lines =
 
 no_agent : (first : Option ℕ) (line : LineValue) → are_different first (delay_in line) ≡ true
     → is_agent line ≡ false
-no_agent first line differs = grind (arith, common_steps)
+no_agent first line differs = grind arith
 
 -- if the group has a delay above the next line, crawlers that get this group have found theirs, and a
 -- user-agent line begins another group
@@ -113,12 +113,7 @@ module _ (name : List ℕ) where
   settled_next : (first found : Option ℕ) (tracker : GroupTracker) (line : LineValue)
       → IsSettled first found tracker
       → IsSettled (first_delay first line) (found_next found tracker line) (step name tracker line)
-  settled_next first found tracker line is = grind (arith, common_steps)
-
-  nothing_lost : (first found : Option ℕ) (tracker : GroupTracker) (line : LineValue)
-      → are_different first (delay_in line) ≡ true → IsSettled first found tracker
-      → (found_next found tracker line ≡ found) × ◌≡◌ {A = GroupTracker} (step name tracker line) tracker
-  nothing_lost first found tracker line differs is = grind (arith, common_steps)
+  settled_next first found tracker line is = grind arith
 
 record AreOthers (gone : ℕ → Bool) (position : ℕ) (first : Option ℕ) (labels : List Label) : Type 0 where
   each : (place : ℕ) → gone (position + place + 1) ≡ true → IsOther first labels place
@@ -129,29 +124,21 @@ module _ (gone : ℕ → Bool) where
     others_next : AreOthers gone (position + 1) (first_delay first label.line) labels
     others_next = record {
       each = λ place goes.
-          let is = others.each (suc place) (subst (λ n. gone n ≡ true) (omega arith) goes) in
-          record { label = is.label; at = is.at; other = is.other };
+          let is = others.each (suc place) (grind arith) in
+          grind arith;
     }
 
     differs_here : gone (position + 1) ≡ true → are_different first (delay_in label.line) ≡ true
     differs_here goes =
-        let is = others.each 0 (subst (λ n. gone n ≡ true) (omega arith) goes) in
-        (and_parts _ _
-        (subst (λ here. is_other_delay first here ≡ true) (sym (same_Some _ _ is.at)) is.other)).1
+        let is = others.each 0 (grind arith) in
+        grind arith
 
   any_left : (test : LineValue → Bool) → ((line : LineValue) → is_agent line ≡ false → test line ≡ false)
       → (position : ℕ) (first : Option ℕ) (labels : List Label) → AreOthers gone position first labels
       → list_any test (left_from gone position (lines_of labels)) ≡ list_any test (lines_of labels)
   any_left test others position first [] are = refl
   any_left test others position first (label ∷ labels) are =
-      grind (
-        arith,
-        others,
-        others_next,
-        no_agent,
-        differs_here,
-        any_left test others (position + 1) (first_delay first label.line) labels (others_next are),
-      )
+      grind (arith, differs_here, any_left test others (position + 1) (first_delay first label.line) labels (others_next are))
 
   first_left : (name : List ℕ) (position : ℕ) (first found : Option ℕ) (tracker : GroupTracker)
       (labels : List Label) → AreOthers gone position first labels → IsSettled first found tracker
@@ -163,11 +150,10 @@ module _ (gone : ℕ → Bool) where
       let given = if_captured tracker (delay_in line) in
       let now = found_next found tracker line in
       let moved = step name tracker line in
-      let left = left_from gone (position + 1) (lines_of labels) in
       let later = first_left name (position + 1) (first_delay first line) now moved labels (others_next are)
       (settled_next name first found tracker line is)
       ∙ first_more given found now (given_captured delay_in name moved (lines_of labels)) refl in
-      (grind (arith, nothing_lost, differs_here, first_more, given_captured))
+      (grind (arith, differs_here))
 
 abbrev AreBelow : (ℕ → Bool) → ℕ → List LineValue → Type 0
 AreBelow gone position lines =
@@ -177,11 +163,10 @@ before_left : (gone : ℕ → Bool) (position : ℕ) (lines : List LineValue) �
     → before_agent (left_from gone position lines) ≡ before_agent lines
 before_left gone position [] are = refl
 before_left gone position (line ∷ lines) are = elim (cases_Bool (gone (position + 1))) [
-  | inl goes ↦ absurd (false≢true (are 0 (subst (λ n. gone n ≡ true) (omega arith) goes)))
+  | inl goes ↦ absurd (false≢true (are 0 (grind arith)))
   | inr stays ↦ elim (cases_Bool (is_agent line)) [
     | inl agent ↦ rw (stays, agent) refl
-    | inr isnt ↦ rw (stays, isnt) (ap (λ above. line ∷ above) (before_left gone (position + 1) lines
-        (λ place goes. rw isnt at (are (suc place) (subst (λ n. gone n ≡ true) (omega arith) goes)))))
+    | inr isnt ↦ rw (stays, isnt) (cc (before_left gone (position + 1) lines (λ place goes. rw isnt at (are (suc place) (grind (arith, gone))))))
   ]
 ]
 
@@ -208,11 +193,11 @@ module _ {name : List ℕ} {labels : List Label} (labeled : AreLabelsOf name (li
       let each : All IsWarned numbers =
       λ k number below.
       subst (Contains (position_warnings labels))
-      (get_or-map two_delays_at numbers k number (two_delays_at number) below)
+      (grind (arith, get_or-map))
       (all k (two_delays_at number) (rw (length-map numbers two_delays_at) below)) in
       let (found, is, number_is) = is_other (last_group labels) preceding.Other None None labels _
       (holds_among IsWarned numbers each _ goes) in
-      subst (IsOther None labels) (omega (arith, number_is, (labeled.each found is.label is.at).0)) is
+      grind arith
 
   others : AreOthers gone 0 None labels
   others = record { each = other_at }
@@ -222,7 +207,7 @@ module _ {name : List ℕ} {labels : List Label} (labeled : AreLabelsOf name (li
       let is = other_at place goes in
       let (inside, differs) = and_parts _ _ is.other in
       let here : slice_get all_lines place ≡ Some is.label.line =
-      rw (slice_get-map (λ (label : Label). label.line) labels place, is.at) refl in
+      grind (arith, slice_get-map) in
       (taken_decides is_agent all_lines place).1 (below_agent name all_lines place is.label.membership
       (labeled.each place is.label is.at).1 (not-true _ inside) (rw here (no_agent _ is.label.line differs))
       some)
@@ -237,15 +222,14 @@ module _ {name : List ℕ} {labels : List Label} (labeled : AreLabelsOf name (li
       let left = lines_without numbers all_lines in
       let lowered = str_to_ascii_lowercase agent in
       let group : group_name agent left ≡ group_name agent all_lines =
-      ap (λ any. if any then lowered else codes "*")
-      (any_stays (is_agent_named lowered) (only_agents lowered)) in
+      grind (arith, any_stays) in
       let agents = any_stays is_agent (λ line isnt. isnt) in
       let start : start_of left ≡ start_of all_lines =
-      ap (λ any. record { captured = not any; named = false }) agents in
+      grind arith in
       let first : slice_get (captured_delays agent left) 0 ≡ slice_get (captured_delays agent all_lines) 0 =
       rw (delays_are agent left, delays_are agent all_lines, group, start)
       (first_left gone (group_name agent all_lines) 0 None None (start_of all_lines) labels others tt) in
-      ap₂ option_or first (early_left gone all_lines agents below)
+      cc (early_left gone all_lines agents below)
 
 pub two_delays_can_be_deleted : (name agent : List ℕ) (lines : List LineValue) (labels : List Label)
     (numbers : List ℕ) → AreLabelsOf name lines labels
@@ -271,10 +255,7 @@ has_none : (agent : List ℕ) (lines : List LineValue) → lacks_all lines agent
 has_none agent lines lacks star other pattern starred holds =
     let (i, within, there) = computed (codes "*") lines star _ starred in
     let (k, below, at) = computed agent lines other _ holds in
-    let same = (bytes_eq-Decides pattern pattern).1 refl in
-    let denied = list_any-from_Any (denies pattern) (star_rules lines) (i, _, within, there, same) in
-    let kept = or_right (is_whole_site pattern) _ denied in
-    (grind (arith, not-true, list_any-from_Any, below))
+    grind (arith, bytes_eq-Decides, list_any-from_Any, or_right)
 
 -- the line at this position is a user-agent line with such a name, with no rule or delay up to it
 record IsNamed (test : List ℕ → Bool) (lines : List LineValue) : Type 0 where
@@ -301,12 +282,12 @@ named test (UserAgent value ∷ lines) is = elim (or_cases (test value) (begin_w
     value = value;
     at = refl;
     passes = passes;
-    no_group = λ k most. let first : k ≡ 0 = omega arith in rw first refl;
+    no_group = grind arith;
   }
   | inr later ↦ named_next (UserAgent value) refl (named test lines later)
 ]
 named test (line ∷ lines) is =
-    grind (arith, and_parts, named_next, not-true, named test lines)
+    grind (arith, named_next, named test lines)
 
 one_run : {test : List ℕ → Bool} {lines : List LineValue} {position : ℕ} {rest : List LineValue}
     → IsFrom lines position rest → (is : IsNamed test rest)
@@ -318,8 +299,8 @@ one_run {lines} {position} {rest} from is k group = elim (cases_lt k position) [
     | inr within ↦
         let i = k - position in
         let same : slice_get lines k ≡ slice_get rest i =
-        subst (λ n. slice_get lines n ≡ slice_get rest i) (omega arith) (from.each i) in
-        absurd (false≢true (sym (is.no_group i (omega arith)) ∙ rw same at group))
+        grind arith in
+        grind arith
   ]
 ]
 
@@ -375,7 +356,6 @@ replaces_star agents name lines labels number labeled has =
     let (k, agent, below, at, passes) = Any-from_list_any _ agents by.passes in
     let (lacks, same) = and_parts _ _ passes in
     let spelling = str_to_ascii_lowercase by.value in
-    let spelled = (bytes_eq-Decides (str_to_ascii_lowercase agent) spelling).0 same in
     let on = here found.from ∙ ap Some is in (
       found.position,
       value,
@@ -386,7 +366,7 @@ replaces_star agents name lines labels number labeled has =
       inr (
         rw on refl,
         found.position + by.position,
-        rw (found.from.each by.position, by.at, spelled) ((bytes_eq-Decides spelling spelling).1 refl),
+        grind (arith, bytes_eq-Decides, spelling),
         one_run found.from by,
       ),
       has_none agent lines lacks,

@@ -12,8 +12,7 @@ use Rattle.texting_robots.specs.Callers.{IsVerdict, Label, LineValue, PlacedRule
 use Rattle.texting_robots.specs.Callers.{file_limit, rules_for, IsFirstOverlong, IsOverlong, IsRejected}
 use Rattle.texting_robots.specs.Callers.{Rule}
 use Rattle.texting_robots.specs.Callers.{delay_for, lines_read, unplaced, IsRobotOfFile, RobotValue}
-use Rattle.texting_robots.specs.{Decision.IsDecisionOn, declared.decision.Decision.Decision}
-use Rattle.robots_needless.specs.Blocks.{AreFoundIn, HaveSameRobot, IsLeftOf}
+use Rattle.robots_needless.specs.Blocks.{HaveSameRobot, IsLeftOf}
 use Rattle.robots_needless.specs.Needless.{AreFound, AreNeedless, NeedlessValue, lines_without, nothing}
 use Rattle.robots_needless.specs.Needless.{numbers_of}
 use Rattle.robots_needless.proofs.{LeftLemmas.left_within, LeftLemmas.same_robot}
@@ -25,7 +24,7 @@ use Rattle.audit_core.specs.Audit.{sitemaps_asked, warnings_requested}
 use Rattle.audit_core.specs.{Request.RequestValue, Asked.asked_target}
 use Rattle.std.specs.{List.All, List.AllByRecursion as Each, List.AllZip, Bool.Decides}
 use Rattle.std.proofs.lemmas.List.Elements.{All-cons, All-nil, recursion_from_All}
-use Rattle.texting_robots.proofs.Shared.{none_unplaced, some_overlong, one_line_decides, one_verdict}
+use Rattle.texting_robots.proofs.Shared.{none_unplaced, some_overlong}
 use Rattle.texting_robots.proofs.Shared.{rejection_is_computed, each_text_answered, overlong_decides}
 use Rattle.robots_needless.specs.{declared.needless.NeedlessRule.NeedlessRule}
 use Rattle.robots_warnings.specs.{Closed.reach_of, Warnings.warnings, Message.WarningValue}
@@ -60,7 +59,8 @@ all_read : (requested : RequestValue) (file : List ℕ) (audit : AuditValue)
     → is.needless.rules ≢ [] → length file ≤ file_limit
 all_read requested file audit is some =
     ltb-false file_limit (length file)
-    (false_from_ne_true (is_too_large file) (λ large. some (ap (λ (n : NeedlessValue). n.rules) (is.too_large large))))
+    (false_from_ne_true (is_too_large file)
+    (λ large. some (ap (λ (needless : NeedlessValue). needless.rules) (is.too_large large))))
 
 pub robot_stays : (requested : RequestValue) (file left : List ℕ) (audit : AuditValue) (agent : List ℕ)
     → (is : IsAuditOf requested file audit) → is.needless.rules ≢ []
@@ -70,10 +70,9 @@ robot_stays requested file left audit agent is some deleted utf8 =
     let short = all_read requested file audit is some in
     let whole = take_all file_limit file short in
     let less = left_within (numbers_of is.needless.rules) file left deleted in
-    let all_left = take_all file_limit left (omega (arith, short, less)) in
+    let all_left = take_all file_limit left (omega arith) in
     subst₂ (HaveSameRobot agent) (sym whole) (sym all_left)
-    (same_robot file left is.needless.rules
-    (subst (λ f. AreFoundIn f is.needless.rules) whole is.needless_are) some
+    (same_robot file left is.needless.rules (grind arith) some
     deleted agent utf8)
 
 zip_once : {A B : Type 0} (R : A → B → Type 0) → ((x : A) (y z : B) → R x y → R x z → y ≡ z)
@@ -86,13 +85,9 @@ zip_once R once (x ∷ xs) (y ∷ ys) [] one two = absurd two
 zip_once R once (x ∷ xs) (y ∷ ys) (z ∷ zs) (one, more) (two, rest) =
     grind (arith, zip_once R once xs ys zs more rest)
 
-decided_once : (rules : List PlacedRule) (text : List ℕ) (one two : Decision)
-    → IsDecisionOn rules text one → IsDecisionOn rules text two → one ≡ two
-decided_once rules text one two is too = grind (arith, one_verdict, one_line_decides)
-
 verdict_once : (rules : List PlacedRule) (url : List ℕ) (one two : VerdictValue)
     → IsVerdictOn rules url one → IsVerdictOn rules url two → one ≡ two
-verdict_once rules url one two is too = grind (arith, decided_once)
+verdict_once rules url one two is too = grind arith
 
 abbrev IsShort : PlacedRule → Type 0
 IsShort placed = ¬ IsOverlong placed.rule.0
@@ -102,8 +97,8 @@ cut_once : (front others : List PlacedRule) (one two : PlacedRule) (back after :
     → front ++ one ∷ back ≡ others ++ two ∷ after → Each IsShort front → Each IsShort others
     → IsOverlong one.rule.0 → IsOverlong two.rule.0 → one ≡ two
 cut_once [] [] one two back after same first second here there = cc
-cut_once [] (rule ∷ others) one two back after same first second here there = grind (arith, common_steps)
-cut_once (rule ∷ front) [] one two back after same first second here there = grind (arith, common_steps)
+cut_once [] (rule ∷ others) one two back after same first second here there = grind arith
+cut_once (rule ∷ front) [] one two back after same first second here there = grind arith
 cut_once (rule ∷ front) (other ∷ others) one two back after same first second here there =
     cut_once front others one two back after (cc) first.1 second.1 here there
 
@@ -161,10 +156,7 @@ some_verdict : (rules : List PlacedRule) (url : List ℕ)
 some_verdict rules url =
     let answered = each_text_answered rules (asked_target url) in (
       record { url = url; decision = record { allowed = answered.allowed; line = answered.number } },
-      record {
-        url_is = refl;
-        decided = record { verdict = answered.verdict; deciding = answered.deciding };
-      },
+      grind arith,
     )
 
 first_overlong : (rules : List PlacedRule)
@@ -265,7 +257,7 @@ some_audit requested file =
         too_large = λ large. refl;
         sitemaps = sitemaps;
         sitemaps_are =
-            record { overlong = overlong; verdicts = verdicts; ruling = ruling; found_are = refl };
+            grind arith;
         labels_are = refl;
         agents_are = are;
         warnings_are = refl;

@@ -1,10 +1,10 @@
 -- A match target without `url-not-normal` is in normal form, and that of what is written.
-use Rattle.std.proofs.Common.{◌≡◌, ℕ, ◌+◌, ◌<◌, ◌&&◌, ◌||◌, Bool, true, false, inl, inr, List}
-use Rattle.std.proofs.Common.{◌∷◌, ◌++◌, ap, ap₂, not, arith, codes, refl, sym}
-use Rattle.std.proofs.Common.{◌∙◌, nat_eq}
+use Rattle.std.proofs.Common.{◌≡◌, ℕ, ◌<◌, ◌&&◌, ◌||◌, Bool, true, false, inl, inr, List}
+use Rattle.std.proofs.Common.{◌∷◌, not, arith, codes, refl}
+use Rattle.std.proofs.Common.{nat_eq}
 use Rattle.std.specs.Char.{is_ascii_hexdigit, to_ascii_uppercase}
 use Rattle.std.specs.List.{starts_with}
-use Rattle.std.proofs.lemmas.{Bool.Decides.nat_tests, Slice.Eq.bytes_eq-Decides}
+use Rattle.std.proofs.lemmas.{Slice.Eq.bytes_eq-Decides}
 use Rattle.std.proofs.lemmas.Bool.{agree_below_at, and_parts, cases_Bool, cases_lt}
 use Rattle.std.proofs.lemmas.Bool.{le-ltb, not-false}
 use Rattle.std.proofs.lemmas.List.{Concat.flat_map-append}
@@ -13,7 +13,7 @@ use Rattle.percent_encoding.specs.Percent.{encode_byte, percent_encode, percent_
 use Rattle.rfc9309_laws.specs.Matching.{is_kept, all_stay, in_uri}
 use Rattle.rfc9309_laws.specs.Matching.{is_unreserved}
 use Rattle.rfc9309_laws.specs.Matching.{normal_escape, normal_from, normal_octet, normal_uri}
-use Rattle.rfc9309_laws.proofs.NormalLemmas.{begins_escape, by_escapes, escape_first}
+use Rattle.rfc9309_laws.proofs.NormalLemmas.{begins_escape, by_escapes}
 use Rattle.rfc9309_laws.proofs.NormalLemmas.{hex_not, octet_first}
 use Rattle.robots_warnings.specs.Targets.{asked_target, has_odd_target, normal_target}
 use Rattle.robots_warnings.specs.Targets.{written_target}
@@ -26,15 +26,10 @@ octet_spelled : (b : ℕ) (text : List ℕ) → begins_escape (b ∷ text) ≡ f
 unfolding spelled
 octet_spelled b text octet = grind arith
 
-escape_spelled : (high low : ℕ) (text : List ℕ) → is_ascii_hexdigit high ≡ true → is_ascii_hexdigit low ≡ true
-    → spelled Standard (37 ∷ high ∷ low ∷ text) ≡ normal_escape high low ++ spelled Standard text
-unfolding spelled
-escape_spelled high low text one two = rw (one, two) refl
-
 unreserved_kept : (b : ℕ) → is_unreserved b ≡ true → should_percent_encode IN_TARGETS b ≡ false
 unfolding should_percent_encode
 unreserved_kept b is =
-    let low : b < 128 = grind (arith, nat_tests) in
+    let low : b < 128 = grind arith in
     rw is at (agree_below_at (λ c. is_unreserved c && should_percent_encode IN_TARGETS c) (λ c. false) 128 b
     refl low)
 
@@ -63,7 +58,7 @@ digit_kept b is = hex_not (λ c. should_percent_encode IN_TARGETS (to_ascii_uppe
 escape_kept : (high low : ℕ) → is_ascii_hexdigit high ≡ true → is_ascii_hexdigit low ≡ true
     → percent_encode IN_TARGETS (normal_escape high low) ≡ normal_escape high low
 unfolding percent_encode
-escape_kept high low one two = grind (arith, cases_Bool, digit_kept, percent_kept, unreserved_kept)
+escape_kept high low one two = grind (arith, digit_kept, percent_kept, unreserved_kept)
 
 normal_so : (in_query : Bool) (text : List ℕ)
     → normal_target text ≡ normal_from (in_uri all_stay) in_query text
@@ -72,14 +67,8 @@ normal_so =
     by_escapes (λ in_query text. normal_target text ≡ normal_from (in_uri all_stay) in_query text)
     (λ in_query. refl)
     (λ in_query b text isnt later.
-    ap (percent_encode IN_TARGETS) (octet_spelled b text isnt)
-    ∙ ap₂ (λ x y. x ++ y) (encoded in_query b) later
-    ∙ sym (octet_first (in_uri all_stay) in_query b text isnt))
-    (λ in_query high low text one two later.
-    ap (percent_encode IN_TARGETS) (escape_spelled high low text one two)
-    ∙ flat_map-append (encode_byte IN_TARGETS) (normal_escape high low) (spelled Standard text)
-    ∙ ap₂ (λ x y. x ++ y) (escape_kept high low one two) later
-    ∙ sym (escape_first high low text one two (in_uri all_stay) in_query))
+    cc (octet_spelled b text isnt, encoded in_query b, octet_first (in_uri all_stay) in_query b text isnt))
+    (grind (arith, escape_kept, flat_map-append))
 
 -- a target without `url-not-normal` is in normal form, and that of what is written
 pub target_normal : (text : List ℕ)

@@ -1,9 +1,9 @@
 -- A rule with `repeated-rule` decides no verdict, and can be deleted.
-use Rattle.std.proofs.lemmas.{Grind.common_steps, Option.same_Some, Slice.Eq.bytes_eq-Decides}
-use Rattle.std.proofs.lemmas.Bool.{and_parts, cases_Bool, false_from_ne_true, false≢true}
+use Rattle.std.proofs.lemmas.{Slice.Eq.bytes_eq-Decides}
+use Rattle.std.proofs.lemmas.Bool.{cases_Bool, false_from_ne_true}
 use Rattle.std.proofs.Common.{◌≡◌, ◌+◌, ◌⊎◌, ℕ, suc, zero, Bool, true, false, List, [], ◌∷◌, ◌++◌, Contains}
-use Rattle.std.proofs.Common.{Some, arith, if◌then◌else◌, inl, inr, refl, slice_get, subst, sym, ◌≢◌, ◌<◌}
-use Rattle.std.proofs.Common.{◌≤◌, ◌↔◌, All, Option, ◌∙◌}
+use Rattle.std.proofs.Common.{Some, arith, if◌then◌else◌, inl, inr, refl, slice_get, subst, sym, ◌<◌}
+use Rattle.std.proofs.Common.{◌≤◌, ◌↔◌, All, Option}
 use Rattle.texting_robots.specs.Callers.{AreLabelsOf, Label, LineValue, Allow, AreRulesFor, Disallow, Rule}
 use Rattle.texting_robots.specs.Callers.{IsCaptured, IsDecidingLine, IsDenied, IsVerdict, PlacedRule}
 use Rattle.texting_robots.specs.Callers.{group_name, placed_rules, rules_for, unplaced}
@@ -15,7 +15,7 @@ use Rattle.robots_needless.proofs.BlockLemmas.{among, deleted}
 use Rattle.robots_warnings.specs.Repeated.{above_next, is_repeated, repeated, repeated_from}
 use Rattle.robots_warnings.specs.{File.lines_of, Spellings.is_rule_with}
 use Rattle.std.specs.{List.list_any}
-use Rattle.std.proofs.lemmas.List.{Elements.All-contains, Elements.Contains-push_cases}
+use Rattle.std.proofs.lemmas.List.{Elements.Contains-push_cases}
 use Rattle.std.proofs.lemmas.List.{Folds.Any-from_list_any}
 use Rattle.texting_robots.proofs.Shared.{placed_of, computed_are}
 
@@ -23,7 +23,7 @@ pub record IsFrom (lines : List LineValue) (position : ℕ) (rest : List LineVal
   pub each : (i : ℕ) → slice_get lines (position + i) ≡ slice_get rest i
 
 pub all_from : (lines : List LineValue) → IsFrom lines 0 lines
-all_from lines = grind (arith, common_steps)
+all_from lines = grind arith
 
 module _ {lines : List LineValue} {position : ℕ} {line : LineValue} {rest : List LineValue}
     (from : IsFrom lines position (line ∷ rest)) where
@@ -41,7 +41,7 @@ pub record AreFrom (lines : List LineValue) (position : ℕ) (labels : List Labe
 
 pub all_labels : {name : List ℕ} {lines : List LineValue} {labels : List Label}
     → AreLabelsOf name lines labels → AreFrom lines 0 labels
-all_labels {lines} are = grind (arith, common_steps)
+all_labels {lines} are = grind arith
 
 pub labels_next : {lines : List LineValue} {position : ℕ} {label : Label} {labels : List Label}
     → AreFrom lines position (label ∷ labels) → AreFrom lines (position + 1) labels
@@ -90,18 +90,9 @@ module _ {lines : List LineValue} {position : ℕ} {line : LineValue} {rest : Li
       let passes : passes_at is_agent lines position ≡ false = rw (here from) isnt in
       elim (Contains-push_cases above line other has) [
         | inl older ↦
-            let is = group other older in record {
-              other = is.other;
-              above = omega arith;
-              is = is.is;
-              no_agent = (grind arith);
-            }
+            let is = group other older in grind arith
         | inr same ↦ (grind (arith, here))
       ]
-
-  above_this : (other : LineValue) → ◌≢◌ {A = LineValue} line other
-      → IsAbove lines (position + 1) (Some other) → IsAbove lines position (Some other)
-  above_this other differs is = grind (arith, same_Some, here)
 
 -- the labels of the lines from a position on, and the lines above it in its group
 record IsReached (lines : List LineValue) (position : ℕ) (above : List LineValue) (labels : List Label)
@@ -121,7 +112,7 @@ module _ {lines above : List LineValue} {position : ℕ} {label : Label} {labels
   next = record {
     labeled = labels_next reached.labeled;
     group = elim (cases_Bool (is_agent label.line)) [
-      | inl is ↦ rw is (λ line (k, below, at). absurd (omega arith))
+      | inl is ↦ grind arith
       | inr isnt ↦ rw isnt (above_next_is reached.labeled.from isnt above reached.group)
     ];
   }
@@ -132,21 +123,11 @@ repeat_from : (everywhere : Bool) (lines : List LineValue) (position : ℕ) (abo
 repeat_from everywhere lines position above [] number reached (k, below, at) = absurd (omega arith)
 repeat_from everywhere lines position above (label ∷ labels) number reached has =
     let group = above_next above label.line in
-    (grind (
-      arith,
-      first_or_later,
-      first_repeat,
-      and_parts,
-      next,
-      repeat_from everywhere lines (position + 1) group labels number (next reached),
-    ))
+    (grind (arith, first_repeat, repeat_from everywhere lines (position + 1) group labels number (next reached)))
 
 is_repeat : {name : List ℕ} {lines : List LineValue} {labels : List Label} → AreLabelsOf name lines labels
     → (everywhere : Bool) (number : ℕ) → Contains (repeated everywhere labels) number → IsRepeat lines number
-is_repeat {lines} {labels} are everywhere number = repeat_from everywhere lines 0 [] labels number (record {
-  labeled = all_labels are;
-  group = λ line (k, below, at). absurd (omega arith);
-})
+is_repeat {lines} {labels} are everywhere number = repeat_from everywhere lines 0 [] labels number (grind arith)
 
 captured_above : {lines : List LineValue} {position : ℕ} {line : Option LineValue} (name : List ℕ)
     (is : IsAbove lines position line) → IsCaptured name lines position → IsCaptured name lines is.other
@@ -166,7 +147,7 @@ rule_above {agent} {lines} are placed has is =
         refl,
         record {
           value = holds.value;
-          line = (above.is ∙ holds.line.0, captured_above (group_name agent lines) above holds.line.1);
+          line = (cc, captured_above (group_name agent lines) above holds.line.1);
           utf8 = holds.utf8;
           pattern = holds.pattern;
         },
@@ -200,7 +181,7 @@ denied_by_same rules others text same (differs, p, has, fits, longest) =
 
 pub holds_among : (P : ℕ → Type 0) (numbers : List ℕ) → All P numbers → (number : ℕ)
     → among numbers number ≡ true → P number
-holds_among P numbers all number is = grind (arith, All-contains, in_named)
+holds_among P numbers all number is = grind (arith, in_named)
 
 module _ (numbers : List ℕ) (lines : List LineValue)
     (repeats : (number : ℕ) → among numbers number ≡ true → IsRepeat lines number) where
@@ -216,13 +197,13 @@ module _ (numbers : List ℕ) (lines : List LineValue)
       let repeat = λ (goes : among numbers (position + 1) ≡ true).
       rw at at (repeats (position + 1) goes position refl) in
       elim (cases_Bool (is_rule line)) [
-        | inl rule ↦ (grind (arith, among))
+        | inl rule ↦ (grind arith)
         | inr isnt ↦
             let stays = false_from_ne_true (among numbers (position + 1))
-            (λ goes. false≢true (sym isnt ∙ (repeat goes).0)) in
+            (grind arith) in
             elim (cases_Bool (is_agent line)) [
               | inl agent ↦ rw (isnt, stays, agent, never_lost has_rule) (later false (grind arith))
-              | inr plain ↦ (grind (arith, above_this))
+              | inr plain ↦ (grind arith)
             ]
       ]
 
@@ -261,7 +242,7 @@ pub repeated_can_be_deleted : (everywhere : Bool) (name agent : List ℕ) (lines
     → IsVerdict (rules_for agent lines) text answer
     ↔ IsVerdict (rules_for agent (lines_without numbers lines)) text answer
 repeated_can_be_deleted everywhere name agent lines labels numbers text answer labeled all =
-    let none_above : IsFollowed lines 0 false = λ line rule is. absurd (omega arith) in
+    let none_above : IsFollowed lines 0 false = grind arith in
     let blocks = keeps numbers lines repeats 0 lines false (all_from lines) none_above in
     let same = same_rules numbers lines repeats agent in
     rw (deleted numbers lines blocks agent) (verdicts _ _ text (

@@ -1,10 +1,10 @@
 -- Theorems about warnings: what the conditions of some warnings imply for rules, names and URLs.
-use Rattle.std.proofs.{lemmas.Grind.common_steps, lemmas.List.Folds.list_any-append}
+use Rattle.std.proofs.{lemmas.List.Folds.list_any-append}
 use Rattle.std.proofs.{lemmas.List.Elements.Contains-append_cases}
-use Rattle.std.proofs.Common.{◌||◌, ◌==◌, ap, arith, if◌then◌else◌, inl, inr, suc, ◌≡◌, ◌≢◌, ◌⊎◌}
+use Rattle.std.proofs.Common.{◌||◌, ◌==◌, arith, if◌then◌else◌, inl, inr, suc, ◌≡◌, ◌≢◌, ◌⊎◌}
 use Rattle.std.proofs.Common.{◌<◌, ℕ, Bool, true, false, List, [], ◌∷◌, ◌++◌, Contains, codes, filter, map}
-use Rattle.std.proofs.Common.{not, Option, refl, slice_get, Some, subst, sym, take, ◌+◌, ◌∙◌}
-use Rattle.std.proofs.lemmas.Bool.{not-true, or_cases, or_parts, cases_Bool, eqb-true, false≢true}
+use Rattle.std.proofs.Common.{not, Option, slice_get, Some, subst, sym, ◌+◌, ◌∙◌}
+use Rattle.std.proofs.lemmas.Bool.{cases_Bool, eqb-true, false≢true}
 use Rattle.std.specs.{List.enumerate_from, List.list_all, List.list_any, Str.byte}
 use Rattle.std.specs.{Str.is_utf8, Option.option_map_or}
 use Rattle.texting_robots.specs.Callers.{Allow, AreLabelsOf, CrawlDelay, Disallow, HoldsRule, IsLineOf, Label}
@@ -21,7 +21,7 @@ use Rattle.texting_robots.specs.declared.parser.statement.Kind.TheVariants as ki
 
 pub named_agent : (name : List ℕ) (line : Option LineValue)
     → option_map_or (is_agent_named name) line false ≡ true → option_map_or is_agent line false ≡ true
-named_agent name line is = grind (arith, common_steps)
+named_agent name line is = grind arith
 
 abbrev pub IsStated : LineValue → List ℕ → Type 0
 IsStated (UserAgent value) body = IsStatement kind.UserAgent value body
@@ -39,7 +39,7 @@ pub below_agent : (name : List ℕ) (lines : List LineValue) (place : ℕ) (memb
     → HasMembership name lines place membership → is_outside membership ≡ false
     → passes_at is_agent lines place ≡ false → list_any is_agent lines ≡ true
     → (j : ℕ) × (j < place) × (passes_at is_agent lines j ≡ true)
-below_agent name lines place membership is outside isnt some = grind (arith, some_passes, named_agent)
+below_agent name lines place membership is outside isnt some = grind (arith, some_passes)
 
 -- where lines are numbered from `n + 1` on
 FoundLine : (ℕ × LineValue → Bool) → ℕ → List LineValue → ℕ → Type 0
@@ -52,7 +52,7 @@ found_later : (test : ℕ × LineValue → Bool) (n : ℕ) (first : LineValue) (
 unfolding FoundLine
 found_later test n first lines number (i, line, is, at, passes) =
     let same : n + 1 + i ≡ n + suc i = omega arith in
-    (suc i, line, omega (arith, is), at, subst (λ k. test (k, line) ≡ true) same passes)
+    grind arith
 
 found_line : (test : ℕ × LineValue → Bool) (n : ℕ) (lines : List LineValue) (number : ℕ)
     → Contains (map (λ p. p.0 + 1) (filter test (enumerate_from n lines))) number
@@ -64,7 +64,7 @@ found_line test n (line ∷ lines) number has = elim (cases_Bool (test (n, line)
     | inl (k, below, here) ↦
         let first : k ≡ 0 = omega arith in
         let same : n ≡ n + 0 = omega arith in
-        (0, line, omega (arith, rw first at here), refl, subst (λ k. test (k, line) ≡ true) same is)
+        grind arith
     | inr later ↦ found_later test n line lines number (found_line test (n + 1) lines number later)
   ]
   | inr isnt ↦ found_later test n line lines number (found_line test (n + 1) lines number (rw isnt at has))
@@ -72,7 +72,7 @@ found_line test n (line ∷ lines) number has = elim (cases_Bool (test (n, line)
 
 new_name : (read more : List LineValue) (line : LineValue) → has_new_name (read ++ more) line ≡ true
     → (value : List ℕ) × (line ≡ UserAgent value) × (is_named value read ≡ false)
-new_name read more line isnt = grind (arith, or_parts, not-true, list_any-append)
+new_name read more line isnt = grind (arith, list_any-append)
 
 pub named_past_limit : (read : List LineValue) (file : List ℕ) (number : ℕ)
     → Contains (names_past_limit read file) number
@@ -81,33 +81,25 @@ pub named_past_limit : (read : List LineValue) (file : List ℕ) (number : ℕ)
 unfolding FoundLine
 named_past_limit read file number has =
     let (i, line, is, at, passes) = found_line (is_past_limit read file) 0 (file_lines file) number has in
-    let same : 0 + i ≡ i = omega arith in
-    let (value, named, new) = new_name read (take i (file_lines file)) line
-    (subst (λ k. is_past_limit read file (k, line) ≡ true) same passes) in
-    (i, value, omega (arith, is), at ∙ ap Some named, new)
+    grind (arith, new_name)
 
 pub not_utf8_applies_to_none : (value agent : List ℕ) (lines : List LineValue) (place : ℕ) (is_allow : Bool)
     (rule : Rule) → is_utf8 value ≡ false
     → slice_get lines place ≡ Some (if is_allow then Allow value else Disallow value)
     → ¬ HoldsRule agent lines place rule
-not_utf8_applies_to_none value agent lines place is_allow rule isnt at holds = grind (arith, common_steps)
+not_utf8_applies_to_none value agent lines place is_allow rule isnt at holds = grind arith
 
 pub above_agents_applies_to_none : (name agent : List ℕ) (lines : List LineValue) (labels : List Label)
     (place : ℕ)
     (label : Label) (rule : Rule) → AreLabelsOf name lines labels → slice_get labels place ≡ Some label
     → is_above_agents label ≡ true → ¬ HoldsRule agent lines place rule
 above_agents_applies_to_none name agent lines labels place label rule are at is holds =
-    grind (arith, common_steps)
-
-dropped : (front q t : List ℕ) → Matches (front ++ q) t → (s : List ℕ) × Matches q s
-unfolding MatchesWith
-dropped [] q t m = (t, m)
-dropped (b ∷ front) q t (s, takes, m) = dropped front q s m
+    grind arith
 
 other_bytes : (value : List ℕ) → list_any (λ b. not (b == star || b == dollar)) value ≡ true
     → list_all is_wildcard (escaped value) ≡ false
 other_bytes [] some = cc
-other_bytes (b ∷ value) some = grind (arith, eqb-true, other_bytes value)
+other_bytes (b ∷ value) some = grind (arith, other_bytes value)
 
 pub dollar_inside_matches_nothing : (value text : List ℕ) → has_dollar_inside value ≡ true
     → ¬ Matches (escaped value) text
@@ -120,7 +112,7 @@ dollar_inside_matches_nothing (b ∷ value) text inside m = elim (cases_Bool (b 
       false≢true (sym (other_bytes value (rw is at inside))
       ∙ (only_wildcards_match (escaped value)).1 (subst (Matches (escaped value)) gone later))
   | inr other ↦
-      (grind (arith, dropped, dollar_inside_matches_nothing value))
+      (grind (arith, dollar_inside_matches_nothing value))
 ]
 
 pub odd_start_matches_no_path : (value text : List ℕ) → begins_oddly value ≡ true
@@ -143,7 +135,7 @@ inside_matches_nothing (b ∷ pattern) text inside m = elim (cases_Bool (b == do
       false≢true (sym (other_than_wildcards pattern (rw is at inside))
       ∙ (only_wildcards_match pattern).1 (subst (Matches pattern) gone later))
   | inr other ↦
-      (grind (arith, dropped, inside_matches_nothing pattern))
+      (grind (arith, inside_matches_nothing pattern))
 ]
 
 odd_matches_nothing : (pattern text : List ℕ) → begins_oddly pattern ≡ true
@@ -153,4 +145,4 @@ odd_matches_nothing pattern text h = grind arith
 
 pub without_path : (pattern text : List ℕ) → matches_no_path pattern ≡ true
     → ¬ Matches pattern (byte "/" ∷ text)
-without_path pattern text none m = grind (arith, or_cases, odd_matches_nothing, inside_matches_nothing)
+without_path pattern text none m = grind (arith, odd_matches_nothing, inside_matches_nothing)

@@ -38,6 +38,7 @@ _MAY_BE: Final = {
 }
 """What an argument may be, for the error about another type."""
 _query: Final = lib.robot_query
+_encode: Final = str.encode
 _NO_RESULT: Final = lib.NO_RESULT
 _LAST_FAILURE: Final = _NO_RESULT - lib.ROBOTS_OVERLONG_RULE
 _MISFITS: Final = {
@@ -111,7 +112,7 @@ def robots_url(url: str) -> str:
 
 
 class Robot:
-    """What a robots.txt file says to one crawler. It takes about half the memory of a `Robots`, as it keeps no file.
+    """What a robots.txt file says to one crawler. It takes less memory than a `Robots`, as it keeps no file.
 
     ``body`` and ``agent`` are those of a `Robots`, and so are the methods and their errors, but that the constructor already raises
     `OverlongRuleError`. Threads share it without a lock. It can't be pickled: keep the bytes.
@@ -132,11 +133,13 @@ class Robot:
     def allowed(self, url: str) -> bool:
         """Whether the crawler may fetch the URL."""
         try:
-            text = str.encode(url)
+            text = _encode(url)
         except TypeError:
             raise _wrong("url", url) from None
         result = _query(self._opened, text, len(text))
-        return result >= 0 or (result <= _LAST_FAILURE and self._fails(result))
+        if result >= 0:
+            return True
+        return result <= _LAST_FAILURE and self._fails(result)
 
     def verdict(self, url: str) -> Verdict:
         """Whether the crawler may fetch the URL, and the line that decides it."""
@@ -228,7 +231,7 @@ class Robot:
 
 
 class Robots:
-    """A robots.txt file, which is parsed once for all crawlers.
+    """A robots.txt file, which is parsed for the first crawler alone, and from the second one on once for all.
 
     ``body`` is the file: preferably its bytes as received, which needn't be UTF-8, in a ``bytes`` or any other buffer, which is copied. A
     ``str`` is encoded as UTF-8; what ``surrogateescape`` made of other bytes becomes these again. A ``url`` is a whole URL, or a path. An
@@ -261,14 +264,18 @@ class Robots:
 
     def allowed(self, url: str, agent: str) -> bool:
         """Whether the crawler may fetch the URL."""
-        # the lookup of its robot and that robot's query, written out to save two calls
-        robot = (type(agent) is str and self._site.robots.get(agent)) or self._site.robot(agent)
+        # the lookup of its robot and that robot's query, written out to save two calls; most callers have one `str` for their agent
+        newest, opened = self._site.newest
+        if newest is not agent:
+            opened = ((type(agent) is str and self._site.robots.get(agent)) or self._site.robot(agent))._opened
         try:
-            text = str.encode(url)
+            text = _encode(url)
         except TypeError:
             raise _wrong("url", url) from None
-        result = _query(robot._opened, text, len(text))
-        return result >= 0 or (result <= _LAST_FAILURE and robot._fails(result))
+        result = _query(opened, text, len(text))
+        if result >= 0:
+            return True
+        return result <= _LAST_FAILURE and self._site.robot(agent)._fails(result)
 
     can_fetch = allowed
     """Protego's name. (The one of urllib.robotparser has the agent first.)"""
@@ -317,25 +324,32 @@ class Robots:
 
     def delay_microseconds(self, agent: str) -> int | None:
         """The delay in microseconds, exactly, or None."""
-        name, microseconds = _name(agent), ffi.new("uint64_t *")
-        return _delay(lib.site_delay(self._site.opened, name, len(name), microseconds), microseconds)
+        robot = type(agent) is str and self._site.robots.get(agent)
+        if robot and not lib.robot_overlong_line(robot._opened):
+            return robot.delay_microseconds
+        site, name, microseconds = self._site.read(), _name(agent), ffi.new("uint64_t *")
+        return _delay(lib.site_delay(site, name, len(name), microseconds), microseconds)
 
     @property
     def sitemaps(self) -> list[str]:
         """The sitemaps, which are the same for every crawler, in the file's order; also empty ones, but none that isn't UTF-8."""
         # for sitemaps the length of the file is always enough room
-        return _written(lambda *out: lib.site_sitemaps(self._site.opened, *out), len(self._site.body)).split("\n")[:-1]
+        site = self._site.read()
+        return _written(lambda *out: lib.site_sitemaps(site, *out), len(self._site.body)).split("\n")[:-1]
 
     @property
     def agents(self) -> list[str]:
         """The names in the file's user-agent lines, ``*`` too, in its order; of names that differ only in case the first."""
-        return _written(lambda *out: lib.site_agents(self._site.opened, *out), 256).split("\n")[:-1]
+        site = self._site.read()
+        return _written(lambda *out: lib.site_agents(site, *out), 256).split("\n")[:-1]
 
     @property
     def size(self) -> int:
-        """How many bytes of memory it takes: the file twice, what its lines are, and the rules for the agents that were asked about."""
+        """How many bytes of memory it takes: the file, and the rules for the agents that were asked about; with a second agent the file once
+        more, and what its lines are."""
         site = self._site
-        return len(site.body) + lib.site_bytes(site.opened) + sum(robot.size for robot in list(site.robots.values()))
+        kept = 0 if site.kept is None else lib.site_bytes(site.kept)
+        return len(site.body) + kept + sum(robot.size for robot in list(site.robots.values()))
 
     def is_named(self, agent: str) -> bool:
         """Whether a user-agent line names the crawler. All crawlers that none names have the rules and the delay of ``*``."""
@@ -352,18 +366,35 @@ class Robots:
         return f"<{type(self).__name__} of {len(self._site.body)} bytes>"
 
 
+_NONE: Final = (object(), ffi.NULL)
+
+
 class _Site:
-    """What C has read of a file, and what the file says to each agent that was asked about. Both are closed when nothing refers to them.
+    """A file, and what it says to each agent that was asked about. C reads it for the first agent alone, and for all from the second one on,
+    so that for one crawler no more is kept than its bytes and the robot. C's part is closed when nothing refers to it.
 
     It is pickled as its bytes, and so a `Robots` as any object is, with all its attributes.
     """
 
-    __slots__ = ("body", "opened", "robots")
+    __slots__ = ("body", "kept", "newest", "robots")
 
     def __init__(self, body: bytes) -> None:
         self.body = body
-        self.opened = _opened(lib.site_open(body, len(body)), lib.site_close)
+        self.kept: CData | None = None
+        self.newest: tuple[object, CData] = _NONE
         self.robots: dict[str, Robot] = {}
+
+    def read(self) -> CData:
+        """The file as C reads it for all crawlers."""
+        return self.kept or _opened(lib.site_open(self.body, len(self.body)), lib.site_close)
+
+    @property
+    def opened(self) -> CData:
+        """The same, and it is kept. The first agent's robot may be one that the library shares from now on, so it is made anew."""
+        if self.kept is None:
+            self.kept, self.newest = self.read(), _NONE
+            self.robots.clear()
+        return self.kept
 
     def robot(self, agent: str) -> Robot:
         """What the file says to an agent. A `str` of another type may have its own equality, so its robot isn't looked up."""
@@ -372,10 +403,15 @@ class _Site:
     def _open(self, agent: str) -> Robot:
         """Opens a robot. The library shares it among all agents that no line names."""
         name = _name(agent)
-        robot = Robot.__new__(Robot)._open(lib.robot_open(self.opened, name, len(name)))
+        if self.robots or self.kept:
+            opened = lib.robot_open(self.opened, name, len(name))
+        else:
+            opened = lib.robot_of_file(self.body, len(self.body), name, len(name))
+        robot = Robot.__new__(Robot)._open(opened)
         if len(self.robots) >= _AGENTS_KEPT:
             self.robots.clear()
         self.robots[str(name, "utf-8")] = robot
+        self.newest = agent, robot._opened
         return robot
 
     def __reduce__(self) -> tuple[type[_Site], tuple[bytes]]:

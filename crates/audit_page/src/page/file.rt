@@ -100,12 +100,11 @@ pub(crate) fn write_file_table(
     page.html.close()?;
     write_line_columns(page)?;
     let lists = by_line(alloc, &audit.warnings)?;
-    let mut rest: &[LabeledLine<'_>] = &audit.labels;
-    while !rest.is_empty() {
+    for at in 0..audit.labels.len().div_ceil(BODY_LINES) {
+        let lines = after(&audit.labels, at.saturating_mul(BODY_LINES));
         page.html.open("tbody", &[])?;
-        write_line_rows(page, &lists, first(rest, BODY_LINES))?;
+        write_line_rows(page, &lists, first(lines, BODY_LINES))?;
         page.html.close()?;
-        rest = after(rest, BODY_LINES);
     }
     page.html.close()
 }

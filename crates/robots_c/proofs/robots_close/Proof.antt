@@ -1,11 +1,11 @@
--- `robots_close` frees a robot, unless the pointer is null.
-use Rattle.robots_c.proofs.Borrowing.{[], ◌∷◌, refl, ‵, ◌⊛◌, ◌$◌, ◌∵◌, ! }
-use Rattle.robots_c.proofs.Borrowing as m
-use Rattle.robots_c.proofs.Keeping.{lit<, id⊢}
-use Rattle.robots_c.proofs.Keeping as d
-use Rattle.robots_c.specs.Kept.{Robots, owned_or_null}
-use Rattle.robots_c.specs.contracts.handle.close as callee
-use Rattle.robots_c.proofs.{handle.close.Met.met, robots_close.Statement.statement}
+use Rattle.c_calls.proofs.Borrowing.{[], ◌∷◌, refl, ‵, ◌⊛◌, ◌$◌, ◌∵◌, ! }
+use Rattle.c_calls.proofs.Borrowing as m
+use Rattle.c_calls.proofs.Keeping.{lit<, id⊢}
+use Rattle.c_calls.proofs.Keeping as d
+use Rattle.c_calls.specs.Kept.{Robots, owned_or_null}
+use Rattle.c_calls.specs.contracts.handle.close as callee
+use Rattle.c_calls.proofs.handle.close.Met.{met}
+use Rattle.robots_c.proofs.robots_close.Statement.{statement}
 use Rattle.robots_c.specs.contracts.robots_close as self
 use Rattle.robots_c.proofs.robots_close.Code as code
 use denote.Triple.Spec.{triple_of}
@@ -54,7 +54,7 @@ robots_close_spec 𝓤 𝓛 𝓜 𝓡 wired =
           m.lands_as ! refl refl good $ m.sets ! (m.of_opd ! (d.unit_lit !)) refl (tt, tt) $
           m.returns ! (m.look_at ! 0 refl) $ m.free_all ! refl $ d.by ! done))),
     ))
-    (λ b o. met 𝓤 𝓛 𝓜 𝓡 (code.calls-robots_c::handle::close 𝓡.env wired) (
+    (λ b o. met 𝓤 𝓛 𝓜 𝓡 (code.calls-c_calls::handle::close 𝓡.env wired) (
       (
         tt,
         tt,

@@ -1,9 +1,9 @@
--- `robots_cost` reads a borrowed robot.
-use Rattle.robots_c.proofs.Borrowing.{ℕ, [], ◌∷◌, refl, ◌$◌, ◌∵◌, ! }
-use Rattle.robots_c.proofs.Borrowing as m
-use Rattle.robots_c.specs.Kept.{Robots}
-use Rattle.robots_c.specs.contracts.handle.cost as callee
-use Rattle.robots_c.proofs.{handle.cost.Met.met, robots_cost.Statement.statement}
+use Rattle.c_calls.proofs.Borrowing.{ℕ, [], ◌∷◌, refl, ◌$◌, ◌∵◌, ! }
+use Rattle.c_calls.proofs.Borrowing as m
+use Rattle.c_calls.specs.Kept.{Robots}
+use Rattle.c_calls.specs.contracts.handle.cost as callee
+use Rattle.c_calls.proofs.handle.cost.Met.{met}
+use Rattle.robots_c.proofs.robots_cost.Statement.{statement}
 use Rattle.robots_c.specs.contracts.robots_cost as self
 use Rattle.robots_c.proofs.robots_cost.Code as code
 
@@ -30,5 +30,5 @@ robots_cost_spec 𝓤 𝓛 𝓜 𝓡 wired =
           m.lands_as ! refl refl good
           $ m.returns ! (m.look_at ! 0 refl) $ m.free_all ! refl $ m.done !)),
     ))
-    (λ b o. met 𝓤 𝓛 𝓜 𝓡 (code.calls-robots_c::handle::cost 𝓡.env wired)
+    (λ b o. met 𝓤 𝓛 𝓜 𝓡 (code.calls-c_calls::handle::cost 𝓡.env wired)
     ((κs, (q, z.0.1), tt, given_at b o, z.0.4), tt))))

@@ -1,11 +1,11 @@
--- `robots_open` writes a pointer to a robot, which C owns from then on.
-use Rattle.robots_c.proofs.Borrowing.{◌≡◌, ℕ, [], ◌∷◌, refl, ‵, ◌⊛◌, ◌$◌, ◌∵◌, ! }
-use Rattle.robots_c.proofs.Borrowing as m
-use Rattle.robots_c.proofs.Keeping.{id⊢, ℤ, ◌≢◌}
-use Rattle.robots_c.proofs.Keeping as d
-use Rattle.robots_c.specs.{File.bytes_read, Kept.Robots, Status.HasFaultAt, Status.IsWhyNoRobot}
-use Rattle.robots_c.proofs.{handle.opened.Met.met, robots_open.Statement.statement}
-use Rattle.robots_c.specs.contracts.handle.opened as callee
+use Rattle.c_calls.proofs.Borrowing.{◌≡◌, ℕ, [], ◌∷◌, refl, ‵, ◌⊛◌, ◌$◌, ◌∵◌, ! }
+use Rattle.c_calls.proofs.Borrowing as m
+use Rattle.c_calls.proofs.Keeping.{id⊢, ℤ, ◌≢◌}
+use Rattle.c_calls.proofs.Keeping as d
+use Rattle.c_calls.specs.{File.bytes_read, Kept.Robots, Status.HasFaultAt, Status.IsWhyNoRobot}
+use Rattle.c_calls.proofs.handle.opened.Met.{met}
+use Rattle.robots_c.proofs.robots_open.Statement.{statement}
+use Rattle.c_calls.specs.contracts.handle.opened as callee
 use Rattle.robots_c.specs.contracts.robots_open as self
 use Rattle.robots_c.proofs.robots_open.Code as code
 
@@ -34,7 +34,7 @@ robots_open_spec 𝓤 𝓛 𝓜 𝓡 wired =
     (λ w. id⊢ 𝓤 _) (λ w p. id⊢ 𝓤 _)
     (λ r w. d.owned_now 𝓛 𝓜 𝓡 Robots _ _ (rest r.status r.at w.1.1.1.1.0) r (λ is. is))
     (_ ∷ _ ∷ _ ∷ []) _ _ _ _ fn given_words words
-    (met 𝓤 𝓛 𝓜 𝓡 (code.calls-robots_c::handle::opened 𝓡.env wired) (
+    (met 𝓤 𝓛 𝓜 𝓡 (code.calls-c_calls::handle::opened 𝓡.env wired) (
       (
         κs,
         (z.0.1.0, (z.0.1.1.0, (z.0.1.1.1.1.0, tt))),

@@ -1,9 +1,9 @@
--- `robots_query` reads a borrowed robot.
-use Rattle.robots_c.proofs.Borrowing.{ℕ, refl, [], ◌∷◌, ◌$◌, ◌∵◌, ! }
-use Rattle.robots_c.proofs.Borrowing as m
-use Rattle.robots_c.proofs.{urls.query.Met.met, robots_query.Statement.statement}
-use Rattle.robots_c.specs.{Kept.Robots, File.IsRobotOfSomeFile}
-use Rattle.robots_c.specs.contracts.urls.query as callee
+use Rattle.c_calls.proofs.Borrowing.{ℕ, refl, [], ◌∷◌, ◌$◌, ◌∵◌, ! }
+use Rattle.c_calls.proofs.Borrowing as m
+use Rattle.c_calls.proofs.urls.query.Met.{met}
+use Rattle.robots_c.proofs.robots_query.Statement.{statement}
+use Rattle.c_calls.specs.{Kept.Robots, File.IsRobotOfSomeFile}
+use Rattle.c_calls.specs.contracts.urls.query as callee
 use Rattle.robots_c.specs.contracts.robots_query as self
 use Rattle.robots_c.proofs.robots_query.Code as code
 
@@ -31,5 +31,5 @@ robots_query_spec 𝓤 𝓛 𝓜 𝓡 wired =
           (λ v r good. m.lands_as ! refl refl good $
           m.returns ! (m.look_at ! 0 refl) $ m.free_all ! refl $ m.done !)),
     ))
-    (λ b o. met 𝓤 𝓛 𝓜 𝓡 (code.calls-robots_c::urls::query 𝓡.env wired)
+    (λ b o. met 𝓤 𝓛 𝓜 𝓡 (code.calls-c_calls::urls::query 𝓡.env wired)
     ((κs, (q, z.0.1), tt, given_at b o, vs), tt)))

@@ -1,10 +1,10 @@
--- `robots_query_batch` reads a borrowed robot.
-use Rattle.robots_c.proofs.Borrowing.{ℕ, [], ◌∷◌, refl, ◌$◌, ◌∵◌, ! }
-use Rattle.robots_c.proofs.Borrowing as m
-use Rattle.robots_c.specs.Kept.{Robots}
-use Rattle.robots_c.specs.File.{IsRobotOfSomeFile}
-use Rattle.robots_c.specs.contracts.batch.query_batch as callee
-use Rattle.robots_c.proofs.{batch.query_batch.Met.met, robots_query_batch.Statement.statement}
+use Rattle.c_calls.proofs.Borrowing.{ℕ, [], ◌∷◌, refl, ◌$◌, ◌∵◌, ! }
+use Rattle.c_calls.proofs.Borrowing as m
+use Rattle.c_calls.specs.Kept.{Robots}
+use Rattle.c_calls.specs.File.{IsRobotOfSomeFile}
+use Rattle.c_calls.specs.contracts.batch.query_batch as callee
+use Rattle.c_calls.proofs.batch.query_batch.Met.{met}
+use Rattle.robots_c.proofs.robots_query_batch.Statement.{statement}
 use Rattle.robots_c.specs.contracts.robots_query_batch as self
 use Rattle.robots_c.proofs.robots_query_batch.Code as code
 
@@ -37,5 +37,5 @@ robots_query_batch_spec 𝓤 𝓛 𝓜 𝓡 wired =
           (λ v r good. m.lands_as ! refl refl good $ m.returns ! (m.look_at ! 0 refl) $ m.free_all ! refl $
           m.done !)),
     ))
-    (λ b o. met 𝓤 𝓛 𝓜 𝓡 (code.calls-robots_c::batch::query_batch 𝓡.env wired)
+    (λ b o. met 𝓤 𝓛 𝓜 𝓡 (code.calls-c_calls::batch::query_batch 𝓡.env wired)
     ((κs, (q, z.0.1), tt, given_at b o, vs), tt)))

@@ -1,9 +1,9 @@
--- `robots_query_delay` reads a borrowed robot.
-use Rattle.robots_c.proofs.Borrowing.{ℕ, [], ◌∷◌, refl, ◌$◌, ◌∵◌, ! }
-use Rattle.robots_c.proofs.Borrowing as m
-use Rattle.robots_c.specs.Kept.{Robots}
-use Rattle.robots_c.specs.contracts.handle.query_delay as callee
-use Rattle.robots_c.proofs.{handle.query_delay.Met.met, robots_query_delay.Statement.statement}
+use Rattle.c_calls.proofs.Borrowing.{ℕ, [], ◌∷◌, refl, ◌$◌, ◌∵◌, ! }
+use Rattle.c_calls.proofs.Borrowing as m
+use Rattle.c_calls.specs.Kept.{Robots}
+use Rattle.c_calls.specs.contracts.handle.query_delay as callee
+use Rattle.c_calls.proofs.handle.query_delay.Met.{met}
+use Rattle.robots_c.proofs.robots_query_delay.Statement.{statement}
 use Rattle.robots_c.specs.contracts.robots_query_delay as self
 use Rattle.robots_c.proofs.robots_query_delay.Code as code
 
@@ -30,5 +30,5 @@ robots_query_delay_spec 𝓤 𝓛 𝓜 𝓡 wired =
           (λ v r good. m.lands_as ! refl refl good $ m.returns ! (m.look_at ! 0 refl) $ m.free_all ! refl $
           m.done !)),
     ))
-    (λ b o. met 𝓤 𝓛 𝓜 𝓡 (code.calls-robots_c::handle::query_delay 𝓡.env wired)
+    (λ b o. met 𝓤 𝓛 𝓜 𝓡 (code.calls-c_calls::handle::query_delay 𝓡.env wired)
     ((κs, (q, z.0.1), tt, given_at b o, z.0.4), tt))))

@@ -8,5 +8,5 @@ returns-clause-ok c = record {
   newer_is = c.in_ok-newer_audit.ensures.ok;
   removed_are = rw (c.requires.older.site_is, c.requires.newer.site_is) at c.in_ok-rules.ensures.removed;
   added_are = rw (c.requires.older.site_is, c.requires.newer.site_is) at c.in_ok-rules.ensures.added;
-  changes_are = rw (c.deref.ensures.value, c.deref-2.ensures.value) at c.in_ok-changes.ensures;
+  changes_are = c.in_ok-changes.ensures;
 }

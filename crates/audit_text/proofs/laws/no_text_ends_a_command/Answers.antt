@@ -1,3 +1,4 @@
+use Rattle.std.proofs.Common.{false}
 use Rattle.printable_text.proofs.{CommandLemmas.sanitized_quiet, SanitizeLemmas.sanitized_in_printable}
 use Rattle.audit_text.proofs.{GithubLemmas.property_inside}
 use Rattle.audit_text.specs.Github.{command_of}

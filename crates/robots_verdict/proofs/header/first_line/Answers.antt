@@ -9,17 +9,11 @@ returns-in-Some-clause-line c =
     let input = c.args.input.now in
     let from = c.in-Some.end + 1 in
     let all : take (length input - from) (drop from input) ≡ drop from input =
-    take_all (length input - from) (drop from input) (omega (arith, length-drop from input)) in
+    grind (arith, length-drop, take_all) in
     rw (c.without_cr.ensures, all, add-one) (sym (line_found _ input c.in-Some.end c.in-Some.ensures))
 
 pub returns-in-Some-clause-shorter : goal.returns-in-Some-clause-shorter
-returns-in-Some-clause-shorter c =
-    let input = c.args.input.now in
-    let from = c.in-Some.end + 1 in
-    let first : IsFirstLf input c.in-Some.end = c.in-Some.ensures in
-    let all : take (length input - from) (drop from input) ≡ drop from input =
-    take_all (length input - from) (drop from input) (omega (arith, length-drop from input)) in
-    rw all (omega (arith, length-drop from input, first.within))
+returns-in-Some-clause-shorter c = grind (arith, length-drop, take_all, c.args.input.now, c.in-Some.ensures)
 
 pub returns-in-None-clause-line : goal.returns-in-None-clause-line
 returns-in-None-clause-line c = line_none _ c.args.input.now c.in-None.ensures

@@ -1,19 +1,13 @@
+use Rattle.std.proofs.Common.{arith}
 use Rattle.std.proofs.Common.{refl}
 use Rattle.robots_verdict.proofs.{InputLemmas.urls_allocated, ReportLemmas.header_fault}
 use Rattle.robots_verdict.proofs.header.read_header.Goals as goal
 
 pub returns-in_err-agent-clause-fault : goal.returns-in_err-agent-clause-fault
-returns-in_err-agent-clause-fault c =
-    let not = c.in_err-agent.ensures.fault in
-    header_fault c.from_residual-in_err-agent.result c.in_err-agent.field-0.0 c.args.input.now
-    c.from_residual-in_err-agent.ensures.1 c.in_ok-parts.ensures.ok (λ _. (not.0, rw not.1 refl))
+returns-in_err-agent-clause-fault c = grind (arith, header_fault, c.in_err-agent.ensures.fault)
 
 pub returns-in_err-urls-clause-fault : goal.returns-in_err-urls-clause-fault
-returns-in_err-urls-clause-fault c =
-    header_fault c.from_residual-in_err-urls.result c.in_err-urls.field-0.0 c.args.input.now
-    c.from_residual-in_err-urls.ensures.1 c.in_ok-parts.ensures.ok (λ known.
-    let not = rw c.deref.ensures.value at (c.in_err-urls.ensures.fault known) in
-    (not.0, rw (c.in_ok-agent.ensures.ok.1, not.1) refl))
+returns-in_err-urls-clause-fault c = grind (arith, header_fault, c.in_err-urls.ensures.fault)
 
 pub returns-in_err-urls-clause-memory : goal.returns-in_err-urls-clause-memory
 returns-in_err-urls-clause-memory c = urls_allocated c.from_residual-in_err-urls.result
@@ -22,14 +16,7 @@ returns-in_err-urls-clause-memory c = urls_allocated c.from_residual-in_err-urls
     c.in_ok-parts.ensures.ok refl
 
 pub returns-clause-input : goal.returns-clause-input
-returns-clause-input c =
-    rw (c.in_ok-agent.ensures.ok.0, c.in_ok-urls.ensures.ok.0, c.deref.ensures.value) c.in_ok-parts.ensures.ok
+returns-clause-input c = grind arith
 
 pub returns-clause-texts : goal.returns-clause-texts
-returns-clause-texts c =
-    rw (
-      c.in_ok-agent.ensures.ok.0,
-      c.in_ok-urls.ensures.ok.0,
-      c.in_ok-agent.ensures.ok.1,
-      c.in_ok-urls.ensures.ok.1,
-    ) refl
+returns-clause-texts c = grind arith

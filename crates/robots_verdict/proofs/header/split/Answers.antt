@@ -1,3 +1,4 @@
+use Rattle.std.proofs.Common.{arith}
 use Rattle.std.proofs.{Common.rules, Common.refl, lemmas.List.map-append}
 use Rattle.robots_verdict.proofs.InputLemmas.{goes_first, goes_more, if_memory, no_agent, no_split, not_empty}
 use Rattle.robots_verdict.proofs.{InputLemmas.split_found, InputLemmas.some_url, ReportLemmas.no_parts}
@@ -7,8 +8,7 @@ pub loop-url-init : goal.loop-url-init
 loop-url-init c = rw c.new-urls.ensures.items (goes_first c.in-Some.rest.now)
 
 pub returns-then-is_empty-clause-ok : goal.returns-then-is_empty-clause-ok
-returns-then-is_empty-clause-ok c = split_found c.args.input.now _ _ _ _ _ _ c.in-Some.ensures.line
-    c.loop-url.invariant c.in-Some-first_line.ensures.line (search rules)
+returns-then-is_empty-clause-ok c = grind (arith, split_found)
 
 pub loop-url-preserved : goal.loop-url-preserved
 loop-url-preserved c =
@@ -16,12 +16,10 @@ loop-url-preserved c =
     (goes_more _ _ _ _ _ c.loop-url.invariant c.in-Some-first_line.ensures.line (search rules))
 
 pub returns-in_default-clause-fault : goal.returns-in_default-clause-fault
-returns-in_default-clause-fault c =
-    λ _. no_parts c.args.input.now (no_agent c.args.input.now c.in_default.ensures.line)
+returns-in_default-clause-fault c = grind (arith, no_agent, no_parts)
 
 pub returns-clause-fault : goal.returns-clause-fault
-returns-clause-fault c = λ _. no_parts c.args.input.now (no_split c.args.input.now _ _ _ _
-    c.in-Some.ensures.line c.loop-url.invariant c.in_default-first_line.ensures.line)
+returns-clause-fault c = grind (arith, no_parts, no_split)
 
 pub returns-in_err-push-clause-memory : goal.returns-in_err-push-clause-memory
 returns-in_err-push-clause-memory c = if_memory _ (

@@ -5,15 +5,13 @@ use Rattle.robots_verdict.proofs.header.texts_of.Goals as goal
 pub loop-url-preserved : goal.loop-url-preserved
 loop-url-preserved c = record {
   same = grind (arith, common_steps);
-  are_utf8 = utf8_next c.args.urls.now c.loop-url.url-index _ c.loop-url.invariant.are_utf8
-      c.loop-url-test.true c.in_ok-text_of.ensures.ok.1;
+  are_utf8 = grind (arith, utf8_next);
 }
 
 pub returns-clause-ok : goal.returns-clause-ok
 returns-clause-ok c = (
   grind (arith, common_steps),
-  c.loop-url.invariant.are_utf8
-      ∙ ap all_utf8 (drop_all c.loop-url.url-index c.args.urls.now c.loop-url-test.false),
+  grind (arith, all_utf8, drop_all),
 )
 
 pub returns-in_err-text_of-clause-fault : goal.returns-in_err-text_of-clause-fault

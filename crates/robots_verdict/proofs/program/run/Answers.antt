@@ -1,3 +1,4 @@
+use Rattle.std.proofs.Common.{arith}
 use Rattle.std.proofs.Common.{Err, ap}
 use Rattle.std.specs.Io.KnownBytes.{Appends}
 use Rattle.robots_io.specs.Streams.{AppendsBeginning}
@@ -5,23 +6,16 @@ use Rattle.robots_verdict.proofs.ReportLemmas.{run_fault, run_memory, run_unread
 use Rattle.robots_verdict.proofs.program.run.Goals as goal
 
 pub returns-in_err-text-clause-no_empty_line : goal.returns-in_err-text-clause-no_empty_line
-returns-in_err-text-clause-no_empty_line g c = run_fault _ _ _ c.from_residual-in_err-text.result _ _
-    c.in_ok-input.ensures.all c.deref.ensures.value c.in_err-text.ensures.fault
-    c.from_residual-in_err-text.ensures.1 (λ e. cc)
+returns-in_err-text-clause-no_empty_line g c = grind (arith, run_fault)
 
 pub returns-in_err-text-clause-invalid_rule : goal.returns-in_err-text-clause-invalid_rule
-returns-in_err-text-clause-invalid_rule g c = run_fault _ _ _ c.from_residual-in_err-text.result _ _
-    c.in_ok-input.ensures.all c.deref.ensures.value c.in_err-text.ensures.fault
-    c.from_residual-in_err-text.ensures.1 (λ e. cc)
+returns-in_err-text-clause-invalid_rule g c = grind (arith, run_fault)
 
 pub returns-in_err-input-clause-memory : goal.returns-in_err-input-clause-memory
-returns-in_err-input-clause-memory g c = run_unread c.from_residual.result c.in_err-input.field-0.0
-    c.from_residual.ensures.1 (λ same. c.in_err-input.ensures.memory (ap (λ fault. Err fault) same))
+returns-in_err-input-clause-memory g c = grind (arith, run_unread, c.in_err-input.ensures.memory)
 
 pub returns-in_err-text-clause-memory : goal.returns-in_err-text-clause-memory
-returns-in_err-text-clause-memory g c = run_memory _ _ _ c.from_residual-in_err-text.result _
-    c.in_ok-input.ensures.all c.deref.ensures.value c.in_err-text.ensures.memory
-    c.from_residual-in_err-text.ensures.1
+returns-in_err-text-clause-memory g c = grind (arith, run_memory)
 
 pub returns-clause-ok : goal.returns-clause-ok
 returns-clause-ok g c = run_wrote _ (Appends _ _) _ _ _ _ c.in_ok-input.ensures.all c.deref.ensures.value

@@ -1,3 +1,4 @@
+use Rattle.std.proofs.Common.{arith}
 use Rattle.std.proofs.Common.{◌≡◌, ◌++◌, ◌∷◌, [], ℕ, List, ap, inr, map, refl, string_bytes, take, ◌∙◌}
 use Rattle.texting_robots.specs.Robot.{RobotValue, file_limit}
 use Rattle.texting_robots.proofs.Shared.{not_rejected, read_robot}
@@ -12,14 +13,10 @@ returns-clause-ok c =
     let header = c.in_ok-header.header in
     let robot = c.in_ok-robot.robot in
     let delayed : string_bytes c.push_delay.new.text ≡ ended (delay_line robot.delay ∷ []) =
-    c.in_ok-push_delay.ensures
-    ∙ ap (λ (t : List ℕ). t ++ ended (delay_line c.robot.inside.delay ∷ [])) c.new-text.ensures.bytes
-    ∙ ap (λ delay. ended (delay_line delay ∷ [])) (ap (λ (r : RobotValue). r.delay) c.robot.view_is) in
+    grind arith in
     let listed : string_bytes c.push_sitemaps.new.text
     ≡ string_bytes c.push_delay.new.text ++ ended (map sitemap_line robot.sitemaps) =
-    c.in_ok-push_sitemaps.ensures
-    ∙ ap (λ (t : List (List ℕ)). string_bytes c.push_delay.new.text ++ ended (map sitemap_line t))
-    (ap (map string_bytes) c.deref.ensures.value ∙ ap (λ (r : RobotValue). r.sitemaps) c.robot.view_is) in
+    grind arith in
     let is = read_robot header.agent.now header.file.now robot c.in_ok-robot.ensures.robot in
     let judged = rw c.deref-2.ensures.value at c.in_ok-push_verdicts.ensures.ok in
     rw (c.in_ok-header.ensures.input, c.in_ok-header.ensures.texts) (inr (
@@ -30,9 +27,7 @@ returns-clause-ok c =
     ))
 
 pub returns-in_err-robot-clause-fault : goal.returns-in_err-robot-clause-fault
-returns-in_err-robot-clause-fault c = robot_fault c.from_residual-in_err-robot.result c.in_err-robot.field-0.0
-    c.args.input.now c.from_residual-in_err-robot.ensures.1 c.in_ok-header.ensures.input
-    c.in_ok-header.ensures.texts c.in_err-robot.ensures.rejected
+returns-in_err-robot-clause-fault c = grind (arith, robot_fault)
 
 pub returns-in_err-push_delay-clause-memory : goal.returns-in_err-push_delay-clause-memory
 returns-in_err-push_delay-clause-memory c =

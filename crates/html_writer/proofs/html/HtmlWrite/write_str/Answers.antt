@@ -1,3 +1,4 @@
+use Rattle.std.proofs.Common.{arith}
 use Rattle.html_writer.proofs.PageLemmas.{sanitized_line, text_open, text_written}
 use Rattle.html_writer.proofs.html.HtmlWrite.write_str.Goals as goal
 
@@ -9,8 +10,5 @@ invariant_of-self-in-Ok c =
 
 pub returns : goal.returns
 returns c = record {
-  ok = λ is. rw (← c.self.view_is)
-      (text_written _ _ _ _ _ _ c.self.invariant c.clear.ensures.bytes
-      (rw c.as_bytes.ensures.value at c.in_ok-push_sanitized.ensures.added)
-      (rw c.as_bytes-2.ensures.value at c.in-Ok.ensures));
+  ok = grind (arith, text_written);
 }

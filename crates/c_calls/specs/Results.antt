@@ -1,0 +1,82 @@
+-- The numbers that C gets for URLs.
+use Rattle.std.specs.Prelude.{◌≡◌, ◌⊎◌, ℕ, suc, zero, ◌-◌, ◌<◌, ◌==◌, ◌^◌, Bool, true, false, ℤ, pos, negsuc}
+use Rattle.std.specs.Prelude.{neg_ℤ, IsUtf8, List, [], ◌∷◌, ◌++◌, length, map, replicate, Option, Some, None}
+use Rattle.std.specs.List.{AllZip, slice_split}
+use Rattle.texting_robots.specs.Callers.{IsDecidingLine, IsFileRejected, IsRobotOfFile, IsVerdict, PlacedRule}
+use Rattle.texting_robots.specs.Callers.{RobotValue, prepared, unplaced}
+use Rattle.c_calls.specs.Text.{IsPutIn}
+
+abbrev pub lf : ℕ
+lf = 10
+
+-- separated by LF: their number is that of the LFs plus 1
+abbrev pub items_in : List ℕ → List (List ℕ)
+items_in text = slice_split (λ byte. byte == lf) text
+
+-- a number of 0 or more means "allowed"
+abbrev pub is_allowed : ℤ → Bool
+is_allowed (pos n) = true
+is_allowed (negsuc n) = false
+
+-- 0 means that no line decides, and n and -n mean line n
+abbrev pub line_named : ℤ → Option ℕ
+line_named (pos zero) = None
+line_named (pos (suc n)) = Some (suc n)
+line_named (negsuc n) = Some (suc n)
+
+-- the rules' verdict on the match target, and the line that decides
+pub record IsResultOn (rules : List PlacedRule) (target : List ℕ) (number : ℤ) : Type 0 where
+  pub verdict : IsVerdict (unplaced rules) target (is_allowed number)
+  pub deciding : IsDecidingLine rules target (line_named number)
+
+abbrev pub IsResult : List PlacedRule → List ℕ → ℤ → Type 0
+IsResult rules url number = IsResultOn rules (prepared url) number
+
+-- the result for a URL that is UTF-8
+abbrev pub HasResult : List PlacedRule → List ℕ → ℤ → Type 0
+HasResult rules url number = IsUtf8 url × IsResult rules url number
+
+-- the results for the URLs in a text that is UTF-8
+abbrev pub HasResults : List PlacedRule → List ℕ → List ℤ → Type 0
+HasResults rules text numbers = IsUtf8 text × AllZip (IsResult rules) (items_in text) numbers
+
+abbrev pub ArePutIn : List PlacedRule → List ℕ → List ℤ → List ℤ → Type 0
+ArePutIn rules text old new = (numbers : List ℤ) × HasResults rules text numbers × IsPutIn old new numbers
+
+-- ---- the results of many crawlers: a row for each crawler with a number for each URL
+
+-- the number in the row of a crawler for which the site is rejected
+abbrev pub no_result : ℤ
+no_result = negsuc (2 ^ 63 - 1)
+
+-- the crawler's results for the match targets, in order; or the site is rejected for it, and there are none
+abbrev pub IsRow : List ℕ → List (List ℕ) → List ℕ → List ℤ → Type 0
+IsRow site targets agent row =
+    ((robot : RobotValue) × IsRobotOfFile agent site robot × AllZip (IsResultOn robot.rules) targets row)
+    ⊎ (IsFileRejected agent site × (row ≡ replicate (length targets) no_result))
+
+abbrev pub AreRows : List ℕ → List (List ℕ) → List (List ℕ) → List ℤ → Type 0
+AreRows site targets [] numbers = numbers ≡ []
+AreRows site targets (agent ∷ agents) numbers =
+    (row : List ℤ) × (later : List ℤ) × IsRow site targets agent row × AreRows site targets agents later
+    × (numbers ≡ row ++ later)
+
+-- the rows of the crawlers for the URLs, all in order
+pub record HasMatrix (site agents urls : List ℕ) (numbers : List ℤ) : Type 0 where
+  pub agents_utf8 : IsUtf8 agents
+  pub urls_utf8 : IsUtf8 urls
+  pub rows : AreRows site (map prepared (items_in urls)) (items_in agents) numbers
+
+abbrev pub IsMatrixPutIn : List ℕ → List ℕ → List ℕ → List ℤ → List ℤ → Type 0
+IsMatrixPutIn site agents urls old new =
+    (numbers : List ℤ) × HasMatrix site agents urls numbers × IsPutIn old new numbers
+
+abbrev pub number_of : Bool → Option ℕ → ℤ
+number_of allowed None = pos 0
+number_of true (Some line) = pos line
+number_of false (Some line) = neg_ℤ (pos line)
+
+-- the number of each deciding line is positive and fits in an `i64`
+abbrev pub LinesFit : List PlacedRule → Type 0
+LinesFit rules =
+    (text : List ℕ) (line : ℕ) → IsDecidingLine rules text (Some line) → (0 < line) × (line < 2 ^ 63)

@@ -1,0 +1,104 @@
+//! The results for URLs in one text, each with the place where it ends.
+ghost use Rattle.std.specs.Prelude.{◌≡◌, ◌≢◌, ◌≤◌, IfErr, IfOk, IsUtf8, MatchBool, length, pos};
+ghost use Rattle.std.specs.List.{All, AllZip};
+ghost use Rattle.c_calls.specs.Batch.{Ascend, IsBatchPutIn, IsWhyNoBatch, pieces};
+ghost use Rattle.c_calls.specs.{File.IsRobotOfSomeFile, Results.HasResult, Status.HasFault};
+
+use crate::fault::Fault;
+use crate::file::text_of;
+use crate::urls::result_for;
+use std::alloc::Global;
+use texting_robots::Robot;
+
+fn ascend(ends: &[usize], limit: usize) -> bool
+    ensures { MatchBool result (Ascend 0 ends.now limit) (¬ Ascend 0 ends.now limit) }
+{
+    let mut least = 0;
+    for end in ends {
+        if *end < least || limit < *end {
+            return false;
+        }
+        least = *end;
+    }
+    true
+}
+
+fn are_utf8(text: &[u8], ends: &[usize]) -> bool
+    requires { Ascend 0 ends.now (length text.now) }
+    ensures { MatchBool result (All IsUtf8 (pieces text.now 0 ends.now)) (¬ All IsUtf8 (pieces text.now 0 ends.now)) }
+{
+    let mut start = 0;
+    for end in ends {
+        match text_of(&text[start..*end]) {
+            Ok(_) => start = *end,
+            Err(_) => return false,
+        }
+    }
+    true
+}
+
+fn numbers_at(alloc: Global, robot: &Robot, text: &[u8], ends: &[usize]) -> Result<Vec<i64>, Fault>
+    requires robot { IsRobotOfSomeFile robot.now }
+    requires ends { Ascend 0 ends.now (length text.now) }
+    requires utf8 { All IsUtf8 (pieces text.now 0 ends.now) }
+    ensures ok { IfOk result (λ numbers. AllZip (HasResult robot.now.rules) (pieces text.now 0 ends.now) numbers.items) }
+    ensures count { IfOk result (λ numbers. length numbers.items ≡ length ends.now) }
+    ensures fault { IfErr result (λ fault. fault ≡ Fault.Memory) }
+{
+    let mut numbers = Vec::with_capacity(alloc, ends.len())?;
+    let mut start = 0;
+    for end in ends {
+        let number = result_for(alloc, robot, &text[start..*end])?;
+        numbers.push(number)?;
+        start = *end;
+    }
+    Ok(numbers)
+}
+
+fn results_at(
+    alloc: Global,
+    robot: &Robot,
+    text: &[u8],
+    ends: &[usize],
+    capacity: usize,
+) -> Result<Vec<i64>, Fault>
+    requires { IsRobotOfSomeFile robot.now }
+    ensures ends { IfOk result (λ _. Ascend 0 ends.now (length text.now)) }
+    ensures ok { IfOk result (λ numbers. AllZip (HasResult robot.now.rules) (pieces text.now 0 ends.now) numbers.items) }
+    ensures capacity { IfOk result (λ numbers. length numbers.items ≤ capacity) }
+    ensures fault { IfErr result (IsWhyNoBatch text.now ends.now capacity) }
+{
+    if !ascend(ends, text.len()) {
+        return Err(Fault::InvalidEnds);
+    }
+    if !are_utf8(text, ends) {
+        return Err(Fault::NotUtf8);
+    }
+    if capacity < ends.len() {
+        return Err(Fault::BufferTooSmall);
+    }
+    let numbers = numbers_at(alloc, robot, text, ends)?;
+    Ok(numbers)
+}
+
+/// Each URL ends at one of these places.
+pub fn query_batch(
+    alloc: Global,
+    robot: &Robot,
+    text: &[u8],
+    ends: &[usize],
+    out: &mut [i64],
+) -> i32
+    requires { IsRobotOfSomeFile robot.now }
+    ensures written { result ≡ pos 0 → IsBatchPutIn robot.now.rules text.now ends.now out.old out.new }
+    ensures kept { result ≢ pos 0 → out.new ≡ out.old }
+    ensures why { HasFault (IsWhyNoBatch text.now ends.now (length out.old)) result }
+{
+    match results_at(alloc, robot, text, ends, out.len()) {
+        Ok(numbers) => {
+            out[..numbers.len()].copy_from_slice(&numbers);
+            0
+        }
+        Err(fault) => fault.status(),
+    }
+}

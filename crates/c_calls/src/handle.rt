@@ -1,0 +1,77 @@
+//! A robot that C keeps between calls.
+ghost use Rattle.std.specs.Prelude.{◌≡◌, ◌≢◌, ◌≤◌, ◌*◌, Some, None, IfErr, IfOk, length, pos};
+ghost use Rattle.c_calls.specs.File.{GivesRobot, IsRobotFor, bytes_read};
+ghost use Rattle.c_calls.specs.Status.{HasFault, HasFaultAt, IsWhyNoRobot, IsWhyNone};
+ghost use Rattle.texting_robots.specs.Callers.{cost_of, seen_of};
+
+use crate::fault::Fault;
+use crate::file::robot_of;
+use crate::kept::{Handle, Kept};
+use std::alloc::Global;
+use texting_robots::Robot;
+
+pub fn close(robot: Handle<Robot>) {
+    drop(robot.into_box());
+}
+
+/// Compiles only for a type whose values can be sent to other threads and shared between them.
+pub(crate) fn for_any_thread<T: Send + Sync>(_: &T) {}
+
+/// For what threads of C may do, see `robots.h`.
+fn open(alloc: Global, agent: &[u8], file: &[u8]) -> Result<Box<Robot>, Fault>
+    ensures ok { IfOk result (λ robot. IsRobotFor agent.now (bytes_read file.now) robot.value) }
+    ensures fault { IfErr result (IsWhyNoRobot agent.now (bytes_read file.now)) }
+{
+    let robot = Box::new(alloc, robot_of(alloc, agent, file)?)?;
+    for_any_thread(&*robot);
+    Ok(robot)
+}
+
+/// If that fails, the pointer is `at`, and the line of a rule that is too long is written.
+pub fn opened(
+    alloc: Global,
+    agent: &[u8],
+    file: &[u8],
+    at: *mut Robot,
+    line: &mut usize,
+) -> Kept<Robot>
+    ensures opened { result.status ≡ pos 0
+        → GivesRobot agent.now (bytes_read file.now) (λ robot. result.value ≡ Some robot) }
+    ensures kept { result.status ≢ pos 0 → result.at ≡ at }
+    ensures why { HasFaultAt (IsWhyNoRobot agent.now (bytes_read file.now)) result.status line.old line.new }
+{
+    match open(alloc, agent, file) {
+        Ok(robot) => Kept::boxed(0, robot),
+        Err(fault) => Kept::nothing(fault.status_at(line), at),
+    }
+}
+
+pub fn query_delay(robot: &Robot, out: &mut u64) -> i32
+    ensures written { result ≡ pos 0 → robot.now.delay ≡ Some out.new }
+    ensures kept { result ≢ pos 0 → out.new ≡ out.old }
+    ensures why { HasFault (IsWhyNone robot.now.delay) result }
+{
+    match robot.delay {
+        Some(delay) => {
+            *out = delay;
+            0
+        }
+        None => Fault::NoDelay.status(),
+    }
+}
+
+pub fn cost(robot: &Robot, length: usize, out: &mut u64) -> i32
+    ensures status { result ≡ pos 0 }
+    ensures written { out.new ≡ seen_of (cost_of robot.now.rules length) }
+{
+    *out = robot.cost(length);
+    0
+}
+
+pub fn bytes(robot: &Robot, out: &mut usize) -> i32
+    ensures status { result ≡ pos 0 }
+    ensures written { seen_of (64 * length robot.now.rules) ≤ out.new }
+{
+    *out = robot.bytes();
+    0
+}

@@ -1,0 +1,14 @@
+//! What the functions of `robots.h` do, for `robots_c`, which exports them: a static library is built from
+//! exports alone, so that whoever builds it proves no more than these.
+#![tactic(auto)]
+
+pub mod batch;
+pub mod fault;
+mod file;
+pub mod handle;
+pub mod kept;
+pub mod matrix;
+pub mod response;
+pub mod site;
+pub mod texts;
+pub mod urls;

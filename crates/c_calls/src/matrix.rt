@@ -1,0 +1,169 @@
+//! The results of many crawlers for many URLs.
+ghost use Rattle.std.specs.Prelude.{◌≡◌, ◌≢◌, ◌<◌, ◌≤◌, ◌*◌, IfErr, IfOk, IfSome, IsUtf8, MatchBool, codes, length, map, pos};
+ghost use Rattle.std.specs.Prelude.{string_bytes};
+ghost use Rattle.std.specs.List.{AllZip};
+ghost use Rattle.c_calls.specs.File.{IsSiteOfSomeFile};
+ghost use Rattle.c_calls.specs.Results.{AreRows, HasMatrix, IsMatrixPutIn, IsResultOn, IsRow, LinesFit, items_in};
+ghost use Rattle.c_calls.specs.Status.{HasFault, IsWhyNoMatrix};
+ghost use Rattle.texting_robots.specs.Callers.{prepared};
+
+use crate::fault::Fault;
+use crate::file::text_of;
+use crate::urls::{count_items, number_on, target_of};
+use std::alloc::{AllocError, Global};
+use texting_robots::{Rejection, Robot, Site};
+
+/// The number in the row of a crawler for which the file is rejected.
+pub const NO_RESULT: i64 = i64::MIN;
+
+fn targets_of(alloc: Global, urls: &str) -> Result<Vec<String>, AllocError>
+    ensures { IfOk result (λ targets. map string_bytes targets.items ≡ map prepared (items_in urls.now)) }
+{
+    let mut targets = Vec::new(alloc);
+    for url in urls.split('\n') {
+        targets.push(target_of(alloc, url)?)?;
+    }
+    Ok(targets)
+}
+
+fn results_on(alloc: Global, robot: &Robot, targets: &[String]) -> Result<Vec<i64>, AllocError>
+    requires { LinesFit robot.now.rules }
+    ensures { IfOk result (λ row. AllZip (IsResultOn robot.now.rules) (map string_bytes targets.now) row.items) }
+{
+    let mut row = Vec::new(alloc);
+    for target in targets {
+        row.push(number_on(robot, target))?;
+    }
+    Ok(row)
+}
+
+fn row_of(
+    alloc: Global,
+    site: &Site,
+    agent: &str,
+    targets: &[String],
+) -> Result<Vec<i64>, AllocError>
+    requires { IsSiteOfSomeFile site.now }
+    ensures { IfOk result (λ row. IsRow site.now (map string_bytes targets.now) agent.now row.items) }
+{
+    match site.robot_without_sitemaps(alloc, agent) {
+        Ok(robot) => {
+            let row = results_on(alloc, &robot, targets)?;
+            Ok(row)
+        }
+        Err(Rejection::Overlong(_)) => vec![in alloc; NO_RESULT; targets.len()],
+        Err(Rejection::Memory) => Err(AllocError),
+    }
+}
+
+/// All crawlers that the file doesn't name share the row of `*`: `shared`, or else a new one.
+fn shared_row(
+    alloc: Global,
+    site: &Site,
+    targets: &[String],
+    shared: Option<Vec<i64>>,
+) -> Result<Vec<i64>, AllocError>
+    requires site { IsSiteOfSomeFile site.now }
+    requires shared { IfSome shared (λ row. IsRow site.now (map string_bytes targets.now) (codes "*") row.items) }
+    ensures { IfOk result (λ row. IsRow site.now (map string_bytes targets.now) (codes "*") row.items) }
+{
+    match shared {
+        Some(row) => Ok(row),
+        None => row_of(alloc, site, "*", targets),
+    }
+}
+
+/// The rows of the crawlers in a string, one after another.
+fn rows_of(
+    alloc: Global,
+    site: &Site,
+    agents: &str,
+    targets: &[String],
+) -> Result<Vec<i64>, AllocError>
+    requires { IsSiteOfSomeFile site.now }
+    ensures { IfOk result (λ numbers. AreRows site.now (map string_bytes targets.now) (items_in agents.now) numbers.items) }
+{
+    let mut numbers = Vec::new(alloc);
+    let mut shared = None;
+    for agent in agents.split('\n') {
+        if site.is_named(agent) {
+            let row = row_of(alloc, site, agent, targets)?;
+            numbers.extend_from_slice(&row)?;
+            continue;
+        }
+        let row = shared_row(alloc, site, targets, shared)?;
+        numbers.extend_from_slice(&row)?;
+        shared = Some(row);
+    }
+    Ok(numbers)
+}
+
+fn matrix(alloc: Global, site: &Site, agents: &str, urls: &str) -> Result<Vec<i64>, AllocError>
+    requires { IsSiteOfSomeFile site.now }
+    ensures rows { IfOk result (λ numbers. AreRows site.now (map prepared (items_in urls.now)) (items_in agents.now) numbers.items) }
+    ensures count { IfOk result (λ numbers. length numbers.items ≡ length (items_in agents.now) * length (items_in urls.now)) }
+{
+    let targets = targets_of(alloc, urls)?;
+    let numbers = rows_of(alloc, site, agents, &targets)?;
+    Ok(numbers)
+}
+
+fn fits(agents: &str, urls: &str, capacity: usize) -> bool
+    ensures { MatchBool result (length (items_in agents.now) * length (items_in urls.now) ≤ capacity)
+        (capacity < length (items_in agents.now) * length (items_in urls.now)) }
+{
+    match count_items(agents).checked_mul(count_items(urls)) {
+        Some(count) => count <= capacity,
+        None => false,
+    }
+}
+
+fn texts_of<'a>(
+    agents: &'a [u8],
+    urls: &'a [u8],
+    capacity: usize,
+) -> Result<(&'a str, &'a str), Fault>
+    ensures texts { IfOk result (λ texts. (texts.0.now ≡ agents.now) × (texts.1.now ≡ urls.now)) }
+    ensures utf8 { IfOk result (λ _. IsUtf8 agents.now × IsUtf8 urls.now) }
+    ensures capacity { IfOk result (λ _. length (items_in agents.now) * length (items_in urls.now) ≤ capacity) }
+    ensures fault { IfErr result (IsWhyNoMatrix agents.now urls.now capacity) }
+{
+    let agents = text_of(agents)?;
+    let urls = text_of(urls)?;
+    if !fits(agents, urls, capacity) {
+        return Err(Fault::BufferTooSmall);
+    }
+    Ok((agents, urls))
+}
+
+fn matrix_in(
+    alloc: Global,
+    site: &Site,
+    agents: &[u8],
+    urls: &[u8],
+    capacity: usize,
+) -> Result<Vec<i64>, Fault>
+    requires { IsSiteOfSomeFile site.now }
+    ensures ok { IfOk result (λ numbers. HasMatrix site.now agents.now urls.now numbers.items) }
+    ensures capacity { IfOk result (λ numbers. length numbers.items ≤ capacity) }
+    ensures fault { IfErr result (IsWhyNoMatrix agents.now urls.now capacity) }
+{
+    let (agents, urls) = texts_of(agents, urls, capacity)?;
+    let numbers = matrix(alloc, site, agents, urls)?;
+    Ok(numbers)
+}
+
+pub fn matrix_by(alloc: Global, site: &Site, agents: &[u8], urls: &[u8], out: &mut [i64]) -> i32
+    requires { IsSiteOfSomeFile site.now }
+    ensures written { result ≡ pos 0 → IsMatrixPutIn site.now agents.now urls.now out.old out.new }
+    ensures kept { result ≢ pos 0 → out.new ≡ out.old }
+    ensures why { HasFault (IsWhyNoMatrix agents.now urls.now (length out.old)) result }
+{
+    match matrix_in(alloc, site, agents, urls, out.len()) {
+        Ok(numbers) => {
+            out[..numbers.len()].copy_from_slice(&numbers);
+            0
+        }
+        Err(fault) => fault.status(),
+    }
+}

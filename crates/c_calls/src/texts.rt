@@ -1,0 +1,63 @@
+//! Strings for C: the sitemaps and the crawlers of a site, and the address of robots.txt.
+ghost use Rattle.std.specs.Prelude.{◌≡◌, ◌≢◌, ◌<◌, ◌⊎◌, IfErr, IfOk, length, map, pos, string_bytes};
+ghost use Rattle.printable_text.specs.Lines.{ended};
+ghost use Rattle.c_calls.specs.Status.{IsAddress, IsWhyNoAddress, status_of};
+ghost use Rattle.c_calls.specs.{File.AreAgents, File.AreSitemaps, Text.IsPutIn};
+
+use crate::fault::Fault;
+use crate::file::text_of;
+use printable_text::lines::push_line;
+use std::alloc::{AllocError, Global};
+use texting_robots::{Site, get_robots_url};
+use url::ParseError;
+
+fn lines_of(alloc: Global, texts: &[&str]) -> Result<String, AllocError>
+    ensures { IfOk result (λ lines. string_bytes lines ≡ ended (map (λ text. text.now) texts.now)) }
+{
+    let mut lines = String::new(alloc);
+    for text in texts {
+        push_line(&mut lines, text, "")?;
+    }
+    Ok(lines)
+}
+
+pub(crate) fn sitemaps_in(alloc: Global, site: &Site) -> Result<String, AllocError>
+    ensures { IfOk result (λ text. AreSitemaps site.now (string_bytes text)) }
+{
+    let sitemaps = site.sitemaps(alloc)?;
+    lines_of(alloc, &sitemaps)
+}
+
+pub(crate) fn agents_in(alloc: Global, site: &Site) -> Result<String, AllocError>
+    ensures { IfOk result (λ text. AreAgents site.now (string_bytes text)) }
+{
+    let agents = site.agents(alloc)?;
+    lines_of(alloc, &agents)
+}
+
+pub fn address(alloc: Global, url: &[u8]) -> Result<String, Fault>
+    ensures ok { IfOk result (λ text. IsAddress url.now (string_bytes text)) }
+    ensures fault { IfErr result (IsWhyNoAddress url.now) }
+{
+    match get_robots_url(alloc, text_of(url)?) {
+        Ok(text) => Ok(text),
+        Err(ParseError::OutOfMemory | ParseError::Overflow) => Err(Fault::Memory),
+        Err(_) => Err(Fault::NoAddress),
+    }
+}
+
+/// Copies the string to the start of `out` if it fits, and writes its length in any case.
+pub fn put(text: &str, out: &mut [u8], len: &mut usize) -> i32
+    ensures put { result ≡ pos 0 → IsPutIn out.old out.new text.now }
+    ensures buffer_too_small { result ≡ status_of Fault.BufferTooSmall → length out.old < length text.now }
+    ensures kept { result ≢ pos 0 → out.new ≡ out.old }
+    ensures status { (result ≡ pos 0) ⊎ (result ≡ status_of Fault.BufferTooSmall) }
+    ensures length { len.new ≡ length text.now }
+{
+    *len = text.len();
+    if out.len() < text.len() {
+        return Fault::BufferTooSmall.status();
+    }
+    out[..text.len()].copy_from_slice(text.as_bytes());
+    0
+}

@@ -1,0 +1,191 @@
+//! The results for URLs.
+ghost use Rattle.std.specs.Prelude.{◌≡◌, ◌≢◌, ◌<◌, ◌≤◌, ◌==◌, ◌^◌, IfErr, IfOk, IfSome, IsUtf8, count_by, length, pos, string_bytes};
+ghost use Rattle.std.specs.List.{AllZip};
+ghost use Rattle.c_calls.specs.File.{GivesRobot, IsRobotOfSomeFile, bytes_read};
+ghost use Rattle.c_calls.specs.Results.{ArePutIn, HasResult, HasResults, IsResult, IsResultOn, LinesFit, number_of, items_in, lf};
+ghost use Rattle.c_calls.specs.Status.{HasFault, IsWhyNoResult, IsWhyNoResults, IsWhyNotWithin, IsWhyUndecided};
+ghost use Rattle.texting_robots.specs.Callers.{IsAllocationFree, prepared};
+
+use crate::fault::Fault;
+use crate::file::{robot_of, text_of};
+use std::alloc::{AllocError, Global};
+use texting_robots::view::View;
+use texting_robots::{Decision, Error, Robot, TooCostly};
+
+/// The number of the deciding line, negative if the crawler may not fetch the URL, and 0 if no line decides.
+fn number_of(decision: Decision) -> i64
+    requires { IfSome decision.line (λ line. line < 2 ^ 63) }
+    ensures { result ≡ number_of decision.allowed decision.line }
+{
+    match decision.line {
+        Some(line) if decision.allowed => line as i64,
+        Some(line) => -(line as i64),
+        None => 0,
+    }
+}
+
+pub(crate) fn target_of(alloc: Global, url: &str) -> Result<String, AllocError>
+    ensures { IfOk result (λ target. string_bytes target ≡ prepared url.now) }
+{
+    match Robot::prepare_url(alloc, url) {
+        Ok(target) => Ok(target),
+        Err(Error::Memory) => Err(AllocError),
+        Err(Error::InvalidRobots | Error::InvalidRule) => unreachable!(),
+    }
+}
+
+pub(crate) fn number_on(robot: &Robot, target: &str) -> i64
+    requires { LinesFit robot.now.rules }
+    ensures { IsResultOn robot.now.rules target.now result }
+{
+    number_of(robot.decision_prepared(target))
+}
+
+/// It fails only if the URL isn't allocation-free.
+fn number_for(alloc: Global, robot: &Robot, url: &str) -> Result<i64, AllocError>
+    requires { LinesFit robot.now.rules }
+    ensures number { IfOk result (IsResult robot.now.rules url.now) }
+    ensures memory { IfErr result (λ _. ¬ IsAllocationFree url.now) }
+{
+    match robot.decide(alloc, url) {
+        Ok(decision) => Ok(number_of(decision)),
+        Err(Error::Memory) => Err(AllocError),
+        Err(Error::InvalidRobots | Error::InvalidRule) => unreachable!(),
+    }
+}
+
+pub(crate) fn result_for(alloc: Global, robot: &Robot, url: &[u8]) -> Result<i64, Fault>
+    requires { IsRobotOfSomeFile robot.now }
+    ensures ok { IfOk result (HasResult robot.now.rules url.now) }
+    ensures fault { IfErr result (IsWhyNoResult url.now) }
+{
+    let url = text_of(url)?;
+    match number_for(alloc, robot, url) {
+        Ok(number) => Ok(number),
+        Err(AllocError) => Err(Fault::Memory),
+    }
+}
+
+fn result_within(alloc: Global, robot: &Robot, url: &[u8], budget: u64) -> Result<i64, Fault>
+    requires { IsRobotOfSomeFile robot.now }
+    ensures ok { IfOk result (HasResult robot.now.rules url.now) }
+    ensures fault { IfErr result (IsWhyNotWithin robot.now.rules url.now budget) }
+{
+    let target = target_of(alloc, text_of(url)?)?;
+    let text = target.as_str();
+    match robot.decision_of_text(text, &mut View::new(text), budget) {
+        Ok(decision) => Ok(number_of(decision)),
+        Err(TooCostly) => Err(Fault::TooCostly),
+    }
+}
+
+fn results_for(alloc: Global, robot: &Robot, urls: &str) -> Result<Vec<i64>, AllocError>
+    requires { IsRobotOfSomeFile robot.now }
+    ensures results { IfOk result (λ numbers. AllZip (IsResult robot.now.rules) (items_in urls.now) numbers.items) }
+    ensures count { IfOk result (λ numbers. length numbers.items ≡ length (items_in urls.now)) }
+{
+    let mut numbers = Vec::new(alloc);
+    for url in urls.split('\n') {
+        numbers.push(number_for(alloc, robot, url)?)?;
+    }
+    Ok(numbers)
+}
+
+fn count_feeds(text: &[u8]) -> usize
+    ensures value { result ≡ count_by (λ byte. byte == lf) text.now }
+    ensures within { result ≤ length text.now }
+{
+    text.iter().filter(|byte| **byte == b'\n').count()
+}
+
+pub(crate) fn count_items(text: &str) -> usize
+    ensures { result ≡ length (items_in text.now) }
+{
+    count_feeds(text.as_bytes()) + 1
+}
+
+fn urls_of<'a>(urls: &'a [u8], capacity: usize) -> Result<&'a str, Fault>
+    ensures ok { IfOk result (λ text. (text.now ≡ urls.now) × IsUtf8 urls.now × (length (items_in urls.now) ≤ capacity)) }
+    ensures fault { IfErr result (IsWhyNoResults urls.now capacity) }
+{
+    let text = text_of(urls)?;
+    if capacity < count_items(text) {
+        return Err(Fault::BufferTooSmall);
+    }
+    Ok(text)
+}
+
+pub fn decide(
+    alloc: Global,
+    agent: &[u8],
+    file: &[u8],
+    urls: &[u8],
+    capacity: usize,
+) -> Result<Vec<i64>, Fault>
+    ensures ok { IfOk result (λ numbers. GivesRobot agent.now (bytes_read file.now) (λ robot.
+        HasResults robot.rules urls.now numbers.items)) }
+    ensures capacity { IfOk result (λ numbers. length numbers.items ≤ capacity) }
+    ensures fault { IfErr result (IsWhyUndecided agent.now (bytes_read file.now) urls.now capacity) }
+{
+    text_of(agent)?;
+    let urls = urls_of(urls, capacity)?;
+    let robot = robot_of(alloc, agent, file)?;
+    let numbers = results_for(alloc, &robot, urls)?;
+    Ok(numbers)
+}
+
+fn results_of(alloc: Global, robot: &Robot, urls: &[u8], capacity: usize) -> Result<Vec<i64>, Fault>
+    requires { IsRobotOfSomeFile robot.now }
+    ensures ok { IfOk result (λ numbers. HasResults robot.now.rules urls.now numbers.items) }
+    ensures capacity { IfOk result (λ numbers. length numbers.items ≤ capacity) }
+    ensures fault { IfErr result (IsWhyNoResults urls.now capacity) }
+{
+    let urls = urls_of(urls, capacity)?;
+    let numbers = results_for(alloc, robot, urls)?;
+    Ok(numbers)
+}
+
+pub fn query(alloc: Global, robot: &Robot, url: &[u8], out: &mut i64) -> i32
+    requires { IsRobotOfSomeFile robot.now }
+    ensures written { result ≡ pos 0 → HasResult robot.now.rules url.now out.new }
+    ensures kept { result ≢ pos 0 → out.new ≡ out.old }
+    ensures why { HasFault (IsWhyNoResult url.now) result }
+{
+    match result_for(alloc, robot, url) {
+        Ok(number) => {
+            *out = number;
+            0
+        }
+        Err(fault) => fault.status(),
+    }
+}
+
+pub fn query_within(alloc: Global, robot: &Robot, url: &[u8], budget: u64, out: &mut i64) -> i32
+    requires { IsRobotOfSomeFile robot.now }
+    ensures written { result ≡ pos 0 → HasResult robot.now.rules url.now out.new }
+    ensures kept { result ≢ pos 0 → out.new ≡ out.old }
+    ensures why { HasFault (IsWhyNotWithin robot.now.rules url.now budget) result }
+{
+    match result_within(alloc, robot, url, budget) {
+        Ok(number) => {
+            *out = number;
+            0
+        }
+        Err(fault) => fault.status(),
+    }
+}
+
+pub fn query_many(alloc: Global, robot: &Robot, urls: &[u8], out: &mut [i64]) -> i32
+    requires { IsRobotOfSomeFile robot.now }
+    ensures written { result ≡ pos 0 → ArePutIn robot.now.rules urls.now out.old out.new }
+    ensures kept { result ≢ pos 0 → out.new ≡ out.old }
+    ensures why { HasFault (IsWhyNoResults urls.now (length out.old)) result }
+{
+    match results_of(alloc, robot, urls, out.len()) {
+        Ok(numbers) => {
+            out[..numbers.len()].copy_from_slice(&numbers);
+            0
+        }
+        Err(fault) => fault.status(),
+    }
+}

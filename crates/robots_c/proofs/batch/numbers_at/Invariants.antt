@@ -1,7 +1,0 @@
-use Rattle.std.proofs.Common.{drop}
-use Rattle.robots_c.proofs.NumberLemmas.{SoFar}
-use Rattle.robots_c.proofs.batch.numbers_at.Given as goal
-
-abbrev pub invariant-loop-end : goal.invariant-loop-end
-invariant-loop-end l =
-    SoFar l.robot.rules l.fn.text l.fn.ends l.start (drop l.end-index l.fn.ends) l.numbers.items

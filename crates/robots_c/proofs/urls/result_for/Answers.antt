@@ -1,5 +1,0 @@
-use Rattle.robots_c.proofs.NumberLemmas.{lines_fit}
-use Rattle.robots_c.proofs.urls.result_for.Goals as goal
-
-pub number_for-requires : goal.number_for-requires
-number_for-requires c = lines_fit _ c.requires
