@@ -57,12 +57,14 @@ pub fn needless_lines_decide_nothing()
         → (agent name : List ℕ) → Contains (codes "*" ∷ agents_in (lines_read file)) name
         → str_to_ascii_lowercase agent ≡ str_to_ascii_lowercase name → (text : List ℕ) (answer : Bool)
         → IsVerdict (rules_for agent (lines_read file)) text answer
-        ↔ IsVerdict (rules_for agent (lines_without (numbers_of is.needless.rules) (lines_read file))) text answer }
+        ↔ IsVerdict (rules_for agent (lines_without (numbers_of is.needless.rules) (lines_read file)))
+        text answer }
     ensures others { (requested : RequestValue) (file : List ℕ) (audit : AuditValue)
         → (is : IsAuditOf requested file audit)
         → (agent : List ℕ) → is_named agent (lines_read file) ≡ false → (text : List ℕ) (answer : Bool)
         → IsVerdict (rules_for agent (lines_read file)) text answer
-        ↔ IsVerdict (rules_for agent (lines_without (numbers_of is.needless.rules) (lines_read file))) text answer }
+        ↔ IsVerdict (rules_for agent (lines_without (numbers_of is.needless.rules) (lines_read file)))
+        text answer }
 {}
 
 /// If exactly these lines are deleted from the file, with their line ends, `Robot::new` gives each crawler
