@@ -29,10 +29,7 @@ fn add_rule(found: &mut Vec<Warning<'_>>, rule: NeedlessRule) -> Result<(), Allo
     })?)
 }
 
-fn add_rules(
-    found: &mut Vec<Warning<'_>>,
-    rules: &[NeedlessRule],
-) -> Result<(), AllocError>
+fn add_rules(found: &mut Vec<Warning<'_>>, rules: &[NeedlessRule]) -> Result<(), AllocError>
     ensures { OnOk result (Adds found.old.items found.new.items (map needless_warning rules.now)) }
 {
     for rule in rules {
