@@ -1,5 +1,6 @@
 """`robots_audit --needless`: if all lines that it reports are deleted, every verdict is the same."""
 
+import itertools
 import json
 import random
 import re
@@ -79,6 +80,29 @@ def test_some_lines_are_reported():
     """The files above aren't all without needless rules."""
     lines = ["User-agent: *", "Disallow: /a", "Disallow: /ab", "Allow: /b", "Disallow: /a$b", "Disallow: /*c", "Disallow: /c"]
     assert found_in(lines) == [3, 4, 5, 7]
+
+
+WORDS = ["".join(letters) for size in range(4) for letters in itertools.product("abc", repeat=size)]
+MANY_PATHS = [f"/{word}{end}" for word in WORDS for end in ("", "$")] + [f"/{word}*c" for word in WORDS[:13]] + [f"/*{word}" for word in WORDS[1:13]]
+TEXTS = ["/" + word + letter for word in WORDS for letter in ("", *"abc")]
+
+
+@pytest.mark.parametrize("seed, paths, count", [(seed, PATHS, 8) for seed in range(20)] + [(seed, MANY_PATHS, 150) for seed in range(4)])
+def test_every_needless_rule_is_found(seed, paths, count):
+    """Without any other rule, the verdict on some short path is another one."""
+    some = random.Random(seed)
+    lines = ["User-agent: a", *(f"{some.choice(['Allow', 'Disallow'])}: {some.choice(paths)}" for _ in range(count))]
+    numbers = found_in(lines)
+    left = [line for number, line in enumerate(lines, 1) if number not in numbers]
+
+    def verdicts(lines):
+        report = json.loads(run("robots_audit", ["--json", "--agent=a", "-", *TEXTS], "\n".join(lines).encode()).out)
+        return [verdict["allowed"] for verdict in report["agents"][0]["verdicts"]]
+
+    assert verdicts(left) == verdicts(lines)
+    for at, line in enumerate(left[1:], 1):
+        if len(left) > 2 and line not in ("Allow: /", "Allow: ", "Disallow: "):
+            assert verdicts(left[:at] + left[at + 1 :]) != verdicts(left), (lines, line)
 
 
 # Files, and their needless lines. No theorem says that they are found, only that what is found is needless.

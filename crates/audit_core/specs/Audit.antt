@@ -9,10 +9,10 @@ use Rattle.texting_robots.specs.Callers.{is_named, lines_read, placed_rules}
 use Rattle.texting_robots.specs.{Agents.is_among, Group.is_agent, Decision.IsDecisionOn}
 use Rattle.texting_robots.specs.{declared.decision.Decision.Decision}
 use Rattle.audit_core.specs.{declared.group.Group.Group, Request.RequestValue}
-use Rattle.audit_core.specs.{Needless.needless_warning, Asked.asked_target, Chosen.chosen}
+use Rattle.audit_core.specs.{Needless.needless_warnings, Asked.asked_target, Chosen.chosen}
 use Rattle.rfc9309_laws.specs.{Conformance.conformance_of, declared.conformance.Conformance.Conformance}
 use Rattle.audit_core.specs.declared.group.Group.TheVariants.{Everyone, Named, Nobody, Star}
-use Rattle.robots_needless.specs.{Blocks.AreFoundIn, declared.needless.NeedlessRule.NeedlessRule}
+use Rattle.robots_needless.specs.{Blocks.AreFoundIn, Needless.NeedlessValue, Needless.nothing}
 use Rattle.robots_warnings.specs.{declared.closed.Reach.Reach, declared.table.Cause.TheVariants.SitemapDenied}
 use Rattle.robots_warnings.specs.{declared.warning.Detail.TheVariants.Line, Closed.line_closing}
 use Rattle.robots_warnings.specs.{Closed.reach_of, Facts.facts_of, Facts.is_too_large, File.labels_for}
@@ -135,15 +135,15 @@ abbrev pub labels_requested : RequestValue → List ℕ → List Label
 labels_requested requested file = labels_for (labeling_agent requested.agent) file
 
 -- all warnings about the file and the request, then those about needless rules, and those about sitemaps
-abbrev pub warnings_found : RequestValue → List ℕ → List Label → List NeedlessRule → List WarningValue
+abbrev pub warnings_found : RequestValue → List ℕ → List Label → NeedlessValue → List WarningValue
     → List WarningValue
 warnings_found requested file labels needless sitemaps =
     (warnings (is_none requested.agent) (agents_requested requested.agents (lines_read file))
-    requested.urls file (facts_of file labels) labels (lines_read file) ++ map needless_warning needless)
+    requested.urls file (facts_of file labels) labels (lines_read file) ++ needless_warnings needless)
     ++ sitemaps
 
 -- the warnings that the request doesn't exclude
-abbrev pub warnings_requested : RequestValue → List ℕ → List Label → List NeedlessRule → List WarningValue
+abbrev pub warnings_requested : RequestValue → List ℕ → List Label → NeedlessValue → List WarningValue
     → List WarningValue
 warnings_requested requested file labels needless sitemaps =
     chosen requested.only requested.ignored (warnings_found requested file labels needless sitemaps)
@@ -155,10 +155,10 @@ rejects_some agents = list_any (λ (agent : AgentValue). is_some agent.rejected)
 -- `--needless` a file may have several audits. They are those of all groups, whichever crawler the report is
 -- about, since deleting only some of them could change a verdict.
 pub record IsAuditOf (requested : RequestValue) (file : List ℕ) (audit : AuditValue) : Type 0 where
-  pub needless : List NeedlessRule
-  pub needless_are : AreFoundIn (take file_limit file) needless
-  pub unrequested : requested.has_needless ≡ false → needless ≡ []
-  pub too_large : is_too_large file ≡ true → needless ≡ []
+  pub needless : NeedlessValue
+  pub needless_are : AreFoundIn (take file_limit file) needless.rules
+  pub unrequested : requested.has_needless ≡ false → needless ≡ nothing
+  pub too_large : is_too_large file ≡ true → needless ≡ nothing
   pub sitemaps : List WarningValue
   pub sitemaps_are : AreOfSitemaps (lines_read file) (labels_requested requested file) sitemaps
   pub labels_are : audit.labels ≡ labels_requested requested file

@@ -1,5 +1,6 @@
 -- The warnings about rules that can be deleted.
-use Rattle.std.specs.Prelude.{ℕ, Option, Some, None}
+use Rattle.std.specs.Prelude.{◌++◌, ℕ, List, Option, Some, None, map}
+use Rattle.robots_needless.specs.{Needless.NeedlessValue}
 use Rattle.robots_needless.specs.declared.needless.{NeedlessRule.NeedlessRule, Reason.Reason}
 use Rattle.robots_warnings.specs.{declared.table.Cause.Cause, Message.WarningValue}
 use Rattle.robots_warnings.specs.declared.warning.Detail.{Detail, TheVariants.Line}
@@ -18,3 +19,9 @@ for_reason line (reasons.NotNeeded other) = about_line line causes.NotNeeded (So
 
 abbrev pub needless_warning : NeedlessRule → WarningValue
 needless_warning rule = for_reason rule.line rule.reason
+
+abbrev pub undecided_warning : ℕ → WarningValue
+undecided_warning line = about_line line causes.NeedlessUndecided None
+
+abbrev pub needless_warnings : NeedlessValue → List WarningValue
+needless_warnings needless = map needless_warning needless.rules ++ map undecided_warning needless.undecided

@@ -6,7 +6,7 @@ ghost use Rattle.texting_robots.specs.Callers.{file_lines, label_by_value, lines
 ghost use Rattle.audit_core.specs.Audit.{AreOfSitemaps, IsAgentAudit, IsAuditOf, IsRuling, IsVerdictOn};
 ghost use Rattle.audit_core.specs.Audit.{agents_requested, all_allowed, allows_all, labeling_agent};
 ghost use Rattle.audit_core.specs.Audit.{labels_requested, rejects_some};
-ghost use Rattle.audit_core.specs.{Request.requested_by, Needless.needless_warning, Internal.IsReading};
+ghost use Rattle.audit_core.specs.{Request.requested_by, Needless.needless_warnings, Internal.IsReading};
 ghost use Rattle.robots_warnings.specs.{Message.WarningValue, Read.IsRead, Warnings.warnings};
 
 use crate::agents::agents_requested;
@@ -18,7 +18,7 @@ use crate::needless::{add_needless, needless_rules};
 use crate::request::Request;
 use crate::sitemaps::warn_of_sitemaps;
 use rfc9309_laws::conformance::{Conformance, conformance_of};
-use robots_needless::needless::NeedlessRule;
+use robots_needless::lines::Needless;
 use robots_warnings::closed::{Reach, reach_of};
 use robots_warnings::own_rules::own_rules;
 use robots_warnings::read::FileRead;
@@ -245,7 +245,7 @@ pub fn labeling_agent<'a>(agent: Option<&'a str>) -> &'a str
     }
 }
 
-/// All warnings about the file and the request, then those about these needless rules, and those about
+/// All warnings about the file and the request, then those about needless rules, and those about
 /// sitemaps. `star` is how the file is read for `*`.
 fn all_warnings<'a>(
     alloc: Global,
@@ -253,7 +253,7 @@ fn all_warnings<'a>(
     agents: &[&'a str],
     star: &Reading,
     read: &FileRead<'_>,
-    needless: &[NeedlessRule],
+    needless: &Needless,
 ) -> Result<Vec<Warning<'a>>, Fault>
     requires read { IsRead read.now }
     requires star { IsReading (codes "*") read.now.bytes.now star.now }
@@ -262,7 +262,7 @@ fn all_warnings<'a>(
         × (found.items ≡ (warnings (is_none (requested_by request.now).agent)
         (map (λ agent. agent.now) agents.now) (requested_by request.now).urls read.now.bytes.now read.now.facts
         (map label_by_value read.now.labels.items) (file_lines read.now.site)
-        ++ map needless_warning needless.now) ++ sitemaps)) }
+        ++ needless_warnings needless.now) ++ sitemaps)) }
     ensures fault { IfErr result (λ fault. fault ≡ Fault.Memory) }
 {
     let everywhere = request.agent.is_none();

@@ -8,7 +8,7 @@ pub(crate) type Named = (&'static str, &'static str);
 
 /// When warnings are given.
 #[rattlefmt::skip]
-static CONDITIONS: [(&str, &str); 62] = [
+static CONDITIONS: [(&str, &str); 63] = [
     ("looks-like-html",
         "the file has no directive, and its first character is <, not counting a byte order mark, spaces, tabs and line ends; then no line has a warning of its own"),
     ("looks-like-utf-16",
@@ -110,7 +110,9 @@ static CONDITIONS: [(&str, &str); 62] = [
     ("google-ignores-star",
         "a crawler of the report is known to get no group from its vendor, if it has none of its own, and the file has a group of *, but doesn't name this one"),
     ("needless-rule",
-        "with --needless: the rule matches nothing, another rule matches everything that it matches and makes it superfluous, or it is an Allow of what is allowed without it, and all such rules can be deleted together; deleting only some of them may change a verdict. Not all of them are found. None is reported if the file is larger than 512,000 bytes or rejected for a crawler, if its first line would begin with a byte of a byte order mark then, or if crawlers need each other's rules in too many ways; nor a rule without which User-agent lines would join those below. Crawlers that apply the first rule that matches, or read an empty Disallow otherwise, may need them, so mend empty-disallow first"),
+        "with --needless: the rule matches nothing, another rule matches everything that it matches and makes it superfluous, or it is an Allow of what is allowed without it, and all such rules can be deleted together; deleting only some of them may change a verdict. Allow: / and an empty Disallow are meant as they are, and none is reported if the file is larger than 512,000 bytes or rejected for a crawler, if its first line would begin with a byte of a byte order mark then, or if crawlers need each other's rules in too many ways; nor a rule without which User-agent lines would join those below. Crawlers that apply the first rule that matches, or read an empty Disallow otherwise, may need them, so mend empty-disallow first"),
+    ("needless-undecided",
+        "with --needless: comparing a crawler's rules with and without this one would take too long; neither it nor those that are tried after it are reported as needless-rule"),
 ];
 
 /// What is proved about what warnings report, with the theorem of `warnings_laws`.

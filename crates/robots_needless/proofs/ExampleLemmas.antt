@@ -1,14 +1,13 @@
 -- The worked examples.
 use mathlib.Core.Logic.Iff
-use Rattle.std.proofs.Common.{◌≡◌, ◌≢◌, ◌<◌, ◌↔◌, ◌⊎◌, inl, inr, ℕ, zero, suc, Bool, true, false, List, []}
-use Rattle.std.proofs.Common.{◌∷◌, Contains, codes, get_or, refl, arith}
+use Rattle.std.proofs.Common.{◌≢◌, ◌↔◌, ℕ, zero, suc, Bool, true, false, List, []}
+use Rattle.std.proofs.Common.{◌∷◌, Contains, ap, codes, length, refl, arith}
 use Rattle.std.proofs.lemmas.Bool.{false≢true}
 use Rattle.texting_robots.specs.{Rules.PlacedRule, Rules.Rule, Rules.unplaced, Verdict.IsVerdict}
-use Rattle.texting_robots.proofs.Shared.{matching, not_matching, answered, one_verdict}
+use Rattle.texting_robots.specs.Pattern.{Matches, MatchesWith}
+use Rattle.texting_robots.proofs.Shared.{answered, matching, not_matching, one_verdict, suffix_trans}
 use Rattle.robots_needless.specs.Examples.{allow_at, deny_at, twice}
-use Rattle.robots_needless.specs.Internal.{fresh, generic}
-use Rattle.robots_needless.proofs.SettledLemmas.{covers_by, escaped_below, heads_apart}
-use Rattle.robots_needless.proofs.RemovalLemmas.{AreWith, can_go}
+use Rattle.robots_needless.proofs.CompareLemmas.{same_denied}
 use Rattle.robots_needless.proofs.TogetherLemmas.{verdicts}
 use Rattle.robots_needless.specs.Examples as example
 
@@ -19,19 +18,12 @@ again : (others : List Rule) (text : List ℕ) (answer : Bool)
 again others text =
     let rule : Rule = (codes "/a", false) in
     verdicts (rule ∷ rule ∷ others) (rule ∷ others) text
-    (can_go (rule ∷ others) (rule ∷ rule ∷ others) rule with_one (inr (inr (
-      rule,
-      record { listed = (0, omega arith, refl); covers = λ text fits. fits; decides = inl (omega arith) },
-    ))) text)
+    (same_denied (rule ∷ rule ∷ others) (rule ∷ others) text (λ x here. (less x, λ (k, below, at). (suc k, omega arith, at))))
   where
-    with_one : AreWith ((codes "/a", false) ∷ others) (codes "/a", false)
-        ((codes "/a", false) ∷ (codes "/a", false) ∷ others)
-    with_one = record { more = λ x (k, below, at). (suc k, omega arith, at); only = of }
-      where
-        of : (x : Rule) → Contains ((codes "/a", false) ∷ (codes "/a", false) ∷ others) x
-            → Contains ((codes "/a", false) ∷ others) x ⊎ (◌≡◌ {A = Rule} (codes "/a", false) x)
-        of x (zero, below, at) = inr at
-        of x (suc k, below, at) = inl (k, omega arith, at)
+    less : (x : Rule) → Contains {X = Rule} ((codes "/a", false) ∷ (codes "/a", false) ∷ others) x
+        → Contains {X = Rule} ((codes "/a", false) ∷ others) x
+    less x (zero, below, at) = (0, omega arith, at)
+    less x (suc k, below, at) = (k, omega arith, at)
 
 pub one_of_two : example.one_of_two
 one_of_two = (
@@ -55,28 +47,14 @@ between = λ needless.
     let denied = (needless text false).0 (answered rules text).0 in
     false≢true (one_verdict (unplaced left) text false true denied (answered left text).0)
 
+wider : (text : List ℕ) → Matches (codes "/b*a$") text → Matches (codes "/*a") text
+unfolding MatchesWith
+wider text (s, slash, (u, b, (v, below, (w, a, ends)))) =
+    (s, slash, (v, suffix_trans below (98 ∷ [], b), (w, a, tt)))
+
 pub covering : example.covering
 covering = (
-  covers_by (codes "/*a") (codes "/b*a$") (generic (codes "/b*a$")) (escaped_below (codes "/*a")) refl
-      (matching _ _ _ refl),
-  λ covers. not_matching true (codes "/b*a$") (codes "/a") refl (covers (codes "/a") (matching _ _ _ refl)),
-)
-
-slash_same : (k : ℕ) → k < 1
-    → (get_or (generic (codes "/a*")) k 0 ≡ get_or (generic (codes "/b*")) k 0)
-    × (get_or (generic (codes "/a*")) k 0 ≢ fresh)
-slash_same k less = grind arith
-
-pub apart : example.apart
-apart = (
-  heads_apart (codes "/a*") (codes "/b*") (record {
-    at = 1;
-    in_one = omega arith;
-    in_other = omega arith;
-    same = slash_same;
-    differ = λ same. omega arith;
-    fixed = λ same. omega arith;
-    other_fixed = λ same. omega arith;
-  }),
-  λ none. none (codes "/ab") (matching _ _ _ refl) (matching _ _ _ refl),
+  λ text differs fits. wider text fits,
+  λ covers. not_matching true (codes "/b*a$") (codes "/a") refl
+      (covers (codes "/a") (λ same. omega (arith, ap length same)) (matching _ _ _ refl)),
 )

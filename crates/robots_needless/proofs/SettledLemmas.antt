@@ -1,20 +1,19 @@
 -- What is found for one crawler and for several.
-use Rattle.std.proofs.Common.{◌≡◌, ◌≢◌, ℕ, ◌==◌, inl, inr, List, ◌∷◌, ◌++◌, All, refl, sym, append-nil, []}
-use Rattle.std.proofs.Common.{◌<◌, zero, suc, Bool, true, false, length, get_or, subst, ◌∙◌, arith}
+use Rattle.std.proofs.Common.{◌≡◌, ◌≢◌, ℕ, ◌==◌, inl, inr, List, ◌∷◌, ◌++◌, All, refl, sym, []}
+use Rattle.std.proofs.Common.{◌<◌, zero, suc, Bool, true, false, length, subst, ◌∙◌, arith}
 use Rattle.std.proofs.Common.{not, ◌↔◌, ◌+◌, ap, codes, filter, map}
-use Rattle.std.specs.{Bool.MatchBool, Bool.IsTrue, BTreeMap.IsOrdered, BTreeMap.keys}
+use Rattle.std.specs.{BTreeMap.IsOrdered, BTreeMap.keys}
 use Rattle.std.specs.{BTreeSet.BTreeSet, BTreeSet.contains, Ordering.nat_cmp, Cmp.nat_cmp_total, Bool.Decides}
-use Rattle.std.proofs.lemmas.Bool.{cases_Bool, ne_eqb, false≢true, not-true}
-use Rattle.std.proofs.lemmas.List.Elements.{All-head, All-tail, All-append, All-nil, All-contains}
+use Rattle.std.proofs.lemmas.Bool.{false≢true, not-true}
+use Rattle.std.proofs.lemmas.List.Elements.{All-nil, All-contains}
 use Rattle.std.proofs.lemmas.List.Elements.{Contains-append_left, All-map, Contains-push, Contains-push_cases}
-use Rattle.texting_robots.specs.Pattern.{IsSuffix, Matches, MatchesWith, dollar, star}
-use Rattle.texting_robots.specs.Escape.{escaped}
-use Rattle.texting_robots.proofs.Shared.{suffix_trans, placed_of, computed_are, rejection_is_computed}
-use Rattle.robots_needless.specs.Internal.{fresh, generic, HeadsDiffer, are_free, AreReasons, AreSettled}
-use Rattle.robots_needless.specs.Internal.{Grow, HasAll, IsSettled, Reasons, rule_at, AreAccepted}
-use Rattle.robots_needless.specs.Needless.{Covers, AreApart, MatchesNothing, AreFound, AreNeedless, IsFound}
+use Rattle.texting_robots.specs.Pattern.{star}
+use Rattle.texting_robots.proofs.Shared.{computed_are}
+use Rattle.robots_needless.specs.Internal.{are_free, AreReasons, AreSettled}
+use Rattle.robots_needless.specs.Internal.{Grow, HasAll, IsSettled, Reasons, rule_at}
+use Rattle.robots_needless.specs.Needless.{AreFound, AreNeedless, IsFound}
 use Rattle.robots_needless.specs.Needless.{IsFoundFor, KeepsRule, numbers_of, without}
-use Rattle.std.proofs.lemmas.{Bool.Decides.nat_tests, Bool.Decides.same_from_decides, Option.slice_get_within}
+use Rattle.std.proofs.lemmas.{Bool.Decides.same_from_decides, Option.slice_get_within}
 use Rattle.std.specs.List.{Contains, enumerate_from, list_any}
 use Rattle.std.proofs.lemmas.List.{Sums.AllPass-from_list_all}
 use Rattle.std.proofs.lemmas.Map.{Lookups.exact_unsigned, Views.All-found, Views.btree_map_contains_key_iff}
@@ -27,111 +26,6 @@ use Rattle.robots_needless.proofs.BlockLemmas.{among, deleted, keeps_rule, delay
 use Rattle.robots_needless.proofs.BlockLemmas.{sitemaps_stay}
 use Rattle.robots_needless.proofs.TogetherLemmas.{in_named, left_without, named_in, of_map, verdicts_without}
 
--- ---- The generic text of a pattern stands for all texts that the pattern matches: another pattern without
--- the fresh byte matches it if and only if it matches them all.
-
--- the text is the generic text with any bytes in place of each fresh byte
-unfoldable pub Fills : List ℕ → List ℕ → Type 0
-Fills [] t = t ≡ []
-Fills (b ∷ g) t = (s : List ℕ) × MatchBool (b == fresh) (IsSuffix s t) (t ≡ b ∷ s) × Fills g s
-
-pub matches_generic : (r t : List ℕ) → Matches r t → Matches r (generic r)
-unfolding MatchesWith
-matches_generic [] t m = tt
-matches_generic (b ∷ q) t m = elim (cases_Bool (b == star)) [
-  | inl first ↦
-      let (s, i, n) = rw first at m in
-      rw first (generic q, (fresh ∷ [], refl), matches_generic q s n)
-  | inr other ↦ (grind (arith, matches_generic q))
-]
-
-pub matches_fill : (r t : List ℕ) → Matches r t → Fills (generic r) t
-unfolding MatchesWith Fills
-matches_fill [] t m = ([], (t, sym (append-nil t)), refl)
-matches_fill (b ∷ q) t m = elim (cases_Bool (b == star)) [
-  | inl first ↦
-      let (s, i, n) = rw first at m in
-      rw first (s, i, matches_fill q s n)
-  | inr other ↦ elim (cases_Bool (b == dollar)) [
-    | inl ends ↦
-        (grind arith)
-    | inr plain ↦
-        let (s, whole, n) = rw (other, plain) at m in
-        rw (other, plain) (elim (cases_Bool (b == fresh)) [
-          | inl same ↦ rw same (s, (b ∷ [], whole), matches_fill q s n)
-          | inr differs ↦ rw differs (s, whole, matches_fill q s n)
-        ])
-  ]
-]
-
-fill_suffix : (f g t : List ℕ) → Fills (f ++ g) t → (s : List ℕ) × IsSuffix s t × Fills g s
-unfolding Fills
-fill_suffix [] g t m = (t, ([], refl), m)
-fill_suffix (b ∷ f) g t m = elim (cases_Bool (b == fresh)) [
-  | inl same ↦
-      let (s, i, n) = rw same at m in
-      let (u, j, o) = fill_suffix f g s n in
-      (u, suffix_trans j i, o)
-  | inr differs ↦
-      let (s, whole, n) = rw differs at m in
-      let (u, j, o) = fill_suffix f g s n in
-      (u, suffix_trans j (b ∷ [], whole), o)
-]
-
-pub fills_match : (s g t : List ℕ) → All (λ b. b ≢ fresh) s → Matches s g → Fills g t → Matches s t
-unfolding MatchesWith Fills
-fills_match [] g t all m fills = tt
-fills_match (b ∷ q) g t all m fills =
-    let later = All-tail (λ b. b ≢ fresh) b q all in
-    (grind (arith, fill_suffix, ne_eqb, All-head, fills_match q))
-
-pub covers_by_generic : (wide narrow : List ℕ) → All (λ b. b ≢ fresh) wide → Matches wide (generic narrow)
-    → Covers wide narrow
-covers_by_generic wide narrow all m t n = grind (arith, fills_match, matches_fill)
-
-pub generic_by_covers : (wide narrow : List ℕ) → Matches narrow (generic narrow) → Covers wide narrow
-    → Matches wide (generic narrow)
-generic_by_covers wide narrow own covers = grind arith
-
-differ_at : (at : ℕ) (g h t : List ℕ) → at < length g → at < length h
-    → ((k : ℕ) → k < at → (get_or g k 0 ≡ get_or h k 0) × (get_or g k 0 ≢ fresh))
-    → get_or g at 0 ≢ get_or h at 0 → get_or g at 0 ≢ fresh → get_or h at 0 ≢ fresh
-    → Fills g t → ¬ Fills h t
-unfolding Fills
-differ_at at [] h t in_g in_h same differ fixed other_fixed fills = absurd (omega arith)
-differ_at at (a ∷ g) [] t in_g in_h same differ fixed other_fixed fills = absurd (omega arith)
-differ_at zero (a ∷ g) (b ∷ h) t in_g in_h same differ fixed other_fixed fills = grind (arith, ne_eqb)
-differ_at (suc at) (a ∷ g) (b ∷ h) t in_g in_h same differ fixed other_fixed fills = λ others.
-    let (equal, a_fixed) = same 0 (omega arith) in
-    let b_fixed : b ≢ fresh = λ is. a_fixed (equal ∙ is) in
-    let (s, first, m) = rw (ne_eqb a fresh a_fixed) at fills in
-    let (u, second, n) = rw (ne_eqb b fresh b_fixed) at others in
-    let tails : u ≡ s = cc in
-    differ_at at g h s (omega arith) (omega arith) (λ k less. same (suc k) (omega arith)) differ fixed
-    other_fixed m (subst (λ r. Fills h r) tails n)
-
-pub heads_apart : (p q : List ℕ) → HeadsDiffer (generic p) (generic q) → AreApart p q
-heads_apart p q is = grind (arith, differ_at, matches_fill)
-
-pub apart_by : (p q one other : List ℕ) → one ≡ generic p → other ≡ generic q → HeadsDiffer one other
-    → AreApart p q
-apart_by p q one other first second is = heads_apart p q (rw (first, second) at is)
-
-pub covers_by : (wide narrow text : List ℕ) → All (λ b. b < fresh) wide → text ≡ generic narrow
-    → Matches wide text → Covers wide narrow
-covers_by wide narrow text below is fits = grind (arith, covers_by_generic)
-
-pub nothing_by : (p text : List ℕ) → text ≡ generic p → ¬ Matches p text → MatchesNothing p
-nothing_by p text is none = grind (arith, matches_generic)
-
-pub not_true : (b : Bool) → IsTrue (not b) → ¬ IsTrue b
-not_true true is too = cc
-not_true false is too = cc
-
-pub escaped_below : (bytes : List ℕ) → All (λ c. c < fresh) (escaped bytes)
-escaped_below [] = All-nil (λ c. c < fresh)
-escaped_below (b ∷ bytes) = grind (arith, All-append, nat_tests, escaped_below bytes)
-
 -- ---- What is found for several crawlers: rules that are needless for each of them.
 
 pub no_reasons : (lines : List LineValue) (found : Reasons) → found.entries ≡ [] → AreReasons lines found
@@ -140,14 +34,6 @@ no_reasons lines found empty line reason at = grind arith
 pub reasons_more : (lines : List LineValue) (old new : Reasons) → AreReasons lines old
     → Grow (IsFoundFor lines) old new → AreReasons lines new
 reasons_more lines old new before grow line reason at = grind arith
-
-not_rejected : (agent : List ℕ) (lines : List LineValue) → AreAccepted (placed_rules agent lines)
-    → ¬ IsRejected agent lines
-not_rejected agent lines all rejected =
-    let rules = placed_rules agent lines in
-    let (k, rule, below, at, overlong) = (rejection_is_computed agent lines).0 rejected in
-    let (placed, listed, is) = placed_of rules rule (k, below, at) in
-    (grind (arith, All-contains))
 
 pub grow_for : (lines : List LineValue) (agent : List ℕ) (rules : List PlacedRule) (old new : Reasons)
     → rules ≡ placed_rules agent lines → Grow (IsFound rules) old new → Grow (IsFoundFor lines) old new
@@ -163,14 +49,27 @@ grow_for lines agent rules old new are grow = record {
 
 pub settled_more : (P : NeedlessRule → Type 0) (lines : List LineValue) (agents : List (List ℕ))
     (last : List ℕ) (old new : Reasons) (stayed stays : BTreeSet ℕ) → AreSettled lines agents old stayed
-    → Grow P old new → HasAll stays stayed → AreAccepted (placed_rules last lines)
+    → Grow P old new → HasAll stays stayed → ¬ IsRejected last lines
     → IsSettled (placed_rules last lines) new stays → AreSettled lines (agents ++ last ∷ []) new stays
 settled_more P lines agents last old new stayed stays are grow more accepted is agent has =
     elim (Contains-push_cases agents last agent has) [
       | inl before ↦
-          let (all, was) = are agent before in (grind arith)
+          let (accepted, was) = are agent before in
+          let reduced = was.reduced in (
+            accepted,
+            record {
+              left = was.left;
+              reduced = record {
+                removed = reduced.removed;
+                same = reduced.same;
+                denied = reduced.denied;
+                go = λ placed has. grow.found placed.line (reduced.go placed has);
+              };
+              stay = λ placed has. more placed.line (was.stay placed has);
+            },
+          )
       | inr same ↦
-          subst (λ a. AreAccepted (placed_rules a lines) × IsSettled (placed_rules a lines) new stays)
+          subst (λ a. (¬ IsRejected a lines) × IsSettled (placed_rules a lines) new stays)
           same (accepted, is)
     ]
 
@@ -267,7 +166,7 @@ are_found lines found stays list are free settled reasons keep =
       delays = delays_stay numbers lines keeps;
       sitemaps = sitemaps_stay numbers lines keeps;
       blocks = all_keep lines list keeps reasons;
-      accepted = λ some agent has. not_rejected agent lines (settled agent has).0;
+      accepted = λ some agent has. (settled agent has).0;
       reasons = reasons;
     }
 

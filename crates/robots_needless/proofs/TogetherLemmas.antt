@@ -3,31 +3,26 @@ use Rattle.std.proofs.Common.{rules, []}
 use Rattle.std.proofs.lemmas.Grind.{common_steps}
 use Rattle.std.proofs.Common.{◌≡◌, ◌↔◌, ◌⊎◌, inl, inr, ℕ, zero, suc, ◌==◌, Bool, true, List, ◌∷◌, ◌++◌}
 use Rattle.std.proofs.Common.{ap}
-use Rattle.std.proofs.Common.{IsPermutation, sym, refl, ◌∙◌, arith, get_or, map, subst, length, length-append}
-use Rattle.std.proofs.Common.{false, ◌+◌, append_assoc, append-nil, ◌≢◌, ◌≤◌, Some}
+use Rattle.std.proofs.Common.{IsPermutation, sym, refl, ◌∙◌, arith, map}
+use Rattle.std.proofs.Common.{false, ◌+◌, append_assoc, append-nil, ◌≢◌, Some}
 use Rattle.std.specs.List.{Contains, filter, list_any}
-use Rattle.std.proofs.lemmas.Bool.{cond_both, eqb-true, false≢true, ne_eqb}
-use Rattle.std.proofs.lemmas.Bool.Decides.{Decides-eqb, nat_tests}
+use Rattle.std.proofs.lemmas.Bool.{cond_both, eqb-true, false≢true}
+use Rattle.std.proofs.lemmas.Bool.Decides.{Decides-eqb}
 use mathlib.Core.Logic.Iff
 use Rattle.std.proofs.lemmas.List.Elements.{All-contains, All-contains_itself, All-filter, filter_passes}
 use Rattle.std.proofs.lemmas.List.Elements.{Contains-append_cases, Contains-append_left, Contains-push}
-use Rattle.std.proofs.lemmas.List.Elements.{Contains-append_right, Contains-push_cases}
-use Rattle.std.proofs.lemmas.List.Sorted.{Contains-permutation, IsPermutation-sym, IsPermutation-append_comm}
-use Rattle.std.proofs.lemmas.List.Sorted.{IsPermutation-append_left, IsPermutation-append_right}
-use Rattle.std.proofs.lemmas.List.Sorted.{IsPermutation-middle, IsPermutation-trans}
-use Rattle.std.proofs.lemmas.List.{get_or-map, length-map, get_or-append-add, get_or_append_left, map-append}
-use Rattle.std.proofs.lemmas.List.{get_or_default, Folds.Any-from_list_any, Folds.list_any_at}
+use Rattle.std.proofs.lemmas.List.Sorted.{Contains-permutation, IsPermutation-sym}
+use Rattle.std.proofs.lemmas.List.Sorted.{IsPermutation-append_comm, IsPermutation-append_left, IsPermutation-append_right}
+use Rattle.std.proofs.lemmas.List.Sorted.{IsPermutation-trans}
+use Rattle.std.proofs.lemmas.List.{get_or-map, length-map}
+use Rattle.std.proofs.lemmas.List.{Folds.Any-from_list_any, Folds.list_any_at}
 use Rattle.texting_robots.specs.Rules.{PlacedRule, Rule, unplaced}
-use Rattle.robots_needless.specs.Needless.{AreDistinct, lines_of, without, AreNeedless, IsReason, Overrules}
-use Rattle.std.proofs.lemmas.Map.Keys.{IsDistinct-IsPermutation, IsDistinct-from_apart, apart_from_distinct}
+use Rattle.robots_needless.specs.Needless.{without, IsReason}
 use Rattle.std.specs.{Ordering.nat_cmp, BTreeMap.Updates, BTreeMap.get}
 use Rattle.texting_robots.specs.Verdict.{IsDenied, IsVerdict}
 use Rattle.texting_robots.proofs.Shared.{placed_of, same_verdicts}
 use Rattle.robots_needless.specs.declared.needless.Reason.{Reason}
-use Rattle.robots_needless.specs.Internal.{AreAmong, CanGoInTurn, Goes, AreNear, CanReplace, HasNoRival}
-use Rattle.robots_needless.specs.Internal.{IsNoRival, HasLine, IsReducing, Reasons}
-use Rattle.robots_needless.proofs.RemovalLemmas.{AreWith, can_go}
-use Rattle.robots_needless.specs.declared.needless.Reason.TheVariants.{AllowedAnyway, NeverDecides, NotNeeded}
+use Rattle.robots_needless.specs.Internal.{Goes, HasLine, IsReducing, Reasons}
 use Rattle.robots_needless.specs.declared.needless.Reason.TheVariants as reasons
 
 -- ---- Which rules are left without those in some lines.
@@ -96,38 +91,7 @@ module _ (numbers : List ℕ) (rules left removed : List PlacedRule)
         (grind (arith, in_named placed.line numbers, stay placed has)),
   )
 
-abbrev in_one_line : PlacedRule → PlacedRule → Bool
-in_one_line placed other = placed.line == other.line
-
-either_way : (m n : ℕ) → (m == n) ≡ (n == m)
-either_way m n = grind (arith, nat_tests)
-
-module _ (rules kept removed : List PlacedRule) (same : IsPermutation rules (kept ++ removed))
-    (once : AreDistinct rules) where
-  not_both : (placed : PlacedRule) → Contains kept placed → ¬ Contains (lines_of removed) placed.line
-  not_both placed (k, below, at) number =
-      let all = kept ++ removed in
-      let (other, (m, within, there), same_line) =
-      of_map (λ (p : PlacedRule). p.line) removed placed.line number in
-      let first : get_or all k other ≡ placed =
-      (grind (arith, get_or_append_left, get_or_default)) in
-      let second : get_or all (length kept + m) other ≡ other =
-      get_or-append-add kept removed m other ∙ there in
-      let distinct =
-      IsDistinct-IsPermutation in_one_line (λ one two. either_way one.line two.line) rules all same
-      (grind (arith, IsDistinct-from_apart, ne_eqb)) in
-      let apart = apart_from_distinct in_one_line all k (length kept + m) other distinct (omega arith)
-      (omega (arith, length-append kept removed)) in
-      let none : (placed.line == other.line) ≡ false = rw (first, second) at apart in
-      (grind (arith, Decides-eqb))
-
-  pub left_are_kept : (placed : PlacedRule)
-      → Contains (without (lines_of removed) rules) placed ↔ Contains kept placed
-  left_are_kept =
-      left_without (lines_of removed) rules kept removed same (to_map (λ (p : PlacedRule). p.line) removed)
-      not_both
-
--- ---- Rules that can go one after the other are needless together.
+-- ---- Rules that go one after the other are needless together.
 
 pub unplaced_of : (rules : List PlacedRule) (placed : PlacedRule) → Contains rules placed
     → Contains (unplaced rules) placed.rule
@@ -152,10 +116,6 @@ pub verdicts : (rules others : List Rule) (text : List ℕ) → IsDenied rules t
     → (answer : Bool) → IsVerdict rules text answer ↔ IsVerdict others text answer
 verdicts rules others text same answer = grind (arith, common_steps)
 
-with_last : (others : List PlacedRule) (rule : PlacedRule)
-    → AreWith (unplaced others) rule.rule (unplaced (others ++ rule ∷ []))
-with_last others rule = search (rules, map-append, Contains-append_left, Contains-push_cases)
-
 pub denied_permuted : (rules others : List PlacedRule) → IsPermutation rules others → (text : List ℕ)
     → IsDenied (unplaced rules) text ↔ IsDenied (unplaced others) text
 denied_permuted rules others same text = Iff.symm (same_verdicts rules others same text false)
@@ -169,24 +129,9 @@ verdicts_without rules left numbers text denied members answer =
     let back = denied_same left rest text (λ placed. Iff.symm (members placed)) in
     verdicts _ (unplaced rest) text (Iff.trans denied (back, denied_same rest left text members)) answer
 
-reason_among : (some all : List PlacedRule) → AreAmong some all → (rule : PlacedRule) (reason : Reason)
+pub reason_among : (some all : List PlacedRule) → ((placed : PlacedRule) → Contains some placed → Contains all placed) → (rule : PlacedRule) (reason : Reason)
     → IsReason some rule reason → IsReason all rule reason
 reason_among some all among rule reason holds = grind arith
-
-pub rest_to_front : (front rest : List PlacedRule) (rule : PlacedRule)
-    → IsPermutation (front ++ (rest ++ rule ∷ [])) ((front ++ rule ∷ []) ++ rest)
-rest_to_front front rest rule =
-    search (rules, append_assoc, IsPermutation-append_right, IsPermutation-append_comm)
-
-module _ (one two rest old : List PlacedRule) (rule : PlacedRule) (last : old ≡ rest ++ rule ∷ []) where
-  pub to_second : (more : List PlacedRule) → more ≡ two ++ rule ∷ []
-      → IsPermutation ((one ++ two) ++ old) ((one ++ more) ++ rest)
-  to_second more added = grind (arith, append_assoc, rest_to_front)
-
-  pub to_first : (more : List PlacedRule) → more ≡ one ++ rule ∷ []
-      → IsPermutation ((one ++ two) ++ old) ((more ++ two) ++ rest)
-  to_first more added =
-      grind (arith, common_steps, IsPermutation-trans, to_second, IsPermutation-append_left, rest_to_front)
 
 pub nothing_removed : (rules others : List PlacedRule) (found : Reasons) → IsPermutation rules others
     → IsReducing rules others found found
@@ -206,6 +151,11 @@ updated : (old new : Reasons) (line : ℕ) (reason : Reason) → Updates nat_cmp
     → ((line ≡ n) × (get nat_cmp new n ≡ Some reason)) ⊎ (get nat_cmp new n ≡ get nat_cmp old n)
 updated old new line reason set n = grind arith
 
+rest_to_front : (front rest : List PlacedRule) (rule : PlacedRule)
+    → IsPermutation (front ++ (rest ++ rule ∷ [])) ((front ++ rule ∷ []) ++ rest)
+rest_to_front front rest rule =
+    search (rules, append_assoc, IsPermutation-append_right, IsPermutation-append_comm)
+
 module _ {all left : List PlacedRule} {start found : Reasons} (is : IsReducing all left start found) where
   pub reordered : (others : List PlacedRule) → IsPermutation left others → IsReducing all others start found
   reordered others same = record {
@@ -219,13 +169,20 @@ module _ {all left : List PlacedRule} {start found : Reasons} (is : IsReducing a
     grow = is.grow;
   }
 
-  pub rule_gone : (others : List PlacedRule) (rule : PlacedRule) → left ≡ others ++ rule ∷ []
-      → (reason : Reason) (new : Reasons) → Goes others rule reason
-      → Updates nat_cmp found new rule.line (Some reason) → IsReducing all others start new
-  rule_gone others rule last reason new goes set =
+  pub rule_stays : (kept rest : List PlacedRule) (rule : PlacedRule) → left ≡ kept ++ (rest ++ rule ∷ [])
+      → IsReducing all ((kept ++ rule ∷ []) ++ rest) start found
+  rule_stays kept rest rule last =
+      reordered ((kept ++ rule ∷ []) ++ rest) (rw last (rest_to_front kept rest rule))
+
+  pub rule_gone : (kept rest : List PlacedRule) (rule : PlacedRule) → left ≡ kept ++ (rest ++ rule ∷ [])
+      → (reason : Reason) (new : Reasons) → Goes (kept ++ rest) rule reason
+      → Updates nat_cmp found new rule.line (Some reason) → IsReducing all (kept ++ rest) start new
+  rule_gone kept rest rule is_left reason new goes set =
+      let others = kept ++ rest in
+      let last : left ≡ others ++ rule ∷ [] = is_left ∙ sym (append_assoc kept rest (rule ∷ [])) in
       let removed = is.reduced.removed in
       let same : IsPermutation all ((others ++ rule ∷ []) ++ removed) = rw last at is.reduced.same in
-      let listed : AreAmong (others ++ rule ∷ []) all =
+      let listed : (placed : PlacedRule) → Contains (others ++ rule ∷ []) placed → Contains all placed =
       λ placed has. Contains-permutation _ all placed (IsPermutation-sym all _ same)
       (Contains-append_left _ removed placed has) in
       let holds = reason_among others all
@@ -240,7 +197,7 @@ module _ {all left : List PlacedRule} {start found : Reasons} (is : IsReducing a
           removed = rule ∷ removed;
           same = rw append_assoc at same;
           denied = λ text. Iff.trans (rw last at (is.reduced.denied text))
-              (can_go (unplaced others) _ rule.rule (with_last others rule) goes.go text);
+              (goes.same text false);
           go = (grind (arith, cons_cases));
         };
         grow = record {
@@ -252,69 +209,3 @@ module _ {all left : List PlacedRule} {start found : Reasons} (is : IsReducing a
           ];
         };
       }
-
--- all of them, for a list of removed rules
-in_turn : (kept removed : List PlacedRule) → CanGoInTurn kept removed → (text : List ℕ)
-    → IsDenied (unplaced (kept ++ removed)) text ↔ IsDenied (unplaced kept) text
-in_turn kept [] can text = rw append-nil Iff.rfl
-in_turn kept (rule ∷ later) (can, rest) text =
-    let moved = IsPermutation-trans _ _ ((kept ++ later) ++ rule ∷ []) (IsPermutation-middle kept rule later)
-    (IsPermutation-append_comm (rule ∷ []) (kept ++ later)) in
-    Iff.trans (denied_permuted (kept ++ rule ∷ later) ((kept ++ later) ++ rule ∷ []) moved text)
-    (Iff.trans (can_go (unplaced (kept ++ later)) _ rule.rule (with_last (kept ++ later) rule) can text)
-    (in_turn kept later rest text))
-
-pub needless_in_turn : (rules kept removed : List PlacedRule) → AreDistinct rules
-    → IsPermutation rules (kept ++ removed) → CanGoInTurn kept removed → AreNeedless rules (lines_of removed)
-needless_in_turn rules kept removed once same can text answer =
-    verdicts_without rules kept (lines_of removed) text
-    (Iff.trans (denied_permuted rules (kept ++ removed) same text) (in_turn kept removed can text))
-    (left_are_kept rules kept removed same once) answer
-
-pub no_rival_near : (one two others : List PlacedRule) (m n : ℕ) (rule : PlacedRule)
-    → AreNear one two others rule → HasNoRival (unplaced one) m rule.rule → m ≤ n
-    → HasNoRival (unplaced two) n rule.rule → HasNoRival (unplaced others) n rule.rule
-no_rival_near one two others m n rule are first most second = record {
-  none = λ x has.
-      let (placed, listed, is) = placed_of others x has in
-      let at : IsNoRival n rule.rule placed.rule = grind (arith, unplaced_of) in
-      subst (λ (r : Rule). IsNoRival n rule.rule r) is at;
-}
-
-pub both_near : (kept rest : List PlacedRule) (rule : PlacedRule) → AreNear kept rest (kept ++ rest) rule
-both_near kept rest rule = record {
-  first = Contains-append_left kept rest;
-  second = Contains-append_right kept rest;
-  only = λ other has. elim (Contains-append_cases kept rest other has) [
-    | inl first ↦ inl first
-    | inr second ↦ inr (inl second)
-  ];
-}
-
-pub no_rival_more : (others : List PlacedRule) (other : PlacedRule) (m n : ℕ) (rule : Rule)
-    → HasNoRival (unplaced others) m rule → m ≤ n → IsNoRival n rule other.rule
-    → HasNoRival (unplaced (others ++ other ∷ [])) n rule
-no_rival_more others other m n rule before most apart =
-    grind (arith, common_steps, map-append, Contains-push_cases)
-
-pub overruled_goes : (some others : List PlacedRule) (rule : PlacedRule) (line : ℕ) → AreAmong some others
-    → (other : PlacedRule) × Contains some other × (other.line ≡ line) × Overrules other rule
-    → Goes others rule (NeverDecides line)
-overruled_goes some others rule line among (other, has, at, is) =
-    let listed = among other has in (grind (arith, unplaced_of))
-
-pub covered_goes : (some others : List PlacedRule) (floor : ℕ) (rule : PlacedRule) (line : ℕ)
-    → AreAmong some others → HasNoRival (unplaced others) floor rule.rule
-    → (other : PlacedRule) × Contains some other × (other.line ≡ line) × (other.line ≢ rule.line)
-    × CanReplace floor other.rule rule.rule → Goes others rule (NotNeeded line)
-covered_goes some others floor rule line among none (other, has, at, another, is) =
-    let listed = among other has in
-    let above = is.above in record {
-      go = inr (inr (grind (arith, unplaced_of)));
-      holds = (other, listed, at, another, is.kind, is.covers);
-    }
-
-pub allow_goes : (others : List PlacedRule) (floor : ℕ) (rule : PlacedRule)
-    → HasNoRival (unplaced others) floor rule.rule → floor ≡ 0 → rule.rule.1 ≡ true
-    → Goes others rule AllowedAnyway
-allow_goes others floor rule none is allows = grind arith

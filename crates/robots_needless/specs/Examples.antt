@@ -1,7 +1,7 @@
 -- Worked examples. They are theorems, proved as contracts in `src/laws.rt`.
 use Rattle.std.specs.Prelude.{ℕ, true, false, List, [], ◌∷◌, codes}
 use Rattle.texting_robots.specs.Callers.{PlacedRule}
-use Rattle.robots_needless.specs.Needless.{AreApart, AreNeedless, Covers, IsNeedless}
+use Rattle.robots_needless.specs.Needless.{AreNeedless, Covers, IsNeedless}
 
 abbrev pub deny_at : ℕ → List ℕ → PlacedRule
 deny_at line pattern = record { rule = (pattern, false); line = line }
@@ -30,7 +30,3 @@ two_of_three =
 -- a pattern that matches every text of another one, and more
 abbrev pub covering : Type 0
 covering = Covers (codes "/*a") (codes "/b*a$") × (¬ Covers (codes "/b*a$") (codes "/*a"))
-
--- patterns with no text in common, and patterns with one
-abbrev pub apart : Type 0
-apart = AreApart (codes "/a*") (codes "/b*") × (¬ AreApart (codes "/a*") (codes "/*b"))

@@ -1,18 +1,12 @@
 -- Rules that can be removed without changing a verdict.
 use Rattle.std.specs.Prelude.{◌≡◌, ◌≢◌, ◌↔◌, ◌≤◌, ◌<◌, ℕ, ◌+◌, ◌*◌, ◌==◌, if◌then◌else◌, length, not, All, []}
-use Rattle.std.specs.Prelude.{AllPairs, Bool, false, true, Contains, IsTrue, List, ◌∷◌, codes, filter, map}
+use Rattle.std.specs.Prelude.{Bool, false, true, Contains, IsTrue, List, ◌∷◌, codes, filter, map}
 use Rattle.std.specs.List.{enumerate_from, list_any}
 use Rattle.robots_needless.specs.declared.needless.{NeedlessRule.NeedlessRule, Reason.Reason}
 use Rattle.texting_robots.specs.Callers.{IsRejected, PlacedRule, Rule, placed_rules, robots_file, sitemaps_in}
 use Rattle.texting_robots.specs.Callers.{IsVerdict, LineValue, agents_in, delay_for, rules_for, unplaced}
 use Rattle.texting_robots.specs.{Callers.Matches, Group.is_agent, Group.passes_at, Line.Allow, Line.Disallow}
 use Rattle.robots_needless.specs.declared.needless.Reason.TheVariants as reasons
-
-abbrev pub lines_of : List PlacedRule → List ℕ
-lines_of rules = map (λ (placed : PlacedRule). placed.line) rules
-
-abbrev pub AreDistinct : List PlacedRule → Type 0
-AreDistinct rules = AllPairs (λ (one other : PlacedRule). one.line ≢ other.line) rules
 
 abbrev pub without : List ℕ → List PlacedRule → List PlacedRule
 without numbers rules =
@@ -27,15 +21,12 @@ AreNeedless rules numbers = (text : List ℕ) (answer : Bool)
 abbrev pub IsNeedless : List PlacedRule → ℕ → Type 0
 IsNeedless rules number = AreNeedless rules (number ∷ [])
 
--- the first pattern matches every text that the second one matches
+-- the first pattern matches every text that the second one matches, except perhaps `/robots.txt`, which is
+-- always allowed
 abbrev pub Covers : List ℕ → List ℕ → Type 0
-Covers wide narrow = (text : List ℕ) → Matches narrow text → Matches wide text
+Covers wide narrow = (text : List ℕ) → text ≢ robots_file → Matches narrow text → Matches wide text
 
--- no text is matched by both patterns
-abbrev pub AreApart : List ℕ → List ℕ → Type 0
-AreApart one other = (text : List ℕ) → Matches one text → ¬ Matches other text
-
--- the pattern matches no text, except perhaps `/robots.txt`, which is always allowed
+-- the pattern matches no text, except perhaps `/robots.txt`
 abbrev pub MatchesNothing : List ℕ → Type 0
 MatchesNothing pattern = (text : List ℕ) → Matches pattern text → text ≡ robots_file
 
@@ -75,6 +66,14 @@ IsFound rules found =
 -- the same for the rules of some crawler in these lines of a file
 abbrev pub IsFoundFor : List LineValue → NeedlessRule → Type 0
 IsFoundFor lines found = (agent : List ℕ) × IsFound (placed_rules agent lines) found
+
+-- the rules that are found, and lines of rules that may be needless, too
+pub record NeedlessValue : Type 0 where
+  pub rules : List NeedlessRule
+  pub undecided : List ℕ
+
+abbrev pub nothing : NeedlessValue
+nothing = record { rules = []; undecided = [] }
 
 -- counted from 1
 abbrev pub lines_without : {A : Type 0} → List ℕ → List A → List A

@@ -1,28 +1,12 @@
 //! Theorems about the specification. Each is the contract of an empty function.
-ghost use Rattle.std.specs.Prelude.{◌≡◌, ◌≢◌, ◌↔◌, ◌∷◌, ◌++◌, ℕ, All, Bool, Contains, IsPermutation, List, [], codes, false};
+ghost use Rattle.std.specs.Prelude.{◌≡◌, ◌≢◌, ◌↔◌, ◌∷◌, Bool, Contains, List, [], codes, false, ℕ};
 ghost use Rattle.std.specs.Str.{IsUtf8};
-ghost use Rattle.texting_robots.specs.Callers.{IsVerdict, LineValue, Matches, PlacedRule, agents_in, is_named, placed_rules};
+ghost use Rattle.texting_robots.specs.Callers.{IsVerdict, LineValue, agents_in, is_named, placed_rules};
 ghost use Rattle.texting_robots.specs.Callers.{rules_for};
 ghost use Rattle.robots_needless.specs.declared.needless.NeedlessRule.{NeedlessRule};
 ghost use Rattle.robots_needless.specs.Blocks.{AreFoundIn, AreWholeLines, HaveSameRobot, IsLeftOf};
 ghost use Rattle.robots_needless.specs.Examples as example;
-ghost use Rattle.robots_needless.specs.Internal.{CanGoInTurn, fresh, generic};
-ghost use Rattle.robots_needless.specs.Needless.{AreDistinct, AreFound, AreNeedless, Covers, lines_of, lines_without, numbers_of};
-
-/// A pattern covers another one if it matches the other one's generic text, provided that it doesn't contain
-/// the fresh byte; and only then, if the other one matches any text.
-pub fn one_match_decides_covering()
-    ensures covers { (wide narrow : List ℕ) → All (λ b. b ≢ fresh) wide → Matches wide (generic narrow)
-        → Covers wide narrow }
-    ensures only { (wide narrow text : List ℕ) → Matches narrow text → Covers wide narrow
-        → Matches wide (generic narrow) }
-{}
-
-/// Rules that can go one after the other, each among those that are left, are needless together.
-pub fn rules_go_in_turn()
-    ensures { (rules kept removed : List PlacedRule) → AreDistinct rules → IsPermutation rules (kept ++ removed)
-        → CanGoInTurn kept removed → AreNeedless rules (lines_of removed) }
-{}
+ghost use Rattle.robots_needless.specs.Needless.{AreFound, lines_without, numbers_of};
 
 /// Deleting the lines of the found rules changes no verdict of `*` or of a crawler that the file names.
 pub fn deleting_changes_no_verdict()
@@ -57,5 +41,4 @@ pub fn examples()
     ensures between { example.between }
     ensures two_of_three { example.two_of_three }
     ensures covering { example.covering }
-    ensures apart { example.apart }
 {}

@@ -3,9 +3,6 @@
 
 mod blocks;
 mod front;
-mod generic;
 pub mod laws;
 pub mod lines;
 pub mod needless;
-mod plain;
-mod rule;

@@ -1,20 +1,20 @@
 //! Which lines of a file have rules that are needless for every crawler.
 ghost use Rattle.std.specs.Prelude.{◌≡◌, ◌∷◌, All, Contains, IfOk, IsTrue, List, OnOk, bytes_eq, codes, false, map, ℕ};
 ghost use Rattle.std.specs.List.{list_any};
-ghost use Rattle.texting_robots.specs.Callers.{LineValue, agents_in, file_bodies, file_lines, placed_rules};
+ghost use Rattle.robots_needless.specs.{Blocks.AreFoundIn, Blocks.begin_with_mark};
+ghost use Rattle.texting_robots.specs.Callers.{IsRejected, LineValue, agents_in, file_bodies, file_lines, placed_rules};
 ghost use Rattle.robots_needless.specs.Blocks.{KeepBlocks, is_found, left_from};
-ghost use Rattle.robots_needless.specs.Internal.{AreAccepted, AreReasons, AreSettled, Grow, HasAll, IsSettled, are_free, rule_at};
-ghost use Rattle.robots_needless.specs.Blocks.{AreFoundIn, begin_with_mark};
-ghost use Rattle.robots_needless.specs.Needless.{IsFoundFor};
+ghost use Rattle.robots_needless.specs.Internal.{AreReasons, AreSettled, Grow, HasAll, IsSettled, are_free, rule_at};
+ghost use Rattle.robots_needless.specs.Needless.{IsFoundFor, nothing};
 
 use crate::blocks::{add_lost, keep_blocks};
 use crate::front::left_begin_with_mark;
-use crate::needless::{BUDGET, Budget, Findings, NeedlessRule, Numbers, Reason};
-use crate::plain::settle;
-use crate::rule::rules_for;
+use crate::needless::{BUDGET, Findings, NeedlessRule, Numbers, Reason, settle};
+use robots_same::rule::rules_of;
 use std::alloc::{AllocError, Global};
 use std::collections::{BTreeMap, BTreeSet};
-use texting_robots::{Error, Site};
+use std::marker::Model;
+use texting_robots::{Rejection, Site};
 
 /// How many times the check begins anew, without the rules that another crawler turned out to need.
 const ROUNDS: usize = 8;
@@ -23,16 +23,20 @@ fn add_crawler(
     alloc: Global,
     site: &Site,
     agent: &str,
-    budget: &mut Budget,
+    budget: &mut usize,
     findings: &mut Findings,
-) -> Result<(), Error>
+) -> Result<(), Rejection>
     ensures grow { OnOk result (Grow (IsFoundFor (file_lines site.now)) findings.old.found findings.new.found) }
     ensures more { OnOk result (HasAll findings.new.stays findings.old.stays) }
-    ensures accepted { OnOk result (AreAccepted (placed_rules agent.now (file_lines site.now))) }
+    ensures accepted { OnOk result (¬ IsRejected agent.now (file_lines site.now)) }
     ensures settled { OnOk result (IsSettled (placed_rules agent.now (file_lines site.now))
         findings.new.found findings.new.stays) }
 {
-    let rules = rules_for(alloc, site, agent)?;
+    match site.robot_without_sitemaps(alloc, agent) {
+        Ok(_) => {}
+        Err(rejection) => return Err(rejection),
+    }
+    let rules = rules_of(alloc, site, agent)?;
     settle(alloc, budget, rules, findings)?;
     Ok(())
 }
@@ -61,15 +65,19 @@ fn findings_for(
     alloc: Global,
     site: &Site,
     crawlers: &[&str],
-    budget: &mut Budget,
+    budget: &mut usize,
     stays: Numbers,
-) -> Result<Findings, Error>
+) -> Result<Findings, Rejection>
     ensures settled { IfOk result (λ findings. AreSettled (file_lines site.now)
         (map (λ crawler. crawler.now) crawlers.now) findings.found findings.stays) }
     ensures reasons { IfOk result (λ findings. AreReasons (file_lines site.now) findings.found) }
 {
     let found = BTreeMap::new(alloc);
-    let mut findings = Findings { found, stays };
+    let mut findings = Findings {
+        found,
+        stays,
+        undecided: BTreeSet::new(alloc),
+    };
     for agent in crawlers {
         add_crawler(alloc, site, agent, budget, &mut findings)?;
     }
@@ -111,36 +119,71 @@ fn can_be_removed(rules: &[NeedlessRule], findings: &Findings, text: &[u8]) -> b
     keep_blocks(text, &findings.found) && !left_begin_with_mark(text, &findings.found)
 }
 
-/// None if lines are still found to be needed in the last round.
-fn settled_lines(alloc: Global, site: &Site) -> Result<Vec<NeedlessRule>, Error>
-    ensures { IfOk result (λ found. AreFoundIn site.now found.items) }
+fn numbers_in(alloc: Global, numbers: &Numbers) -> Result<Vec<usize>, AllocError> {
+    let mut list = Vec::new(alloc);
+    for number in numbers.iter() {
+        list.push(*number)?;
+    }
+    Ok(list)
+}
+
+/// What can be removed, and what isn't decided.
+#[derive(Drop)]
+pub struct Needless {
+    /// The lines of rules that can be removed together without changing a verdict of any crawler, in order.
+    pub rules: Vec<NeedlessRule>,
+    /// For each crawler whose needless rules aren't all found, the line of a rule that may be one.
+    pub undecided: Vec<usize>,
+}
+
+impl Model for Needless {
+    ghost use Rattle.robots_needless.specs.Needless.{NeedlessValue};
+
+    ghost Value = { NeedlessValue };
+
+    ghost view = { λ r. record { rules = r.rules.items; undecided = r.undecided.items } };
+}
+
+pub fn nothing(alloc: Global) -> Needless
+    ensures { result ≡ nothing }
 {
-    let mut budget = Budget { left: BUDGET };
+    Needless {
+        rules: Vec::new(alloc),
+        undecided: Vec::new(alloc),
+    }
+}
+
+/// None if lines are still found to be needed in the last round.
+fn settled_lines(alloc: Global, site: &Site) -> Result<Needless, Rejection>
+    ensures { IfOk result (λ found. AreFoundIn site.now found.rules) }
+{
+    let mut budget = BUDGET;
     let mut stays = BTreeSet::new(alloc);
     let crawlers = crawlers_of(alloc, site)?;
     for _ in 0..ROUNDS {
         let findings = findings_for(alloc, site, crawlers.as_slice(), &mut budget, stays)?;
-        let found = listed(alloc, &findings.found)?;
-        if can_be_removed(&found, &findings, site.text()) {
-            return Ok(found);
+        let rules = listed(alloc, &findings.found)?;
+        if can_be_removed(&rules, &findings, site.text()) {
+            let undecided = numbers_in(alloc, &findings.undecided)?;
+            return Ok(Needless { rules, undecided });
         }
         stays = findings.stays;
         add_lost(site.text(), &findings.found, &mut stays)?;
     }
-    Ok(Vec::new(alloc))
+    Ok(nothing(alloc))
 }
 
-/// The lines of rules that can be removed together without changing a verdict of any crawler, in order. There
-/// may be more: a rule that several others replace only together isn't found, nor is the last one of a block,
-/// and a bounded number of bytes is compared. None is found if a rule is too long, if crawlers need each
-/// other's rules in too many ways, or if the first line that stays begins with a byte of the byte order mark.
-/// If the file is larger than the site's limit, deleting lines from it lets others be read.
-pub fn needless_lines(alloc: Global, site: &Site) -> Result<Vec<NeedlessRule>, AllocError>
-    ensures { IfOk result (λ found. AreFoundIn site.now found.items) }
+/// The rules that are needless for every crawler that gets them, and can be removed together without changing
+/// a verdict. The last rule of a block isn't found, and `Allow: /` and an empty Disallow aren't, which are
+/// meant as they are. None is found if a rule is too long, if crawlers need each other's rules in too many
+/// ways, or if the first line that stays begins with a byte of the byte order mark. If the file is larger
+/// than the site's limit, deleting lines from it lets others be read.
+pub fn needless_lines(alloc: Global, site: &Site) -> Result<Needless, AllocError>
+    ensures { IfOk result (λ found. AreFoundIn site.now found.rules) }
 {
     match settled_lines(alloc, site) {
         Ok(found) => Ok(found),
-        Err(Error::InvalidRule) => Ok(Vec::new(alloc)),
-        Err(Error::Memory | Error::InvalidRobots) => Err(AllocError),
+        Err(Rejection::Overlong(_)) => Ok(nothing(alloc)),
+        Err(Rejection::Memory) => Err(AllocError),
     }
 }

@@ -1,15 +1,16 @@
 //! Which rules of a crawler are needless.
-ghost use Rattle.std.specs.Prelude.{◌≡◌, ◌≢◌, ◌≤◌, ◌+◌, ◌++◌, Contains, IfOk, IfSome, IsPermutation, IsTrue, List};
-ghost use Rattle.std.specs.Prelude.{false, nat_lt};
-ghost use Rattle.texting_robots.specs.Callers.{PlacedRule, unplaced};
-ghost use Rattle.robots_needless.specs.Internal.{AreAmong, AreNear, CanReplace, Goes, HasNoRival, IsNoRival, IsReducing, Reasons};
-ghost use Rattle.robots_needless.specs.Needless.{Overrules};
+ghost use Rattle.std.specs.Prelude.{◌≡◌, ◌≢◌, ◌++◌, ◌∷◌, [], IfOk, IfSome, IsPermutation, IsTrue, OnOk, false};
+ghost use Rattle.texting_robots.specs.Pattern.{dollar, star};
+ghost use Rattle.robots_needless.specs.Internal.{AddsLines, AddsNear, AreApart, Grow, HasAll, IsOutcome, IsReducing, IsSettled};
+ghost use Rattle.robots_needless.specs.declared.needless.Reason.TheVariants.{NeverDecides, NotNeeded};
+ghost use Rattle.robots_needless.specs.Needless.{Covers, IsFound, IsReason, MatchesNothing, TakesPrecedence};
 
-use crate::rule::Rule;
+use robots_same::compare::{Comparison, compare};
+use robots_same::rule::Rule;
 use std::alloc::{AllocError, Global};
 use std::collections::{BTreeMap, BTreeSet};
 
-/// How many bytes are compared at most. Rules that would take more are taken to be needed.
+/// Bounds how long the rules of all crawlers are compared.
 pub(crate) const BUDGET: usize = 50_000_000;
 
 /// Why a rule is needless.
@@ -43,215 +44,345 @@ pub(crate) struct Findings {
     pub(crate) found: BTreeMap<usize, Reason>,
     /// The lines of rules that are needed by at least one of them.
     pub(crate) stays: Numbers,
+    /// The line of a rule of each crawler whose rules weren't all decided.
+    pub(crate) undecided: Numbers,
 }
 
-/// How many bytes may still be compared.
-#[derive(Drop)]
-pub(crate) struct Budget {
-    pub(crate) left: usize,
+/// What becomes of a rule.
+#[derive(Clone, Copy)]
+enum Outcome {
+    Goes(Reason),
+    Stays,
+    Undecided,
 }
 
-impl Budget {
-    /// The bytes are subtracted, and so is one more for the call.
-    pub(crate) fn spend(&mut self, bytes: usize) -> bool
-        ensures enough { result ≡ nat_lt bytes self.old.left }
-        ensures less { IsTrue result → self.new.left + (bytes + 1) ≡ self.old.left }
-        ensures same { result ≡ false → self.new.left ≡ self.old.left }
-    {
-        if bytes >= self.left {
+/// It takes precedence if both match.
+#[tactic(auto, using(crate::proofs::CompareLemmas::longer_precedes, crate::proofs::CompareLemmas::allow_precedes, crate::proofs::CompareLemmas::above_precedes))]
+fn precedes(other: &Rule, rule: &Rule) -> bool
+    ensures { IsTrue result → TakesPrecedence other.now rule.now }
+{
+    let len = other.pattern.len();
+    let rule_len = rule.pattern.len();
+    if len != rule_len {
+        return len > rule_len;
+    }
+    if other.is_allow != rule.is_allow {
+        return other.is_allow;
+    }
+    other.line < rule.line
+}
+
+fn is_special(byte: u8) -> bool
+    ensures { result ≡ false → (byte ≢ star) × (byte ≢ dollar) }
+{
+    byte == b'*' || byte == b'$'
+}
+
+/// The patterns differ before their first star or dollar.
+fn are_apart(one: &[u8], other: &[u8]) -> bool
+    ensures { IsTrue result → AreApart one.now other.now }
+{
+    for k in 0..one.len().min(other.len()) {
+        if is_special(one[k]) {
             return false;
         }
-        self.left -= bytes + 1;
-        true
-    }
-}
-
-/// A higher floor if the other rule is of the other kind, ranks below the rule and not below the floor, and
-/// may match a text that the rule matches.
-fn floor_above(budget: &mut Budget, other: &Rule, rule: &Rule, floor: usize) -> usize
-    ensures most { floor ≤ result }
-    ensures apart { IsNoRival result rule.now.rule other.now.rule }
-{
-    if other.is_allow() == rule.is_allow() {
-        return floor;
-    }
-    if other.rank() < floor || rule.rank() <= other.rank() {
-        return floor;
-    }
-    if budget.spend(rule.cost()) && other.is_apart_from(rule) {
-        return floor;
-    }
-    other.rank() + 1
-}
-
-/// A rank, not below the floor, from which on the rule has no rivals among the others.
-fn rival_floor(budget: &mut Budget, others: &[Rule], rule: &Rule, floor: usize) -> usize
-    ensures most { floor ≤ result }
-    ensures none { HasNoRival (unplaced others.now) result rule.now.rule }
-{
-    let mut highest = floor;
-    for other in others {
-        highest = floor_above(budget, other, rule, highest);
-    }
-    highest
-}
-
-fn overrules(budget: &mut Budget, other: &Rule, rule: &Rule) -> bool
-    ensures { IsTrue result → Overrules other.now rule.now }
-{
-    if other.rank() < rule.rank() {
-        return false;
-    }
-    if other.rank() == rule.rank() && other.line() >= rule.line() {
-        return false;
-    }
-    if !budget.spend(rule.cost()) {
-        return false;
-    }
-    other.covers(rule)
-}
-
-fn can_replace(budget: &mut Budget, other: &Rule, rule: &Rule, floor: usize) -> bool
-    ensures can_replace { IsTrue result → CanReplace floor other.now.rule rule.now.rule }
-    ensures another { IsTrue result → other.now.line ≢ rule.now.line }
-{
-    if other.line() == rule.line() {
-        return false;
-    }
-    if other.is_allow() != rule.is_allow() {
-        return false;
-    }
-    if other.rank() < floor {
-        return false;
-    }
-    if !budget.spend(rule.cost()) {
-        return false;
-    }
-    other.covers(rule)
-}
-
-fn overruling_line(budget: &mut Budget, others: &[Rule], rule: &Rule) -> Option<usize>
-    ensures { IfSome result (λ line. (other : PlacedRule) × Contains others.now other × (other.line ≡ line)
-        × Overrules other rule.now) }
-{
-    for other in others {
-        if overrules(budget, other, rule) {
-            return Some(other.line());
+        if is_special(other[k]) {
+            return false;
+        }
+        if one[k] != other[k] {
+            return true;
         }
     }
-    None
+    false
 }
 
-fn covering_line(budget: &mut Budget, others: &[Rule], rule: &Rule, floor: usize) -> Option<usize>
-    ensures { IfSome result (λ line. (other : PlacedRule) × Contains others.now other × (other.line ≡ line)
-        × (other.line ≢ rule.now.line) × CanReplace floor other.rule rule.now.rule) }
-{
-    for other in others {
-        if can_replace(budget, other, rule, floor) {
-            return Some(other.line());
+/// The pattern before its first star or dollar.
+fn head(pattern: &[u8]) -> &[u8] {
+    for k in 0..pattern.len() {
+        if is_special(pattern[k]) {
+            return &pattern[..k];
         }
     }
-    None
+    pattern
 }
 
-/// If one of these rules overrules it or can replace it, or if it is an Allow without rivals. From the floor
-/// on it must have no rivals.
-fn reason_among(
-    budget: &mut Budget,
-    one: &[Rule],
-    two: &[Rule],
+/// The same rule, or another one with its pattern.
+fn copied(alloc: Global, rule: &Rule, is_allow: bool) -> Result<Rule, AllocError>
+    ensures { IfOk result (λ made. made ≡ record { rule = (rule.now.rule.0, is_allow); line = rule.now.line }) }
+{
+    let mut pattern = String::new(alloc);
+    pattern.push_str(rule.pattern.as_str())?;
+    Ok(Rule {
+        pattern,
+        is_allow,
+        line: rule.line,
+    })
+}
+
+fn matches_nothing(alloc: Global, budget: &mut usize, rule: &Rule) -> Result<bool, AllocError>
+    ensures { IfOk result (λ is. IsTrue is → MatchesNothing rule.now.rule.0) }
+{
+    let mut denials = Vec::new(alloc);
+    denials.push(copied(alloc, rule, false)?)?;
+    match compare(alloc, b"", denials.as_slice(), &[], budget)? {
+        Comparison::Same => Ok(true),
+        _ => Ok(false),
+    }
+}
+
+fn covers(alloc: Global, budget: &mut usize, wide: &Rule, narrow: &Rule) -> Result<bool, AllocError>
+    ensures { IfOk result (λ is. IsTrue is → Covers wide.now.rule.0 narrow.now.rule.0) }
+{
+    if !narrow
+        .pattern
+        .as_bytes()
+        .starts_with(head(wide.pattern.as_bytes()))
+    {
+        return Ok(false);
+    }
+    let mut one = Vec::new(alloc);
+    one.push(copied(alloc, wide, false)?)?;
+    let mut both = Vec::new(alloc);
+    both.push(copied(alloc, wide, false)?)?;
+    both.push(copied(alloc, narrow, false)?)?;
+    match compare(alloc, b"", both.as_slice(), one.as_slice(), budget)? {
+        Comparison::Same => Ok(true),
+        _ => Ok(false),
+    }
+}
+
+fn overruling_line(
+    alloc: Global,
+    budget: &mut usize,
+    others: &[Rule],
     rule: &Rule,
-    floor: usize,
-) -> Option<Reason>
-    ensures { IfSome result (λ reason. (others : List PlacedRule) → AreAmong one.now others → AreAmong two.now others
-        → HasNoRival (unplaced others) floor rule.now.rule → Goes others rule.now reason) }
+) -> Result<Option<usize>, AllocError>
+    ensures { IfOk result (λ found. IfSome found (λ line.
+        IsReason others.now rule.now (NeverDecides line))) }
 {
-    if let Some(line) = overruling_line(budget, one, rule) {
-        return Some(Reason::NeverDecides(line));
+    for other in others {
+        if precedes(other, rule) && covers(alloc, budget, other, rule)? {
+            return Ok(Some(other.line));
+        }
     }
-    if let Some(line) = overruling_line(budget, two, rule) {
-        return Some(Reason::NeverDecides(line));
-    }
-    if rule.is_allow() && floor == 0 {
-        return Some(Reason::AllowedAnyway);
-    }
-    if let Some(line) = covering_line(budget, one, rule, floor) {
-        return Some(Reason::NotNeeded(line));
-    }
-    if let Some(line) = covering_line(budget, two, rule, floor) {
-        return Some(Reason::NotNeeded(line));
-    }
-    None
+    Ok(None)
 }
 
-/// The others have the same verdicts without the rule. Those that aren't in `kept` or `rest` must be no
-/// rivals; `equal` are some with the same pattern. A rule in a line that stays can't go, nor can `Allow: /`
-/// and an empty Disallow, which are meant as they are.
-pub(crate) fn reason_to_go(
-    budget: &mut Budget,
+/// It is another one of the same kind.
+fn can_stand_in(other: &Rule, rule: &Rule) -> bool
+    ensures line { IsTrue result → other.now.line ≢ rule.now.line }
+    ensures kind { IsTrue result → other.now.rule.1 ≡ rule.now.rule.1 }
+{
+    other.line != rule.line && other.is_allow == rule.is_allow
+}
+
+fn covering_line(
+    alloc: Global,
+    budget: &mut usize,
+    others: &[Rule],
+    rule: &Rule,
+) -> Result<Option<usize>, AllocError>
+    ensures { IfOk result (λ found. IfSome found (λ line.
+        IsReason others.now rule.now (NotNeeded line))) }
+{
+    for other in others {
+        if can_stand_in(other, rule) && covers(alloc, budget, other, rule)? {
+            return Ok(Some(other.line));
+        }
+    }
+    Ok(None)
+}
+
+fn has_lower_disallow(others: &[Rule], rule: &Rule) -> bool {
+    for other in others {
+        if !other.is_allow && precedes(rule, other) {
+            return true;
+        }
+    }
+    false
+}
+
+/// Why a rule is needless that is. None if that would take too long to find.
+fn reason_among(
+    alloc: Global,
+    budget: &mut usize,
+    others: &[Rule],
+    rule: &Rule,
+) -> Result<Option<Reason>, AllocError>
+    ensures { IfOk result (λ found. IfSome found (IsReason others.now rule.now)) }
+{
+    if matches_nothing(alloc, budget, rule)? {
+        return Ok(Some(Reason::MatchesNothing));
+    }
+    if let Some(line) = overruling_line(alloc, budget, others, rule)? {
+        return Ok(Some(Reason::NeverDecides(line)));
+    }
+    if rule.is_allow && !has_lower_disallow(others, rule) {
+        return Ok(Some(Reason::AllowedAnyway));
+    }
+    if let Some(line) = covering_line(alloc, budget, others, rule)? {
+        return Ok(Some(Reason::NotNeeded(line)));
+    }
+    if rule.is_allow {
+        return Ok(Some(Reason::AllowedAnyway));
+    }
+    Ok(None)
+}
+
+/// Adds the other one, if it may match a text that the rule matches.
+#[tactic(auto, using(crate::proofs::CompareLemmas::near_apart, crate::proofs::CompareLemmas::near_pushed))]
+fn push_near(
+    alloc: Global,
+    near: &mut Vec<Rule>,
+    other: &Rule,
+    rule: &Rule,
+) -> Result<(), AllocError>
+    ensures { OnOk result (AddsNear near.old.items near.new.items (other.now ∷ []) rule.now) }
+{
+    if are_apart(other.pattern.as_bytes(), rule.pattern.as_bytes()) {
+        return Ok(());
+    }
+    near.push(copied(alloc, other, other.is_allow)?)?;
+    Ok(())
+}
+
+/// Adds those that may match a text that the rule matches.
+fn add_near(
+    alloc: Global,
+    near: &mut Vec<Rule>,
+    others: &[Rule],
+    rule: &Rule,
+) -> Result<(), AllocError>
+    ensures { OnOk result (AddsNear near.old.items near.new.items others.now rule.now) }
+{
+    for other in others {
+        push_near(alloc, near, other, rule)?;
+    }
+    Ok(())
+}
+
+/// What becomes of the rule among these others.
+fn outcome_among(
+    alloc: Global,
+    budget: &mut usize,
+    near: Vec<Rule>,
+    rule: &Rule,
+) -> Result<Outcome, AllocError>
+    ensures { IfOk result (IsOutcome near.items rule.now) }
+{
+    let count = near.len();
+    let mut all = near;
+    all.push(copied(alloc, rule, rule.is_allow)?)?;
+    let others = &all[..count];
+    let most = *budget / 8;
+    let mut left = most;
+    let comparison = compare(alloc, b"", &all, others, &mut left)?;
+    *budget = budget.saturating_sub(most.saturating_sub(left));
+    match comparison {
+        Comparison::Same => {}
+        Comparison::Differ(_) => return Ok(Outcome::Stays),
+        Comparison::Undecided => return Ok(Outcome::Undecided),
+    }
+    match reason_among(alloc, budget, others, rule)? {
+        Some(reason) => Ok(Outcome::Goes(reason)),
+        None => Ok(Outcome::Undecided),
+    }
+}
+
+/// The same, with the others that match none of its texts. `Allow: /` and an empty Disallow are meant as they
+/// are.
+fn outcome_of(
+    alloc: Global,
+    budget: &mut usize,
     stays: &Numbers,
-    equal: &[Rule],
     kept: &[Rule],
     rest: &[Rule],
     rule: &Rule,
-) -> Option<Reason>
-    ensures { IfSome result (λ reason. (others : List PlacedRule) → AreAmong equal.now others
-        → AreNear kept.now rest.now others rule.now → Goes others rule.now reason) }
+) -> Result<Outcome, AllocError>
+    ensures { IfOk result (IsOutcome (kept.now ++ rest.now) rule.now) }
 {
-    if stays.contains(&rule.line()) || rule.allows_all() {
-        return None;
+    if stays.contains(&rule.line) || rule.is_allow && rule.pattern.as_str() == "/" {
+        return Ok(Outcome::Stays);
     }
-    if !budget.spend(kept.len().saturating_add(rest.len())) {
-        return None;
+    *budget = budget.saturating_sub(kept.len().saturating_add(rest.len()) / 8);
+    if *budget == 0 {
+        return Ok(Outcome::Undecided);
     }
-    if rule.matches_nothing() {
-        return Some(Reason::MatchesNothing);
-    }
-    if let Some(line) = overruling_line(budget, equal, rule) {
-        return Some(Reason::NeverDecides(line));
-    }
-    let kept_floor = rival_floor(budget, kept, rule, 0);
-    let floor = rival_floor(budget, rest, rule, kept_floor);
-    reason_among(budget, kept, rest, rule, floor)
+    let mut near = Vec::new(alloc);
+    add_near(alloc, &mut near, kept, rule)?;
+    add_near(alloc, &mut near, rest, rule)?;
+    outcome_among(alloc, budget, near, rule)
 }
 
-/// The highest rank first, and in file order if ranks are equal. The order decides only how many needless
-/// rules are found.
+/// The highest rank first, and in file order if ranks are equal. The order decides which rules are found of
+/// those that aren't needless together.
 fn by_rank(rules: Vec<Rule>) -> Vec<Rule>
     ensures { IsPermutation rules.items result.items }
 {
     let mut sorted = rules;
     sorted.sort_unstable_by(|one, other| {
         other
-            .rank()
-            .cmp(&one.rank())
-            .then(one.line().cmp(&other.line()))
+            .pattern
+            .len()
+            .cmp(&one.pattern.len())
+            .then(other.is_allow.cmp(&one.is_allow))
+            .then(one.line.cmp(&other.line))
     });
     sorted
 }
 
-/// Settles a crawler's rules, by ascending rank, without those that are settled, of which some were kept. The
-/// result are all that are kept.
-pub(crate) fn settle_by_rank(
-    budget: &mut Budget,
-    stays: &Numbers,
-    settled: Vec<Rule>,
+fn add_lines(numbers: &mut Numbers, rules: &[Rule]) -> Result<(), AllocError>
+    ensures { OnOk result (AddsLines numbers.old numbers.new rules.now) }
+{
+    for rule in rules {
+        numbers.insert(rule.line)?;
+    }
+    Ok(())
+}
+
+/// The rules without those that are needless, of which each is tried among those that are left. After one that
+/// isn't decided, none is tried.
+fn reduced(
+    alloc: Global,
+    budget: &mut usize,
     rules: Vec<Rule>,
-    found: &mut BTreeMap<usize, Reason>,
+    findings: &mut Findings,
 ) -> Result<Vec<Rule>, AllocError>
-    ensures { IfOk result (λ left. (all : List PlacedRule) (start : Reasons)
-        → IsReducing all (settled.items ++ rules.items) start found.old
-        → IsReducing all left.items start found.new) }
+    ensures reducing { IfOk result (λ left.
+        IsReducing rules.items left.items findings.old.found findings.new.found) }
+    ensures stays { OnOk result (findings.new.stays ≡ findings.old.stays) }
 {
     let mut rest = by_rank(rules);
-    let mut kept = settled;
+    let mut kept = Vec::new(alloc);
     while let Some(rule) = rest.pop() {
-        match reason_to_go(budget, stays, &[], &kept, &rest, &rule) {
-            Some(reason) => {
-                found.insert(rule.line(), reason)?;
+        match outcome_of(alloc, budget, &findings.stays, &kept, &rest, &rule)? {
+            Outcome::Goes(reason) => {
+                findings.found.insert(rule.line, reason)?;
             }
-            None => kept.push(rule)?,
+            Outcome::Stays => kept.push(rule)?,
+            Outcome::Undecided => {
+                findings.undecided.insert(rule.line)?;
+                kept.push(rule)?;
+                kept.append(&mut rest)?;
+                return Ok(kept);
+            }
         }
     }
     Ok(kept)
+}
+
+/// Finds the needless ones of a crawler's rules. The lines of the others stay.
+pub(crate) fn settle(
+    alloc: Global,
+    budget: &mut usize,
+    rules: Vec<Rule>,
+    findings: &mut Findings,
+) -> Result<(), AllocError>
+    ensures settled { OnOk result (IsSettled rules.items findings.new.found findings.new.stays) }
+    ensures grow { OnOk result (Grow (IsFound rules.items) findings.old.found findings.new.found) }
+    ensures more { OnOk result (HasAll findings.new.stays findings.old.stays) }
+{
+    let left = reduced(alloc, budget, rules, findings)?;
+    add_lines(&mut findings.stays, left.as_slice())?;
+    Ok(())
 }

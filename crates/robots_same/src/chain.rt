@@ -100,17 +100,16 @@ pub(crate) fn compare_by_steps(
     alloc: Global,
     pool: &[Entry<'_>],
     front: &[u8],
-    budget: usize,
+    budget: &mut usize,
 ) -> Result<Comparison, AllocError>
     ensures { IfOk result (IsAnswer front.now pool.now) }
 {
-    let mut left = budget;
-    match compare_joined(alloc, pool, front, false, &mut left)? {
+    match compare_joined(alloc, pool, front, false, budget)? {
         Comparison::Same => {}
         Comparison::Differ(text) => return tried(alloc, pool, front, text),
         Comparison::Undecided => return Ok(Comparison::Undecided),
     }
-    match compare_joined(alloc, pool, front, true, &mut left)? {
+    match compare_joined(alloc, pool, front, true, budget)? {
         Comparison::Same => Ok(Comparison::Same),
         Comparison::Differ(text) => tried(alloc, pool, front, text),
         Comparison::Undecided => Ok(Comparison::Undecided),

@@ -10,6 +10,7 @@ use crate::item::Item;
 use crate::pool::Entry;
 use crate::refine::{compare_pool, refined};
 use crate::rule::{Rule, rules_of};
+use crate::search::spend;
 use std::alloc::{AllocError, Global};
 use std::cmp::Ordering;
 use texting_robots::site::Site;
@@ -68,7 +69,7 @@ fn is_ascending(items: &[Item<'_>]) -> bool
 
 /// The lowest first.
 fn sorted(alloc: Global, rules: &[Rule]) -> Result<Vec<Item<'_>>, AllocError>
-    ensures { IfOk result (λ items. AreAscending items.items → Decide rules.now items.items) }
+    ensures { IfOk result (λ items. AreAscending items.items → Decide (unplaced rules.now) items.items) }
 {
     let mut items = Vec::new(alloc);
     for rule in rules {
@@ -168,59 +169,62 @@ fn are_few(pool: &[Entry<'_>]) -> bool {
     true
 }
 
-fn compare_at_once(
+/// With all rules of each list at once, or by way of both lists together.
+fn compare_one_way(
     alloc: Global,
     pool: &[Entry<'_>],
     front: &[u8],
-    budget: usize,
+    at_once: bool,
+    budget: &mut usize,
 ) -> Result<Comparison, AllocError>
     ensures { IfOk result (IsAnswer front.now pool.now) }
 {
-    let copy = refined(alloc, pool, 0, b"", 0)?;
-    let mut left = budget;
-    let answer = compare_pool(alloc, copy, front, &mut left)?;
+    if at_once {
+        let copy = refined(alloc, pool, 0, b"", 0)?;
+        let answer = compare_pool(alloc, copy, front, budget)?;
+        return Ok(answer);
+    }
+    let answer = compare_by_steps(alloc, pool, front, budget)?;
     Ok(answer)
 }
 
-/// With all rules of each list at once, and if that is undecided, by way of both lists together; or in the
-/// other order.
+/// In one of the two ways, and if that is undecided, in the other one.
 fn compare_twice(
     alloc: Global,
     pool: &[Entry<'_>],
     front: &[u8],
-    budget: usize,
+    budget: &mut usize,
 ) -> Result<Comparison, AllocError>
     ensures { IfOk result (IsAnswer front.now pool.now) }
 {
-    if are_few(pool) {
-        let first = compare_at_once(alloc, pool, front, budget / 2)?;
-        match first {
-            Comparison::Undecided => {}
-            answer => return Ok(answer),
-        }
-        let second = compare_by_steps(alloc, pool, front, budget / 2)?;
-        return Ok(second);
-    }
-    let first = compare_by_steps(alloc, pool, front, budget / 2)?;
+    let at_once = are_few(pool);
+    let half = *budget / 2;
+    let mut left = half;
+    let first = compare_one_way(alloc, pool, front, at_once, &mut left)?;
+    *budget = budget.saturating_sub(half.saturating_sub(left));
     match first {
         Comparison::Undecided => {}
         answer => return Ok(answer),
     }
-    let second = compare_at_once(alloc, pool, front, budget / 2)?;
+    let second = compare_one_way(alloc, pool, front, !at_once, budget)?;
     Ok(second)
 }
 
 /// Compares them on the texts that begin with `front`: `/` for paths, or nothing for all texts. The budget is
-/// a rough bound of the search, in rules that are moved on by a byte; a check afterwards takes as long again.
+/// a rough bound of the search, in rules that are moved on by a byte, of which what was used is subtracted; a
+/// check afterwards takes as long again.
 pub fn compare<'a>(
     alloc: Global,
     front: &[u8],
     old: &'a [Rule],
     new: &'a [Rule],
-    budget: usize,
+    budget: &mut usize,
 ) -> Result<Comparison, AllocError>
-    ensures { IfOk result (IsComparison front.now old.now new.now) }
+    ensures { IfOk result (IsComparison front.now (unplaced old.now) (unplaced new.now)) }
 {
+    if !spend(budget, old.len().saturating_add(new.len())) {
+        return Ok(Comparison::Undecided);
+    }
     let old_items = sorted(alloc, old)?;
     let new_items = sorted(alloc, new)?;
     if !is_ascending(old_items.as_slice()) {
@@ -243,7 +247,7 @@ pub fn compare_sites(
     old: &Site,
     new: &Site,
     agent: &str,
-    budget: usize,
+    budget: &mut usize,
 ) -> Result<Comparison, AllocError>
     ensures { IfOk result (IsComparison (codes "/") (unplaced (placed_rules agent.now (file_lines old.now)))
         (unplaced (placed_rules agent.now (file_lines new.now)))) }

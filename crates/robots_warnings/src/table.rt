@@ -115,11 +115,12 @@ pub enum Cause {
     MatchesNothing,
     AllowedAnyway,
     NotNeeded,
+    NeedlessUndecided,
 }
 
 /// The warnings with their levels and names.
 #[rattlefmt::skip]
-pub static WARNINGS: [(Cause, Level, &str); 85] = [
+pub static WARNINGS: [(Cause, Level, &str); 86] = [
     (Cause::LooksLikeHtml, Level::Error, "looks-like-html"),
     (Cause::LooksLikeUtf16, Level::Error, "looks-like-utf-16"),
     (Cause::NoDirectives, Level::Error, "no-directives"),
@@ -205,6 +206,7 @@ pub static WARNINGS: [(Cause, Level, &str); 85] = [
     (Cause::MatchesNothing, Level::Note, "needless-rule"),
     (Cause::AllowedAnyway, Level::Note, "needless-rule"),
     (Cause::NotNeeded, Level::Note, "needless-rule"),
+    (Cause::NeedlessUndecided, Level::Note, "needless-undecided"),
 ];
 
 type Row = (Cause, Level, &'static str);

@@ -3,7 +3,7 @@ use crate::table::Cause;
 
 /// In the order of [`WARNINGS`](crate::table::WARNINGS).
 #[rattlefmt::skip]
-pub(crate) static MESSAGES: [(Cause, &str); 85] = [
+pub(crate) static MESSAGES: [(Cause, &str); 86] = [
     (Cause::LooksLikeHtml,
         "no usable line found; the text starts with <, so it may be an HTML page; serve a plain-text robots.txt instead"),
     (Cause::LooksLikeUtf16,
@@ -174,13 +174,15 @@ pub(crate) static MESSAGES: [(Cause, &str); 85] = [
         "this rule isn't needed: if all needless rules are deleted, what it allows stays allowed; delete it together with the others, or correct it"),
     (Cause::NotNeeded,
         "this rule isn't needed: if all needless rules are deleted, the verdicts stay the same; at least one crawler also gets another one of its kind, which matches everything that it matches; delete it together with the others, or correct it"),
+    (Cause::NeedlessUndecided,
+        "whether this rule can be deleted isn't decided, nor whether some others of its crawler can, as there are too many rules, or too many *"),
 ];
 
 /// In this order, too: a file that triggers the warning in a report on all crawlers, or as robots.txt in the
 /// command in its first line, or a command. In a file, `\xFF` is a byte, and `\{512000 a}` is 512,000 times
 /// an `a`.
 #[rattlefmt::skip]
-pub(crate) static EXAMPLES: [(Cause, &str); 85] = [
+pub(crate) static EXAMPLES: [(Cause, &str); 86] = [
     (Cause::LooksLikeHtml, "<html>\n</html>"),
     (Cause::LooksLikeUtf16, "\\xFF\\xFED\\x00"),
     (Cause::NoDirectives, "hello\nworld"),
@@ -266,4 +268,5 @@ pub(crate) static EXAMPLES: [(Cause, &str); 85] = [
     (Cause::MatchesNothing, "# robots_audit robots.txt --needless\nUser-agent: *\nDisallow: /a\nDisallow: /$b"),
     (Cause::AllowedAnyway, "# robots_audit robots.txt --needless\nUser-agent: *\nDisallow: /a\nAllow: /b"),
     (Cause::NotNeeded, "# robots_audit robots.txt --needless\nUser-agent: *\nDisallow: /a\nDisallow: /ab"),
+    (Cause::NeedlessUndecided, "# robots_audit robots.txt --needless\nUser-agent: *\nDisallow: /\\{2000 a*}b"),
 ];

@@ -34,7 +34,7 @@ fn site_of(rt: &(impl Abort + AllocGlobal), file: &str) -> Site {
 
 fn check_files(rt: &(impl Abort + AllocGlobal), old: &str, new: &str, same: bool) {
     let (old_site, new_site) = (site_of(rt, old), site_of(rt, new));
-    match compare_sites(rt.alloc(), &old_site, &new_site, BOB, 100_000).expect(rt, old) {
+    match compare_sites(rt.alloc(), &old_site, &new_site, BOB, &mut 100_000).expect(rt, old) {
         Comparison::Same => check(rt, old, same),
         Comparison::Differ(text) => {
             let text = std::str::from_utf8(text.as_slice()).expect(rt, old);
@@ -50,7 +50,7 @@ fn check_files(rt: &(impl Abort + AllocGlobal), old: &str, new: &str, same: bool
 #[test]
 fn small_budgets_decide_nothing(rt: HostRuntime) {
     let (old, new) = (site_of(&rt, "Disallow: /a"), site_of(&rt, ""));
-    let answer = compare_sites(rt.alloc(), &old, &new, BOB, 0).expect(&rt, "budget");
+    let answer = compare_sites(rt.alloc(), &old, &new, BOB, &mut 0).expect(&rt, "budget");
     check(&rt, "budget", matches!(answer, Comparison::Undecided));
 }
 

@@ -13,7 +13,8 @@ use Rattle.texting_robots.specs.Callers.{file_limit, rules_for, IsFirstOverlong,
 use Rattle.texting_robots.specs.Callers.{Rule}
 use Rattle.texting_robots.specs.Callers.{delay_for, lines_read, unplaced, IsRobotOfFile, RobotValue}
 use Rattle.robots_needless.specs.Blocks.{HaveSameRobot, IsLeftOf}
-use Rattle.robots_needless.specs.Needless.{AreFound, AreNeedless, lines_without, numbers_of}
+use Rattle.robots_needless.specs.Needless.{AreFound, AreNeedless, NeedlessValue, lines_without, nothing}
+use Rattle.robots_needless.specs.Needless.{numbers_of}
 use Rattle.robots_needless.proofs.{LeftLemmas.left_within, LeftLemmas.same_robot}
 use Rattle.robots_needless.proofs.{SettledLemmas.nothing_found}
 use Rattle.audit_core.specs.Audit.{AgentValue, AreOfSitemaps, AuditValue, IsAgentAudit, IsAuditOf, IsRuling}
@@ -55,21 +56,23 @@ alike lines found agent other are has same =
 
 all_read : (requested : RequestValue) (file : List ℕ) (audit : AuditValue)
     (is : IsAuditOf requested file audit)
-    → is.needless ≢ [] → length file ≤ file_limit
+    → is.needless.rules ≢ [] → length file ≤ file_limit
 all_read requested file audit is some =
     ltb-false file_limit (length file)
-    (false_from_ne_true (is_too_large file) (λ large. some (is.too_large large)))
+    (false_from_ne_true (is_too_large file)
+    (λ large. some (ap (λ (needless : NeedlessValue). needless.rules) (is.too_large large))))
 
 pub robot_stays : (requested : RequestValue) (file left : List ℕ) (audit : AuditValue) (agent : List ℕ)
-    → (is : IsAuditOf requested file audit) → is.needless ≢ [] → IsLeftOf (numbers_of is.needless) file left
+    → (is : IsAuditOf requested file audit) → is.needless.rules ≢ []
+    → IsLeftOf (numbers_of is.needless.rules) file left
     → IsUtf8 agent → HaveSameRobot agent (take file_limit file) (take file_limit left)
 robot_stays requested file left audit agent is some deleted utf8 =
     let short = all_read requested file audit is some in
     let whole = take_all file_limit file short in
-    let less = left_within (numbers_of is.needless) file left deleted in
+    let less = left_within (numbers_of is.needless.rules) file left deleted in
     let all_left = take_all file_limit left (omega arith) in
     subst₂ (HaveSameRobot agent) (sym whole) (sym all_left)
-    (same_robot file left is.needless (grind arith) some
+    (same_robot file left is.needless.rules (grind arith) some
     deleted agent utf8)
 
 zip_once : {A B : Type 0} (R : A → B → Type 0) → ((x : A) (y z : B) → R x y → R x z → y ≡ z)
@@ -244,11 +247,11 @@ some_audit requested file =
       record {
         labels = labels;
         agents = agents;
-        warnings = warnings_requested requested file labels [] sitemaps;
+        warnings = warnings_requested requested file labels nothing sitemaps;
         syntax = conformance_of file;
       },
       record {
-        needless = [];
+        needless = nothing;
         needless_are = nothing_found (take file_limit file) [] refl;
         unrequested = λ off. refl;
         too_large = λ large. refl;

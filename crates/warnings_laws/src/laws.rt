@@ -57,12 +57,14 @@ pub fn needless_lines_decide_nothing()
         → (agent name : List ℕ) → Contains (codes "*" ∷ agents_in (lines_read file)) name
         → str_to_ascii_lowercase agent ≡ str_to_ascii_lowercase name → (text : List ℕ) (answer : Bool)
         → IsVerdict (rules_for agent (lines_read file)) text answer
-        ↔ IsVerdict (rules_for agent (lines_without (numbers_of is.needless) (lines_read file))) text answer }
+        ↔ IsVerdict (rules_for agent (lines_without (numbers_of is.needless.rules) (lines_read file)))
+        text answer }
     ensures others { (requested : RequestValue) (file : List ℕ) (audit : AuditValue)
         → (is : IsAuditOf requested file audit)
         → (agent : List ℕ) → is_named agent (lines_read file) ≡ false → (text : List ℕ) (answer : Bool)
         → IsVerdict (rules_for agent (lines_read file)) text answer
-        ↔ IsVerdict (rules_for agent (lines_without (numbers_of is.needless) (lines_read file))) text answer }
+        ↔ IsVerdict (rules_for agent (lines_without (numbers_of is.needless.rules) (lines_read file)))
+        text answer }
 {}
 
 /// If exactly these lines are deleted from the file, with their line ends, `Robot::new` gives each crawler
@@ -70,8 +72,8 @@ pub fn needless_lines_decide_nothing()
 /// mark that the file begins with may stay, or be deleted too.
 pub fn needless_lines_can_be_deleted()
     ensures { (requested : RequestValue) (file left : List ℕ) (audit : AuditValue) (agent : List ℕ)
-        → (is : IsAuditOf requested file audit) → is.needless ≢ []
-        → IsLeftOf (numbers_of is.needless) file left
+        → (is : IsAuditOf requested file audit) → is.needless.rules ≢ []
+        → IsLeftOf (numbers_of is.needless.rules) file left
         → IsUtf8 agent → HaveSameRobot agent (take file_limit file) (take file_limit left) }
 {}
 

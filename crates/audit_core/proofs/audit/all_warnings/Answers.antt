@@ -2,7 +2,7 @@ use Rattle.std.proofs.Common.{Bool, None, Option, Some, ap, false, is_none, is_s
 use Rattle.std.proofs.Common.{option_map, refl, sym, true, ◌≡◌, ◌++◌, ◌∙◌}
 use Rattle.std.proofs.lemmas.Bool.{false≢true}
 use Rattle.texting_robots.specs.Callers.{file_lines, label_by_value}
-use Rattle.audit_core.specs.{Needless.needless_warning, Request.requested_by}
+use Rattle.audit_core.specs.{Needless.needless_warnings, Request.requested_by}
 use Rattle.robots_warnings.specs.Warnings.{warnings}
 use Rattle.audit_core.proofs.audit.all_warnings.Goals as goal
 
@@ -27,5 +27,5 @@ returns-clause-ok c =
     ∙ ap (λ everywhere. warnings everywhere given asked.urls read.bytes.now read.facts labels lines)
     (mapped (λ agent. agent.now) c.args.request.now.agent _ c.is_none-everywhere.ensures) in
     let all = c.in_ok-add_needless.ensures
-    ∙ ap (λ found. found ++ map needless_warning c.args.needless.now) found in
+    ∙ ap (λ found. found ++ needless_warnings c.args.needless.now) found in
     (sitemaps, are, added ∙ ap (λ found. found ++ sitemaps) all)

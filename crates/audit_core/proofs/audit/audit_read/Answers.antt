@@ -11,13 +11,12 @@ returns-clause-ok c =
     let all = rw (
       c.deref-5.ensures.value,
       names,
-      c.deref-6.ensures.value,
       read.facts_are,
       labels,
       read.site_is,
     ) at found in
     record {
-      needless = c.in_ok-needless.needless.items;
+      needless = c.in_ok-needless.needless;
       needless_are = rw read.site_is at c.in_ok-needless.ensures.found;
       unrequested = c.in_ok-needless.ensures.unrequested;
       too_large = λ large. c.in_ok-needless.ensures.too_large
@@ -26,6 +25,6 @@ returns-clause-ok c =
       sitemaps_are = rw labels at are;
       labels_are = labels;
       agents_are = rw (c.deref-3.ensures.value, names, c.deref-4.ensures.value) at c.in_ok-agents.ensures.ok;
-      warnings_are = rw (c.deref-7.ensures.value, c.deref-8.ensures.value, all) at c.choose.ensures;
+      warnings_are = rw (c.deref-6.ensures.value, c.deref-7.ensures.value, all) at c.choose.ensures;
       syntax_is = c.in_ok-syntax.ensures;
     }

@@ -7,5 +7,4 @@ returns c = record {
   between = lemma.between;
   two_of_three = lemma.two_of_three;
   covering = lemma.covering;
-  apart = lemma.apart;
 }

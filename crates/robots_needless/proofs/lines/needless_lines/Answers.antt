@@ -1,5 +1,6 @@
+use Rattle.std.proofs.Common.{[], refl}
 use Rattle.robots_needless.proofs.SettledLemmas.{nothing_found}
 use Rattle.robots_needless.proofs.lines.needless_lines.Goals as goal
 
-pub returns-in-Err-InvalidRule : goal.returns-in-Err-InvalidRule
-returns-in-Err-InvalidRule c = nothing_found c.args.site.now _ c.new.ensures.items
+pub returns-in-Err-Overlong : goal.returns-in-Err-Overlong
+returns-in-Err-Overlong c = rw c.nothing.ensures (nothing_found c.args.site.now [] refl)
