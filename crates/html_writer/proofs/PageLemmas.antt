@@ -1,29 +1,24 @@
 -- A page that is written piece by piece: each piece is read as it was written, and is printable.
-use Rattle.std.specs.Prelude.{nat_eq, not, ◌&&◌, ◌||◌}
+use Rattle.std.specs.Prelude.{not, ◌&&◌}
 use Rattle.std.proofs.Common.{ℕ, ◌+◌, ◌<◌, ◌++◌, Bool, true, false, List, [], ◌∷◌, ◌≡◌, arith, codes}
 use Rattle.std.proofs.Common.{flat_map}
-use Rattle.std.proofs.Common.{append-nil, append_assoc, ap, ap₂, get_or, length, map, refl, reverse, drop}
+use Rattle.std.proofs.Common.{append-nil, append_assoc, ap, ap₂, length, map, refl, reverse}
 use Rattle.std.proofs.Common.{slice_index_or, subst, sym, take, ◌∙◌}
 use Rattle.std.specs.{Bool.IsTrue, List.AllByRecursion as Each, List.list_all, List.list_any, Str.bytes_eq}
-use Rattle.std.specs.{Str.chars}
-use Rattle.std.proofs.lemmas.{Bool.and_parts, Bool.not-true, Str.encodes-chars}
-use Rattle.std.proofs.lemmas.{Grind.flat_map-append, List.Folds.list_all-append}
+use Rattle.std.proofs.lemmas.{Bool.and_parts, Bool.not-true}
+use Rattle.std.proofs.lemmas.{Grind.flat_map-append}
 use Rattle.std.proofs.lemmas.List.{map-append, reverse-append, take_more}
-use Rattle.std.proofs.lemmas.Bool.Decides.{nat_tests}
-use Rattle.std.proofs.lemmas.List.Sums.{AllPass-from_list_all, list_all-from_AllPass}
-use Rattle.printable_text.specs.Sanitize.{IsPrintable, IsPrintableIn, has_command, is_printable}
-use Rattle.printable_text.specs.Sanitize.{is_printable_byte, sanitized}
-use Rattle.printable_text.proofs.SanitizeLemmas.{append_printable, ascii_printable, chars_pass}
+use Rattle.printable_text.specs.Sanitize.{IsPrintable, IsPrintableIn}
+use Rattle.printable_text.specs.Sanitize.{sanitized}
 use Rattle.printable_text.proofs.SanitizeLemmas.{line_printable, sanitized_in_printable}
-use Rattle.printable_text.proofs.{EscapeLemmas.escaped_printable}
 use Rattle.html_writer.specs.Html.{AreAttributes, Attribute, IsContent, IsText, doctype, is_css}
 use Rattle.html_writer.specs.Html.{style, style_bytes, written, attribute_bytes, end_tag}
-use Rattle.html_writer.specs.Html.{escaped, escaped_byte, attribute, has_attribute, is_character, is_letter}
-use Rattle.html_writer.specs.Html.{is_name, is_no_bracket}
-use Rattle.html_writer.specs.Html.{is_name_byte, is_ordinary, is_title, is_style, start_tag, tag_close}
+use Rattle.html_writer.specs.Html.{escaped, attribute, has_attribute}
+use Rattle.html_writer.specs.Html.{is_name}
+use Rattle.html_writer.specs.Html.{is_ordinary, is_title, is_style, start_tag, tag_close}
 use Rattle.html_writer.specs.Html.{tag_open, text}
 use Rattle.html_writer.specs.Html.{void, void_close, void_names, void_tag, is_among}
-use Rattle.html_writer.specs.Reader.{Opened, Reader, State, finished, data_state, has_elements}
+use Rattle.html_writer.specs.Reader.{Opened, Reader, State, data_state, has_elements}
 use Rattle.html_writer.specs.Reader.{has_references}
 use Rattle.html_writer.specs.Reader.{kind_of, new_tag, reader, run}
 use Rattle.html_writer.specs.Page.{AddsAttributes, AddsTag, HasVoid, IsOpen, Opens, are_names}
@@ -32,7 +27,7 @@ use Rattle.std.specs.{Borrow.Bor}
 use Rattle.html_writer.specs.Page.{AddsStart, AddsVoid, IsSomePage, names_in, names_of, title}
 use Rattle.html_writer.specs.Page.{closed_in, followed_by, is_tag, is_void, name_in, so_far}
 use Rattle.html_writer.proofs.WritingLemmas.{Reads, attributes_weaker, content_read, style_read, end_read}
-use Rattle.html_writer.proofs.WritingLemmas.{each_form, escaped-is, kind_inside, start_read, text_read}
+use Rattle.html_writer.proofs.WritingLemmas.{kind_inside, start_read, text_read}
 use Rattle.html_writer.proofs.WritingLemmas.{void_read}
 use Rattle.html_writer.proofs.SafeLemmas.{ascii_safe, attributes_safe, both_safe, bracketless_quiet}
 use Rattle.html_writer.proofs.SafeLemmas.{close_safe, end_safe, name_safe, open_safe, printable_text}
@@ -165,7 +160,11 @@ module _ (names : List (List ℕ)) (old new : List ℕ) (is : IsOpen names old) 
     whole : (end : List ℕ) → new ≡ mid ++ end
         → new ≡ old ++ (tag_open name ++ (flat_map attribute_bytes attributes ++ end))
     whole end added =
-        cc (append_assoc old (tag_open name ++ flat_map attribute_bytes attributes) end, append_assoc (tag_open name) (flat_map attribute_bytes attributes) end)
+        cc (
+          append_assoc old (tag_open name ++ flat_map attribute_bytes attributes) end,
+          append_assoc
+              (tag_open name) (flat_map attribute_bytes attributes) end,
+        )
 
     tag_safe : IsTrue (is_name name) → (end : List ℕ) → IsSafe end → new ≡ mid ++ end
         → IsSafe new
@@ -275,7 +274,10 @@ pub text_written : (names : List (List ℕ)) (old new front line bytes : List �
     → front ≡ [] → line ≡ front ++ sanitized bytes → new ≡ old ++ escaped line
     → so_far new ≡ followed_by (text (sanitized bytes)) (so_far old)
 text_written names old new front line bytes is none line_is added =
-    cc (text_is names old new is line (sanitized_line front line bytes none line_is) added, cleared_line front line bytes none line_is)
+    cc (
+      text_is names old new is line (sanitized_line front line bytes none line_is) added,
+      cleared_line front line bytes none line_is,
+    )
 
 pub element_begun : (names labels : List (List ℕ)) (name old new : List ℕ) → IsOpen names old
     → is_tag name ≡ true → are_names [] labels ≡ true → AddsStart name labels old new
@@ -342,7 +344,13 @@ adds_more names name value old mid new adds plain added = record {
   attributes = adds.attributes ++ attribute name value ∷ [];
   named = grind (arith, line_printable, map-append, each_last);
   added =
-      cc (append_assoc old (flat_map attribute_bytes adds.attributes) (attribute_bytes (attribute name value)), flat_map-append attribute_bytes adds.attributes (attribute name value ∷ []), append-nil (attribute_bytes (attribute name value)));
+      cc (
+        append_assoc old (flat_map attribute_bytes adds.attributes) (attribute_bytes
+            (attribute name value)),
+        flat_map-append attribute_bytes adds.attributes
+            (attribute name value ∷ []),
+        append-nil (attribute_bytes (attribute name value)),
+      );
 }
   where
     each_last : (attributes : List Attribute) (a : Attribute)

@@ -1,39 +1,28 @@
 -- The pieces of a page are printable, and no command is in them.
-use Rattle.std.specs.Prelude.{nat_eq, not, ◌&&◌, ◌||◌}
+use Rattle.std.specs.Prelude.{not, ◌&&◌, ◌||◌}
 use Rattle.std.proofs.Common.{ℕ, ◌+◌, ◌<◌, ◌++◌, Bool, true, false, List, [], ◌∷◌, ◌≡◌, arith, codes}
 use Rattle.std.proofs.Common.{flat_map}
-use Rattle.std.proofs.Common.{append-nil, append_assoc, ap, ap₂, get_or, length, map, refl, reverse, drop}
-use Rattle.std.proofs.Common.{slice_index_or, subst, sym, take, ◌∙◌}
-use Rattle.std.specs.{Bool.IsTrue, List.AllByRecursion as Each, List.list_all, List.list_any, Str.bytes_eq}
+use Rattle.std.proofs.Common.{ap, refl}
+use Rattle.std.proofs.Common.{subst}
+use Rattle.std.specs.{Bool.IsTrue, List.list_all}
 use Rattle.std.specs.{Str.chars}
-use Rattle.std.proofs.lemmas.{Bool.and_parts, Bool.not-true, Str.encodes-chars}
-use Rattle.std.proofs.lemmas.{Grind.flat_map-append, List.Folds.list_all-append}
-use Rattle.std.proofs.lemmas.List.{map-append, reverse-append, take_more}
+use Rattle.std.proofs.lemmas.{Bool.and_parts, Str.encodes-chars}
+use Rattle.std.proofs.lemmas.{List.Folds.list_all-append}
 use Rattle.std.proofs.lemmas.Bool.Decides.{nat_tests}
 use Rattle.std.proofs.lemmas.List.Sums.{AllPass-from_list_all, list_all-from_AllPass}
-use Rattle.printable_text.specs.Sanitize.{IsPrintable, IsPrintableIn, has_command, is_printable}
-use Rattle.printable_text.specs.Sanitize.{is_printable_byte, sanitized}
+use Rattle.printable_text.specs.Sanitize.{IsPrintable, has_command, is_printable}
+use Rattle.printable_text.specs.Sanitize.{is_printable_byte}
 use Rattle.printable_text.proofs.SanitizeLemmas.{append_printable, ascii_printable, chars_pass}
-use Rattle.printable_text.proofs.SanitizeLemmas.{line_printable, sanitized_in_printable}
 use Rattle.printable_text.proofs.{EscapeLemmas.escaped_printable}
-use Rattle.html_writer.specs.Html.{AreAttributes, Attribute, IsContent, IsText, doctype, is_css}
-use Rattle.html_writer.specs.Html.{style, style_bytes, written, attribute_bytes, end_tag}
-use Rattle.html_writer.specs.Html.{escaped, escaped_byte, attribute, has_attribute, is_character, is_letter}
+use Rattle.html_writer.specs.Html.{AreAttributes, Attribute, IsText}
+use Rattle.html_writer.specs.Html.{style, style_bytes, attribute_bytes, end_tag}
+use Rattle.html_writer.specs.Html.{escaped, escaped_byte, is_character, is_letter}
 use Rattle.html_writer.specs.Html.{is_name, is_no_bracket}
-use Rattle.html_writer.specs.Html.{is_name_byte, is_ordinary, is_title, is_style, start_tag, tag_close}
-use Rattle.html_writer.specs.Html.{tag_open, text}
-use Rattle.html_writer.specs.Html.{void, void_close, void_names, void_tag, is_among}
-use Rattle.html_writer.specs.Reader.{Opened, Reader, State, finished, data_state, has_elements}
-use Rattle.html_writer.specs.Reader.{has_references}
-use Rattle.html_writer.specs.Reader.{kind_of, new_tag, reader, run}
-use Rattle.html_writer.specs.Page.{AddsAttributes, AddsTag, HasVoid, IsOpen, Opens, are_names}
-use Rattle.html_writer.specs.Page.{IsSafe, closed, is_safe_byte}
-use Rattle.std.specs.{Borrow.Bor}
-use Rattle.html_writer.specs.Page.{AddsStart, AddsVoid, IsSomePage, names_in, names_of, title}
-use Rattle.html_writer.specs.Page.{closed_in, followed_by, is_tag, is_void, name_in, so_far}
-use Rattle.html_writer.proofs.WritingLemmas.{Reads, attributes_weaker, content_read, style_read, end_read}
-use Rattle.html_writer.proofs.WritingLemmas.{each_form, escaped-is, kind_inside, start_read, text_read}
-use Rattle.html_writer.proofs.WritingLemmas.{void_read}
+use Rattle.html_writer.specs.Html.{is_name_byte, tag_close}
+use Rattle.html_writer.specs.Html.{tag_open}
+use Rattle.html_writer.specs.Html.{void_close}
+use Rattle.html_writer.specs.Page.{IsSafe, is_safe_byte}
+use Rattle.html_writer.proofs.WritingLemmas.{each_form, escaped-is}
 
 is_kept : (char : ℕ) → is_printable true char ≡ true → is_character char ≡ true
 is_kept char plain = grind (arith, nat_tests)

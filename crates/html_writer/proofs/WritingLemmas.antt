@@ -12,10 +12,10 @@ use Rattle.html_writer.specs.Html.{IsText, attribute, attribute_bytes, has_attri
 use Rattle.html_writer.specs.Html.{is_character, is_css, is_letter, is_name, is_name_byte, is_ordinary}
 use Rattle.html_writer.specs.Html.{is_style, is_text, is_written_as_is, void_names}
 use Rattle.std.proofs.lemmas.List.{append-nil, Concat.flat_map_single}
-use Rattle.html_writer.specs.Reader.{Kind, Opened, Reader, Tag, after_attribute_value, any_content}
+use Rattle.html_writer.specs.Reader.{Opened, Reader, Tag, after_attribute_value, any_content}
 use Rattle.html_writer.specs.Reader.{attribute_name, attribute_value, data_state}
 use Rattle.html_writer.specs.Reader.{end_tag_name, has_elements, has_references, kind_in, kind_of, new_tag}
-use Rattle.html_writer.specs.Reader.{only_text, raw_text, reader, run, tag_name}
+use Rattle.html_writer.specs.Reader.{only_text, reader, run, tag_name}
 use Rattle.html_writer.specs.Html as html
 
 -- ---- Escaping.
@@ -239,7 +239,8 @@ module _ (opened : List Opened) where
       (grind arith)
       (grind arith)) last
 
-  pub style_read : (content : Html) (css : List ℕ) → has_elements (kind_of opened) ≡ true → IsTrue (is_css css)
+  pub style_read : (content : Html) (css : List ℕ) → has_elements (kind_of opened) ≡ true → IsTrue
+      (is_css css)
       → Reads (reading content) (html.style_bytes css) (reading (content ⊕ style [] css (text [])))
   unfolding html.style_bytes
   style_read content css has are =
