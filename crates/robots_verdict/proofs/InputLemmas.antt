@@ -1,13 +1,13 @@
 -- Inputs: how they are split line by line.
-use Rattle.std.proofs.Common.{◌≡◌, ◌≢◌, ℕ, zero, suc, ◌+◌, ◌<◌, ◌==◌, true, false, inl, inr, List, [], ◌∷◌}
-use Rattle.std.proofs.Common.{◌++◌, ◌∙◌, Option, Some, None, Bor, IfErr, Result, Ok, Err, length, map, subst, sym, refl}
-use Rattle.std.proofs.Common.{◌&&◌, Bool, ap, arith, append_assoc, drop, if◌then◌else◌, slice_index_or, take}
+use Rattle.std.proofs.Common.{◌≡◌, ◌≢◌, ℕ, zero, suc, ◌+◌, ◌<◌, ◌==◌, true, false, List, [], ◌∷◌}
+use Rattle.std.proofs.Common.{◌++◌, ◌∙◌, Option, Some, None, Bor, IfErr, Result, Ok, Err, length, map, refl}
+use Rattle.std.proofs.Common.{◌&&◌, Bool, arith, append_assoc, drop, if◌then◌else◌, slice_index_or, take}
 use Rattle.std.specs.{Io.BufRead.strip_last, List.list_all, Str.is_utf8, Option.IsSomeAnd, Option.option_map, Result.IsErrAnd}
 use Rattle.std.proofs.lemmas.{Bool.cases_Bool, Bool.ne_eqb, List.append-nil, List.drop_more}
 use Rattle.printable_text.specs.{Lines.lf}
 use Rattle.robots_verdict.specs.declared.fault.Fault.{Fault}
 use Rattle.robots_verdict.specs.declared.fault.Fault.TheVariants.{HeaderNotUtf8, Memory}
-use Rattle.robots_verdict.specs.Input.{Input, after_agent, cr, input_of, line_from, split, urls_from, with_url}
+use Rattle.robots_verdict.specs.Input.{Input, cr, input_of, line_from, split, urls_from, with_url}
 use Rattle.robots_verdict.specs.Internal.{IsFirstLf, IsOneLine}
 
 pub line_found : (line input : List ℕ) (place : ℕ) → IsFirstLf input place
@@ -78,7 +78,8 @@ abbrev pub all_utf8 : List (Bor (List ℕ)) → Bool
 all_utf8 texts = list_all is_utf8 (map (λ text. text.now) texts)
 
 utf8_at : (texts : List (Bor (List ℕ))) (i : ℕ) (d : Bor (List ℕ)) (b : Bool) → i < length texts
-    → is_utf8 (slice_index_or texts i d).now ≡ b → all_utf8 (drop i texts) ≡ (b && all_utf8 (drop (i + 1) texts))
+    → is_utf8 (slice_index_or texts i d).now ≡ b → all_utf8 (drop i texts) ≡ (b && all_utf8 (drop
+    (i + 1) texts))
 utf8_at texts i d b below is = grind (arith, drop_more)
 
 pub utf8_next : (texts : List (Bor (List ℕ))) (i : ℕ) (d : Bor (List ℕ))

@@ -1,6 +1,6 @@
 -- How a report is built, and that an input has at most one.
 use Rattle.std.proofs.Common.{arith}
-use Rattle.std.proofs.Common.{◌≡◌, ◌≢◌, ◌⊎◌, ℕ, Bool, true, false, List, [], ◌∷◌, ◌++◌, Option, Some, None}
+use Rattle.std.proofs.Common.{◌≡◌, ◌≢◌, ℕ, Bool, true, false, List, [], ◌∷◌, ◌++◌, Option, Some, None}
 use Rattle.std.proofs.Common.{IfErr, IfSome, MatchBool, Result, Ok, Err, ap, inl, inr, map, refl, subst, sym, ◌∙◌}
 use Rattle.std.proofs.lemmas.Bool.{cases_Bool, false≢true}
 use Rattle.std.specs.{Result.IsErrAnd}
@@ -66,7 +66,8 @@ report_once : (parts : Option Input) (report other : Result (List ℕ) Fault) �
     → IsReportOn parts other → report ≡ other
 report_once None report other one two = one ∙ sym two
 report_once (Some input) report other one two =
-    match_once (are_utf8 input) (IsReportOnUtf8 input) (λ (report : Result (List ℕ) Fault). report ≡ Err HeaderNotUtf8)
+    match_once (are_utf8 input) (IsReportOnUtf8 input) (λ (report : Result
+    (List ℕ) Fault). report ≡ Err HeaderNotUtf8)
     (read_once input) (λ x y p q. p ∙ sym q) report other one two
 
 pub one_report : (input : List ℕ) (report other : Result (List ℕ) Fault) → IsReport input report
@@ -80,7 +81,8 @@ rejected_or_not input =
     let decides = any_overlong_decides (rules_for input.agent lines) in
     elim (cases_Bool _) [
       | inl some ↦ inl (lines, lines_are_read input.file, is.1 (decides.0 some))
-      | inr none ↦ inr (λ rejected. false≢true (cc (decides.1 (is.0 (read_rejected input.agent input.file rejected)))))
+      | inr none ↦ inr (λ rejected. false≢true (cc (decides.1 (is.0
+          (read_rejected input.agent input.file rejected)))))
     ]
 
 text_of_report : (input : Input) → (text : List ℕ) × IsReportText input text

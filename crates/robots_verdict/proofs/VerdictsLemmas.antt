@@ -2,7 +2,7 @@
 -- alike have the same lines.
 use Rattle.std.proofs.Common.{arith}
 use Rattle.std.proofs.Common.{◌≡◌, ℕ, ◌+◌, ◌<◌, List, [], ◌∷◌, ◌++◌, length, map, take, append_assoc, refl}
-use Rattle.std.proofs.Common.{slice_index_or, sym, ap, ◌∙◌}
+use Rattle.std.proofs.Common.{slice_index_or}
 use Rattle.std.specs.{List.AllZip}
 use Rattle.std.proofs.lemmas.List.{append-nil, map-append, take_more, Elements.AllZip-push}
 use Rattle.texting_robots.specs.Callers.{AnswerAlike, PlacedRule, prepared, unplaced}

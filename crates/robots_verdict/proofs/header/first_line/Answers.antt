@@ -1,6 +1,5 @@
 use Rattle.std.proofs.Common.{◌+◌, ◌-◌, ◌≡◌, add-one, arith, drop, length, sym, take}
 use Rattle.std.proofs.lemmas.List.{length-drop, take_all}
-use Rattle.robots_verdict.specs.Internal.{IsFirstLf}
 use Rattle.robots_verdict.proofs.InputLemmas.{line_found, line_none}
 use Rattle.robots_verdict.proofs.header.first_line.Goals as goal
 

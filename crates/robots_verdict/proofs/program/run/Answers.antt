@@ -1,5 +1,4 @@
 use Rattle.std.proofs.Common.{arith}
-use Rattle.std.proofs.Common.{Err, ap}
 use Rattle.std.specs.Io.KnownBytes.{Appends}
 use Rattle.robots_io.specs.Streams.{AppendsBeginning}
 use Rattle.robots_verdict.proofs.ReportLemmas.{run_fault, run_memory, run_unread, run_wrote}

@@ -1,6 +1,6 @@
 use Rattle.std.proofs.Common.{arith}
-use Rattle.std.proofs.Common.{◌≡◌, ◌++◌, ◌∷◌, [], ℕ, List, ap, inr, map, refl, string_bytes, take, ◌∙◌}
-use Rattle.texting_robots.specs.Robot.{RobotValue, file_limit}
+use Rattle.std.proofs.Common.{◌≡◌, ◌++◌, ◌∷◌, [], inr, map, refl, string_bytes, take}
+use Rattle.texting_robots.specs.Robot.{file_limit}
 use Rattle.texting_robots.proofs.Shared.{not_rejected, read_robot}
 use Rattle.printable_text.specs.Lines.{ended}
 use Rattle.robots_verdict.specs.Report.{delay_line, sitemap_line}
