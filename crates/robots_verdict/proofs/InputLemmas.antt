@@ -12,15 +12,15 @@ use Rattle.robots_verdict.specs.Internal.{IsFirstLf, IsOneLine}
 
 pub line_found : (line input : List ℕ) (place : ℕ) → IsFirstLf input place
     → line_from line input ≡ Some (strip_last cr (line ++ take place input), drop (suc place) input)
-line_found line [] place is = absurd (omega (arith, is.within))
-line_found line (b ∷ input) zero is = grind (arith, append-nil, is.feed)
+line_found line [] place is = absurd (omega arith)
+line_found line (b ∷ input) zero is = grind (arith, append-nil)
 line_found line (b ∷ input) (suc place) is =
     let later = line_found (line ++ b ∷ []) input place (record {
-      within = omega (arith, is.within);
+      within = omega arith;
       feed = is.feed;
-      before = λ k below. is.before (suc k) (omega (arith, below));
+      before = λ k below. is.before (suc k) (omega arith);
     }) in
-    rw (ne_eqb b lf (is.before 0 (omega arith))) (grind (arith, append_assoc, place))
+    rw (ne_eqb b lf (is.before 0 (omega arith))) (grind (arith, append_assoc))
 
 pub line_none : (line input : List ℕ) → IsOneLine input → None ≡ line_from line input
 line_none line [] one = refl
@@ -33,7 +33,7 @@ urls_after (Some (url, rest)) =
 
 urls_by : (line input : List ℕ) → urls_from line input ≡ urls_after (line_from line input)
 urls_by line [] = refl
-urls_by line (b ∷ input) = grind (arith, cases_Bool, urls_by (line ++ b ∷ []) input)
+urls_by line (b ∷ input) = grind (arith, urls_by (line ++ b ∷ []) input)
 
 abbrev in_front : List (List ℕ) → List (List ℕ) × List ℕ → List (List ℕ) × List ℕ
 in_front urls found = (urls ++ found.0, found.1)
@@ -130,5 +130,5 @@ pub urls_allocated : {X : Type 0} (r : Result X Fault) (fault : Fault) (urls : L
     → IfErr r (λ fault. fault ≡ Memory → (input ≢ []) × ¬ IsSomeAnd (split input) (λ parts. parts.urls ≡ []))
 urls_allocated (Ok x) fault urls input is some same all = tt
 urls_allocated (Err e) fault urls [] is some same all = absurd (cc)
-urls_allocated (Err e) fault [] (b ∷ input) is some same all = grind (arith, some)
+urls_allocated (Err e) fault [] (b ∷ input) is some same all = grind arith
 urls_allocated (Err e) fault (url ∷ urls) (b ∷ input) is some same all = grind arith

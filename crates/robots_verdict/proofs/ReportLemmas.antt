@@ -47,7 +47,7 @@ text_made input one two text robot is first second last =
 
 text_once : (input : Input) (text other : List ℕ) → IsReportText input text → IsReportText input other
     → text ≡ other
-text_once input text other one two = grind (arith, lines_once, one.verdict_lines, two.verdict_lines)
+text_once input text other one two = grind (arith, lines_once)
 
 match_once : {X : Type 0} (b : Bool) (P Q : X → Type 0) → ((x y : X) → P x → P y → x ≡ y)
     → ((x y : X) → Q x → Q y → x ≡ y) → (x y : X) → MatchBool b (P x) (Q x) → MatchBool b (P y) (Q y) → x ≡ y
@@ -138,15 +138,14 @@ pub run_wrote : (left : Option (List ℕ)) (W : List ℕ → Type 0) (items byte
     → IfSome left (λ input. items ≡ input) → bytes ≡ items → IsReport bytes (Ok text) → written ≡ text
     → W written
     → IfSome left (λ input. (text : List ℕ) × IsReport input (Ok text) × W text)
-run_wrote left W items bytes text written read same report whole wrote = grind (arith, of_input)
+run_wrote left W items bytes text written read same report whole wrote = grind arith
 
 pub run_fault : {X : Type 0} (left : Option (List ℕ)) (items bytes : List ℕ) (r : Result X Fault)
     (fault wanted : Fault) → IfSome left (λ input. items ≡ input) → bytes ≡ items
     → (fault ≢ Memory → IsReport bytes (Err fault)) → IsErrAnd r (λ other. other ≡ fault)
     → wanted ≢ Memory → r ≡ Err wanted → IfSome left (λ input. IsReport input (Err wanted))
 run_fault left items bytes r fault wanted read same has is known answer =
-    let found : wanted ≡ fault = rw answer at is in
-    grind (arith, of_input, has, known)
+    grind arith
 
 pub run_memory : {X : Type 0} (left : Option (List ℕ)) (items bytes : List ℕ) (r : Result X Fault)
     (fault : Fault) → IfSome left (λ input. items ≡ input) → bytes ≡ items → (fault ≡ Memory → bytes ≢ [])

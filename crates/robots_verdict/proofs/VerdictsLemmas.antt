@@ -49,9 +49,7 @@ module _ (rules : List PlacedRule) where
       let a = one.decided in
       let b = two.decided in
       let text = prepared url in
-      let answers =
-      one_verdict (unplaced rules) text one.decision.allowed two.decision.allowed a.verdict b.verdict in
-      grind (arith, one_line_decides)
+      grind arith
 
   pub lines_once : (urls lines others : List (List ℕ)) → AllZip (IsVerdictLine rules) urls lines
       → AllZip (IsVerdictLine rules) urls others → lines ≡ others
@@ -90,4 +88,4 @@ lines_like rules others alike [] [] are = tt
 lines_like rules others alike [] (line ∷ lines) are = absurd are
 lines_like rules others alike (url ∷ urls) [] are = absurd are
 lines_like rules others alike (url ∷ urls) (line ∷ lines) (first, later) =
-    grind (arith, alike.verdicts, alike.deciding, lines_like rules others alike urls lines later)
+    grind (arith, lines_like rules others alike urls lines later)

@@ -16,10 +16,10 @@ loop-url-preserved c =
     (goes_more _ _ _ _ _ c.loop-url.invariant c.in-Some-first_line.ensures.line (search rules))
 
 pub returns-in_default-clause-fault : goal.returns-in_default-clause-fault
-returns-in_default-clause-fault c = grind (arith, no_agent, no_parts)
+returns-in_default-clause-fault c = grind arith
 
 pub returns-clause-fault : goal.returns-clause-fault
-returns-clause-fault c = grind (arith, no_parts, no_split)
+returns-clause-fault c = grind (arith, no_split)
 
 pub returns-in_err-push-clause-memory : goal.returns-in_err-push-clause-memory
 returns-in_err-push-clause-memory c = if_memory _ (

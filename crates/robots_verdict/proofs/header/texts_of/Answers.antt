@@ -11,7 +11,7 @@ loop-url-preserved c = record {
 pub returns-clause-ok : goal.returns-clause-ok
 returns-clause-ok c = (
   grind (arith, common_steps),
-  grind (arith, all_utf8, drop_all),
+  grind (arith, drop_all),
 )
 
 pub returns-in_err-text_of-clause-fault : goal.returns-in_err-text_of-clause-fault

@@ -27,7 +27,7 @@ returns-clause-ok c =
     ))
 
 pub returns-in_err-robot-clause-fault : goal.returns-in_err-robot-clause-fault
-returns-in_err-robot-clause-fault c = grind (arith, robot_fault)
+returns-in_err-robot-clause-fault c = grind arith
 
 pub returns-in_err-push_delay-clause-memory : goal.returns-in_err-push_delay-clause-memory
 returns-in_err-push_delay-clause-memory c =
