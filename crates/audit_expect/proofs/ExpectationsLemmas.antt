@@ -1,8 +1,8 @@
 -- Expectations: how they are found and checked.
 use Rattle.std.proofs.{Common.◌≡◌, lemmas.Bool.cond-false, lemmas.Bool.cond-true}
-use Rattle.std.proofs.Common.{◌≢◌, ◌∙◌, ℕ, zero, suc, ◌+◌, List, [], ◌∷◌, ◌++◌, ap, arith, drop, length, refl}
-use Rattle.std.proofs.Common.{sym, take, ◌<◌, filter, map, slice_index_or}
-use Rattle.audit_expect.specs.Expect.{parts, with_byte, ExpectationValue}
+use Rattle.std.proofs.Common.{◌≢◌, ℕ, zero, suc, ◌+◌, List, [], ◌∷◌, ◌++◌, arith, drop, length, refl}
+use Rattle.std.proofs.Common.{take, ◌<◌, map, slice_index_or}
+use Rattle.audit_expect.specs.Expect.{parts}
 use Rattle.audit_expect.specs.Internal.Expectations.{HasNone, IsFirstSeparator, expectation_value}
 use Rattle.std.proofs.lemmas.List.{map-append, take_more, Elements.filter-append}
 use Rattle.texting_robots.specs.Callers.{IsRejected, IsRobotWithoutSitemaps, RobotValue, file_limit, lines_read}
@@ -11,7 +11,7 @@ use Rattle.texting_robots.specs.{Decision.IsDecisionOn, declared.decision.Decisi
 use Rattle.texting_robots.proofs.Shared.{answers_computed, read_robot, each_append}
 use Rattle.audit_core.specs.Findings.{Found}
 use Rattle.audit_expect.specs.{declared.expect.Expectation.Expectation}
-use Rattle.audit_expect.specs.Expectations.{AreFailuresOn, CheckedValue, IsChecked, failure, failures, fails}
+use Rattle.audit_expect.specs.Expectations.{AreFailuresOn, CheckedValue, IsChecked, failures}
 
 no_length : (text : List ℕ) → length text ≡ 0 → text ≡ []
 no_length [] e = refl
@@ -39,7 +39,11 @@ parts_whole : (separators text : List ℕ) → text ≢ [] → HasNone separator
 parts_whole separators [] some none = absurd (some refl)
 parts_whole separators (b ∷ []) some none = cond-false _ _ _ (none 0 (omega arith))
 parts_whole separators (b ∷ d ∷ text) some none =
-    cc (cond-false _ _ _ (none 0 (omega arith)), parts_whole separators (d ∷ text) (λ same. cc) (λ k below. none (suc k) (omega (arith, below))))
+    cc (
+      cond-false _ _ _ (none 0 (omega arith)),
+      parts_whole separators (d ∷ text) (λ same. cc)
+          (λ k below. none (suc k) (omega (arith, below))),
+    )
 
 pub cut_nowhere : (separators text rest : List ℕ) → text ≢ [] → HasNone separators text (length text)
     → length rest ≡ 0 → parts separators text ≡ text ∷ parts separators rest
@@ -53,7 +57,11 @@ pub robot_found : (agent file target : List ℕ) (robot : RobotValue) (decision 
     × IsDecisionOn (placed_rules agent (lines_read file)) target decision
 robot_found agent file target robot decision of by =
     let is = read_robot agent file _ of.2 in
-    let alike = answers_computed agent (lines_read file) robot.rules is.rules in grind (arith, alike.verdicts, alike.deciding)
+    let alike = answers_computed agent (lines_read file) robot.rules is.rules in grind (
+      arith,
+      alike.verdicts,
+      alike.deciding,
+    )
 
 pub failures_next : (file : List ℕ) (old new : List Found) (items : List Expectation) (place : ℕ)
     (d : Expectation) (next : CheckedValue) → place < length items
@@ -66,7 +74,11 @@ failures_next file old new items place d next below are same is added =
     record {
       checked = are.checked ++ next ∷ [];
       all =
-          cc (map-append (λ (one : CheckedValue). one.expectation) are.checked (next ∷ []), take_more items place d below, map-append expectation_value (take place items) (one ∷ []));
+          cc (
+            map-append (λ (one : CheckedValue). one.expectation) are.checked (next ∷ []),
+            take_more items place d below,
+            map-append expectation_value (take place items) (one ∷ []),
+          );
       judged = grind (arith, each_append);
       whole =
           grind (arith, filter-append, map-append);

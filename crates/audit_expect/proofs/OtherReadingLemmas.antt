@@ -1,7 +1,7 @@
 -- Other readings: which lines are empty Disallows, and what decides without their rules, also in normal form.
-use Rattle.std.specs.Prelude.{◌||◌, length, nat_le}
+use Rattle.std.specs.Prelude.{◌||◌, length}
 use Rattle.std.proofs.Common.{◌≡◌, ◌≢◌, ◌∙◌, ℕ, zero, suc, ◌==◌, Bool, true, false, List, [], ◌∷◌, ◌++◌, Some}
-use Rattle.std.proofs.Common.{Contains, Option, None, ap, arith, if◌then◌else◌, inl, inr, map, refl, subst}
+use Rattle.std.proofs.Common.{Contains, Option, None, ap, arith, inl, inr, map, refl, subst}
 use Rattle.std.proofs.Common.{◌<◌, ◌≤◌, ◌-◌, drop, slice_get, slice_index_or, sym}
 use Rattle.std.specs.{Char.to_ascii_lowercase, List.All, Option.option_map_or}
 use Rattle.std.proofs.lemmas.Bool.{cases_Bool, false≢true, not-true, Decides.nat_tests}
@@ -14,16 +14,16 @@ use Rattle.texting_robots.specs.Callers.{Label, bodies_in, bodies_read, label_by
 use Rattle.texting_robots.specs.declared.labels.{LabeledLine.LabeledLine}
 use Rattle.texting_robots.specs.{Statement.IsStatement, declared.parser.statement.Kind.TheVariants.Disallow}
 use Rattle.texting_robots.specs.{declared.decision.Decision.Decision, declared.parser.statement.Kind.Kind}
-use Rattle.texting_robots.specs.{Decision.IsDecisionOn, Pattern.longest_with_dollar, Internal.Line.line_of}
-use Rattle.texting_robots.specs.Internal.Statement.{kind_by, kind_with, skip_blanks, statement_of, tail_as}
+use Rattle.texting_robots.specs.{Decision.IsDecisionOn, Internal.Line.line_of}
+use Rattle.texting_robots.specs.Internal.Statement.{kind_by, kind_with, skip_blanks, statement_of}
 use Rattle.texting_robots.proofs.Shared.{none_denies, verdict_by, length_within, line_raw, line_stated}
 use Rattle.texting_robots.proofs.Shared.{any_unplaced, one_verdict, found_statement, statement_found}
 use Rattle.texting_robots.proofs.Shared.{rejection_is_computed, no_line_allows}
 use Rattle.robots_needless.proofs.TogetherLemmas.{in_filter, to_filter}
 use Rattle.robots_warnings.specs.Conflicts.{IsEmptyDisallow, begins_with_d, is_empty_disallow}
-use Rattle.robots_warnings.specs.FieldNames.{is_space_or_tab, without_front}
+use Rattle.robots_warnings.specs.FieldNames.{without_front}
 use Rattle.robots_warnings.specs.{File.lines_of, Read.IsRead, declared.read.FileRead.FileRead}
-use Rattle.audit_expect.specs.OtherReading.{IsNormalDecision, normal_pattern, normal_rule}
+use Rattle.audit_expect.specs.OtherReading.{IsNormalDecision, normal_rule}
 use Rattle.audit_expect.specs.OtherReading.{AreOthers, IsOtherDecision}
 use Rattle.audit_expect.specs.Internal.Expectations.{IsDecidedBy, IsPreferred, decision_with, is_empty}
 use Rattle.audit_expect.specs.Internal.Expectations.{is_empty_label, is_marked, marks_in, marks_of, others_of}

@@ -1,7 +1,4 @@
 use Rattle.std.proofs.Common.{arith}
-use Rattle.std.proofs.Common.{◌≡◌, ◌∙◌, Some, subst, sym}
-use Rattle.texting_robots.specs.Callers.{lines_read}
-use Rattle.robots_warnings.specs.Crawlers.{other_group}
 use Rattle.audit_core.proofs.AuditLemmas.{none_of}
 use Rattle.audit_expect.proofs.checks.at_vendor.Goals as goal
 

@@ -1,7 +1,5 @@
 use Rattle.std.proofs.Common.{arith}
-use Rattle.std.proofs.Common.{◌≡◌, string_bytes}
 use Rattle.texting_robots.proofs.Shared.{read_robot}
-use Rattle.robots_warnings.specs.Targets.{normal_target, written_target}
 use Rattle.audit_expect.proofs.ExpectationsLemmas.{robot_found}
 use Rattle.audit_expect.proofs.checks.decided_on.Goals as goal
 

@@ -1,4 +1,4 @@
-use Rattle.std.proofs.Common.{◌+◌, arith}
+use Rattle.std.proofs.Common.{arith}
 use Rattle.std.proofs.lemmas.List.{length-drop, length-take, take_all}
 use Rattle.audit_expect.proofs.ExpectationsLemmas.{cut_at, cut_nowhere}
 use Rattle.audit_expect.proofs.expect.cut.Goals as goal

@@ -1,7 +1,5 @@
 use Rattle.std.proofs.Common.{arith}
-use Rattle.std.proofs.Common.{◌==◌, ◌∙◌, ap}
 use Rattle.std.proofs.lemmas.List.{length-map}
-use Rattle.audit_expect.specs.Internal.Expectations.{expectation_value}
 use Rattle.audit_expect.proofs.expectations.check.Goals as goal
 
 pub returns-clause-ok : goal.returns-clause-ok

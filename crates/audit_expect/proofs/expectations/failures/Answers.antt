@@ -1,4 +1,4 @@
-use Rattle.std.proofs.Common.{ap, subst, sym}
+use Rattle.std.proofs.Common.{ap, subst}
 use Rattle.audit_core.specs.Internal.{IsReading}
 use Rattle.audit_expect.specs.Internal.Expectations.{expectation_value, checked_value}
 use Rattle.audit_expect.proofs.ExpectationsLemmas.{failures_next}

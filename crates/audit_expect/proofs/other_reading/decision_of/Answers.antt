@@ -1,5 +1,4 @@
 use Rattle.std.proofs.Common.{arith}
-use Rattle.std.proofs.Common.{option_map, rules}
 use Rattle.audit_expect.proofs.OtherReadingLemmas.{decision_found}
 use Rattle.audit_expect.proofs.other_reading.decision_of.Goals as goal
 

@@ -1,4 +1,4 @@
-use Rattle.std.proofs.Common.{◌-◌, ◌∙◌, arith}
+use Rattle.std.proofs.Common.{◌-◌, arith}
 use Rattle.audit_expect.proofs.OtherReadingLemmas.{marked_at, unmarked_at}
 use Rattle.audit_expect.proofs.other_reading.is_marked.Goals as goal
 

@@ -1,8 +1,5 @@
 use Rattle.std.proofs.Common.{arith}
-use Rattle.std.proofs.Common.{◌≡◌, false, map, rules}
-use Rattle.std.specs.Option.{option_map_or}
-use Rattle.texting_robots.specs.Callers.{bodies_read, label_by_value, lines_read, placed_rules}
-use Rattle.audit_expect.specs.Internal.Expectations.{is_marked, marks_in}
+use Rattle.texting_robots.specs.Callers.{bodies_read, lines_read, placed_rules}
 use Rattle.audit_expect.proofs.OtherReadingLemmas.{decided_otherwise, marks_read, others_accepted, unchanged}
 use Rattle.audit_expect.proofs.other_reading.other_decision.Goals as goal
 
