@@ -5,9 +5,9 @@ use Rattle.std.proofs.Common.{◌≡◌, ℕ, ◌+◌, ◌<◌, List, [], ◌∷
 use Rattle.std.proofs.Common.{slice_index_or}
 use Rattle.std.specs.{List.AllZip}
 use Rattle.std.proofs.lemmas.List.{append-nil, map-append, take_more, Elements.AllZip-push}
-use Rattle.texting_robots.specs.Callers.{AnswerAlike, PlacedRule, prepared, unplaced}
+use Rattle.texting_robots.specs.Callers.{AnswerAlike, PlacedRule, prepared}
 use Rattle.texting_robots.specs.{Decision.IsDecisionOn, declared.decision.Decision.Decision}
-use Rattle.texting_robots.proofs.Shared.{each_text_answered, one_line_decides, one_verdict}
+use Rattle.texting_robots.proofs.Shared.{each_text_answered}
 use Rattle.printable_text.specs.{Lines.ended}
 use Rattle.robots_verdict.specs.Report.{AddsVerdict, AddsVerdicts, IsVerdictLine, verdict_front}
 use Rattle.printable_text.proofs.{SanitizeLemmas.lines_added}

@@ -1,6 +1,6 @@
 use Rattle.std.proofs.Common.{arith}
 use Rattle.std.proofs.Common.{refl}
-use Rattle.robots_verdict.proofs.{InputLemmas.urls_allocated, ReportLemmas.header_fault}
+use Rattle.robots_verdict.proofs.{InputLemmas.urls_allocated}
 use Rattle.robots_verdict.proofs.header.read_header.Goals as goal
 
 pub returns-in_err-agent-clause-fault : goal.returns-in_err-agent-clause-fault

@@ -1,5 +1,5 @@
 use Rattle.std.proofs.{Common.arith, lemmas.Grind.common_steps, lemmas.List.drop_all}
-use Rattle.robots_verdict.proofs.InputLemmas.{all_utf8, first_not_utf8, utf8_next}
+use Rattle.robots_verdict.proofs.InputLemmas.{first_not_utf8, utf8_next}
 use Rattle.robots_verdict.proofs.header.texts_of.Goals as goal
 
 pub loop-url-preserved : goal.loop-url-preserved

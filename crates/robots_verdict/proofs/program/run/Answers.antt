@@ -1,7 +1,7 @@
 use Rattle.std.proofs.Common.{arith}
 use Rattle.std.specs.Io.KnownBytes.{Appends}
 use Rattle.robots_io.specs.Streams.{AppendsBeginning}
-use Rattle.robots_verdict.proofs.ReportLemmas.{run_fault, run_memory, run_unread, run_wrote}
+use Rattle.robots_verdict.proofs.ReportLemmas.{run_wrote}
 use Rattle.robots_verdict.proofs.program.run.Goals as goal
 
 pub returns-in_err-text-clause-no_empty_line : goal.returns-in_err-text-clause-no_empty_line

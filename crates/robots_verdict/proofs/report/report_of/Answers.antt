@@ -5,7 +5,7 @@ use Rattle.texting_robots.proofs.Shared.{not_rejected, read_robot}
 use Rattle.printable_text.specs.Lines.{ended}
 use Rattle.robots_verdict.specs.Report.{delay_line, sitemap_line}
 use Rattle.robots_verdict.specs.Internal.{value_of}
-use Rattle.robots_verdict.proofs.{InputLemmas.some_input, ReportLemmas.robot_fault, ReportLemmas.text_made}
+use Rattle.robots_verdict.proofs.{InputLemmas.some_input, ReportLemmas.text_made}
 use Rattle.robots_verdict.proofs.report.report_of.Goals as goal
 
 pub returns-clause-ok : goal.returns-clause-ok
