@@ -54,7 +54,7 @@ named_attributes before (a ∷ attributes) are (value, values) =
       rw (any_named a.name before) at rest.0,
       value,
       named_attributes (before ++ a ∷ []) attributes
-          (grind (arith, map-append, before)) values,
+          (grind (arith, map-append)) values,
     )
 
 -- ---- Reading goes on where it was.
@@ -75,7 +75,7 @@ piece_read old new piece last state reads added =
 kind_plain : (opened : List Opened) → IsTrue (list_all is_tag (map name_in opened))
     → (has_references (kind_of opened) ≡ true) × (has_elements (kind_of opened) ≡ true)
 kind_plain [] are = (refl, refl)
-kind_plain (o ∷ opened) are = grind (arith, and_parts, kind_inside, not-true)
+kind_plain (o ∷ opened) are = grind (arith, and_parts)
 
 nil_open : IsOpen [] []
 nil_open = grind (arith, ascii_safe)
@@ -86,7 +86,7 @@ nothing_open opened bytes none empty = grind (arith, nil_open)
 
 module _ (names : List (List ℕ)) (old new : List ℕ) (is : IsOpen names old) where
   has : has_references (kind_of (so_far old).opened) ≡ true
-  has = grind (arith, kind_plain)
+  has = grind arith
 
   may : has_elements (kind_of (so_far old).opened) ≡ true
   may = (kind_plain (so_far old).opened is.are_tags).1
@@ -193,7 +193,7 @@ module _ (names : List (List ℕ)) (old new : List ℕ) (is : IsOpen names old) 
     start_is tag added = grind (arith, start_same)
 
     start_open : is_tag name ≡ true → new ≡ mid ++ tag_close → IsOpen (names ++ name ∷ []) new
-    start_open tag added = grind (arith, and_parts, close_safe, reverse-append, start_same, tag_safe)
+    start_open tag added = grind (arith, close_safe, reverse-append, start_same, tag_safe)
 
     void_same : is_void name ≡ true → new ≡ mid ++ void_close
         → so_far new ≡ followed_by (void [] name attributes (text [])) (so_far old)
@@ -206,10 +206,10 @@ module _ (names : List (List ℕ)) (old new : List ℕ) (is : IsOpen names old) 
         (whole void_close added)
 
     void_is : is_void name ≡ true → new ≡ mid ++ void_close → HasVoid name labels (so_far old) (so_far new)
-    void_is is_one added = grind (arith, void_same, is_one)
+    void_is is_one added = grind (arith, void_same)
 
     void_open : is_void name ≡ true → new ≡ mid ++ void_close → IsOpen names new
-    void_open is_one added = grind (arith, and_parts, tag_safe, void_close_safe, void_same, is_one)
+    void_open is_one added = grind (arith, tag_safe, void_close_safe, void_same)
 
 -- ---- The innermost element ends.
 
@@ -229,7 +229,6 @@ module _ (names : List (List ℕ)) (name : List ℕ) (old new : List ℕ) (is : 
       → (so_far new ≡ closed (so_far old)) × IsOpen names new
   ends [] same last are = absurd (cc)
   ends (o ∷ outer) same last are =
-      let head = same_head name o.tag.name (reverse names) (map name_in outer) last in
       let both = and_parts (is_tag o.tag.name) (list_all is_tag (map name_in outer)) are in
       let named =
       and_parts (is_name o.tag.name) (is_ordinary o.tag.name && not (is_title o.tag.name)) both.0 in
@@ -274,10 +273,7 @@ pub text_written : (names : List (List ℕ)) (old new front line bytes : List �
     → front ≡ [] → line ≡ front ++ sanitized bytes → new ≡ old ++ escaped line
     → so_far new ≡ followed_by (text (sanitized bytes)) (so_far old)
 text_written names old new front line bytes is none line_is added =
-    cc (
-      text_is names old new is line (sanitized_line front line bytes none line_is) added,
-      cleared_line front line bytes none line_is,
-    )
+    cc (text_is names old new is line (sanitized_line front line bytes none line_is) added)
 
 pub element_begun : (names labels : List (List ℕ)) (name old new : List ℕ) → IsOpen names old
     → is_tag name ≡ true → are_names [] labels ≡ true → AddsStart name labels old new
@@ -325,7 +321,7 @@ ended_open before after name old new is pops added =
 -- if no element is open, nothing changes
 pub none_ended : (before : List (Bor (List ℕ))) (old : List ℕ) → IsOpen (names_of before) old → before ≡ []
     → so_far old ≡ closed (so_far old)
-none_ended before old is none = grind (arith, by)
+none_ended before old is none = grind arith
   where
     by : (opened : List Opened) → (so_far old).opened ≡ opened → [] ≡ map name_in opened
         → so_far old ≡ closed (so_far old)

@@ -25,20 +25,20 @@ use Rattle.html_writer.specs.Page.{IsSafe, is_safe_byte}
 use Rattle.html_writer.proofs.WritingLemmas.{each_form, escaped-is}
 
 is_kept : (char : ℕ) → is_printable true char ≡ true → is_character char ≡ true
-is_kept char plain = grind (arith, nat_tests)
+is_kept char plain = grind arith
 
 pub printable_text : (bytes : List ℕ) → IsPrintable bytes → IsText bytes
 printable_text bytes is =
     let plain = AllPass-from_list_all (is_printable true) (chars bytes) is.all in
     let are = list_all-from_AllPass is_character (chars bytes)
-    (grind (arith, is_kept, plain)) in
+    (grind arith) in
     subst IsText (encodes-chars bytes is.utf8)
     (grind (arith, chars_pass))
 
 safe_both : (bytes : List ℕ) → list_all is_safe_byte bytes ≡ true
     → (list_all (is_printable_byte true) bytes ≡ true) × (list_all is_no_bracket bytes ≡ true)
 safe_both [] are = (refl, refl)
-safe_both (byte ∷ bytes) are = grind (arith, and_parts, safe_both bytes)
+safe_both (byte ∷ bytes) are = grind (arith, safe_both bytes)
 
 pub ascii_safe : (bytes : List ℕ) → list_all is_safe_byte bytes ≡ true → IsSafe bytes
 ascii_safe bytes are =
@@ -46,7 +46,7 @@ ascii_safe bytes are =
     (ascii_printable true bytes both.0, both.1)
 
 letter_safe : (byte : ℕ) → is_letter byte ≡ true → is_safe_byte byte ≡ true
-letter_safe byte is = grind (arith, nat_tests)
+letter_safe byte is = grind arith
 
 name_byte_safe : (byte : ℕ) → is_name_byte byte ≡ true → is_safe_byte byte ≡ true
 name_byte_safe byte is = grind (arith, nat_tests)
@@ -96,9 +96,9 @@ fails a b c later none quiet = rw (none, quiet) (both a b)
 -- a text without `[` has no start of a command
 pub bracketless_quiet : (bytes : List ℕ) → list_all is_no_bracket bytes ≡ true → has_command bytes ≡ false
 bracketless_quiet [] are = refl
-bracketless_quiet (a ∷ []) are = grind (arith, fails)
-bracketless_quiet (a ∷ b ∷ []) are = grind (arith, and_parts, fails, bracketless_quiet (b ∷ []))
-bracketless_quiet (a ∷ b ∷ c ∷ rest) are = grind (arith, and_parts, fails, bracketless_quiet (b ∷ c ∷ rest))
+bracketless_quiet (a ∷ []) are = grind arith
+bracketless_quiet (a ∷ b ∷ []) are = grind arith
+bracketless_quiet (a ∷ b ∷ c ∷ rest) are = grind (arith, bracketless_quiet (b ∷ c ∷ rest))
 
 pub style_safe : (css : List ℕ) → IsSafe css → IsSafe (style_bytes css)
 unfolding style_bytes

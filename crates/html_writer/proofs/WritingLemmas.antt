@@ -26,11 +26,11 @@ escaped-is [] = refl
 escaped-is (byte ∷ bytes) = refl
 
 one_same : (byte : ℕ) → is_written_as_is byte ≡ true → escaped_byte byte ≡ byte ∷ []
-one_same byte is = grind (arith, nat_tests)
+one_same byte is = grind arith
 
 each_same : (bytes : List ℕ) → list_all is_written_as_is bytes ≡ true → flat_map escaped_byte bytes ≡ bytes
 each_same [] are = refl
-each_same (byte ∷ bytes) are = grind (arith, and_parts, one_same, each_same bytes)
+each_same (byte ∷ bytes) are = grind (arith, each_same bytes)
 
 pub escaped_same : (bytes : List ℕ) → list_all is_written_as_is bytes ≡ true → escaped bytes ≡ bytes
 escaped_same bytes are = escaped-is bytes ∙ each_same bytes are
@@ -80,7 +80,7 @@ pub record Reads (from : Reader) (bytes : List ℕ) (last : Reader) : Type 0 whe
 read_on : {from mid last : Reader} {one two : List ℕ} → Reads from one mid → Reads mid two last
     → Reads from (one ++ two) last
 read_on {from = from} {one = one} {two = two} first second =
-    grind (arith, append_assoc, first.leads, second.leads)
+    grind (arith, append_assoc)
 
 -- bytes are read one by one, if each is as `form` writes it
 collected : (form : ℕ → List ℕ) (test : ℕ → Bool) (after : List ℕ → Reader)
@@ -119,7 +119,7 @@ pub each_form : (P : ℕ → Type 0) (byte : ℕ) → P 38 → P 60 → P 62 →
     → ((byte == 38) ≡ false → (byte == 60) ≡ false → (byte == 62) ≡ false → (byte == 34) ≡ false
     → (byte == 91) ≡ false → P byte)
     → P byte
-each_form P byte amp lt gt quot bracket other = grind (arith, or, other)
+each_form P byte amp lt gt quot bracket other = grind arith
   where
     or : (n : ℕ) → P n → ((byte == n) ≡ false → P byte) → P byte
     or n is isnt = elim (cases_Bool (byte == n)) [
@@ -139,7 +139,7 @@ module _ (opened : List Opened) where
   text_read content bytes has are =
       rw (escaped-is bytes) (rw (followed-nil content) at
       (collected escaped_byte is_character (λ done. reading (content ⊕ text done))
-      (grind (arith, followed_assoc, one, content)) [] bytes are))
+      (grind (arith, followed_assoc)) [] bytes are))
     where
       one : (content : Html) (byte : ℕ) → is_character byte ≡ true
           → Reads (reading content) (escaped_byte byte) (reading (content ⊕ text (byte ∷ [])))
@@ -157,7 +157,7 @@ module _ (opened : List Opened) where
   value_read content tag name value are =
       let after = λ (done : List ℕ). reader (attribute_value tag name done) opened content in
       rw (escaped-is value) (collected escaped_byte is_character after
-      (grind (arith, each_form, after)) [] value are)
+      (grind arith) [] value are)
 
   attribute_read : (content : Html) (label name value : List ℕ) (before : List Attribute)
       → IsTrue (is_name name) → IsTrue (not (has_attribute before name)) → IsTrue (is_text value)
@@ -251,11 +251,11 @@ module _ (opened : List Opened) where
       let last : Reads (in_style css) (codes "</style>") (reading (content ⊕ style [] css (text []))) =
       grind arith in
       read_on first (read_on (unchanged (λ byte. is_character byte && not (byte == 60)) in_style
-      (grind (arith, and_parts, not-true)) css are) last)
+      (grind arith) css are) last)
 
 pub kind_inside : (name : List ℕ) → is_style name ≡ false
     → (has_references (kind_in name) ≡ true) × (has_elements (kind_in name) ≡ not (is_title name))
-kind_inside name isnt = grind (arith, either)
+kind_inside name isnt = grind arith
   where
     either : (b : Bool) → (has_references (if b then only_text else any_content) ≡ true)
         × (has_elements (if b then only_text else any_content) ≡ not b)
