@@ -1,8 +1,8 @@
 -- Expectations: how they are found and checked.
 use Rattle.std.proofs.{Common.◌≡◌, lemmas.Bool.cond-false, lemmas.Bool.cond-true}
-use Rattle.std.proofs.Common.{◌≢◌, ◌∙◌, ℕ, zero, suc, ◌+◌, List, [], ◌∷◌, ◌++◌, ap, arith, drop, length, refl}
-use Rattle.std.proofs.Common.{sym, take, ◌<◌, filter, map, slice_index_or}
-use Rattle.audit_expect.specs.Expect.{parts, with_byte, ExpectationValue}
+use Rattle.std.proofs.Common.{◌≢◌, ℕ, zero, suc, ◌+◌, List, [], ◌∷◌, ◌++◌, arith, drop, length, refl}
+use Rattle.std.proofs.Common.{take, ◌<◌, map, slice_index_or}
+use Rattle.audit_expect.specs.Expect.{parts}
 use Rattle.audit_expect.specs.Internal.Expectations.{HasNone, IsFirstSeparator, expectation_value}
 use Rattle.std.proofs.lemmas.List.{map-append, take_more, Elements.filter-append}
 use Rattle.texting_robots.specs.Callers.{IsRejected, IsRobotWithoutSitemaps, RobotValue, file_limit, lines_read}
@@ -11,7 +11,7 @@ use Rattle.texting_robots.specs.{Decision.IsDecisionOn, declared.decision.Decisi
 use Rattle.texting_robots.proofs.Shared.{answers_computed, read_robot, each_append}
 use Rattle.audit_core.specs.Findings.{Found}
 use Rattle.audit_expect.specs.{declared.expect.Expectation.Expectation}
-use Rattle.audit_expect.specs.Expectations.{AreFailuresOn, CheckedValue, IsChecked, failure, failures, fails}
+use Rattle.audit_expect.specs.Expectations.{AreFailuresOn, CheckedValue, IsChecked, failures}
 
 no_length : (text : List ℕ) → length text ≡ 0 → text ≡ []
 no_length [] e = refl
@@ -19,7 +19,7 @@ no_length (b ∷ text) e = absurd (omega (arith, e))
 
 parts_cut : (separators text : List ℕ) (end : ℕ) → IsFirstSeparator separators text end
     → parts separators text ≡ take end text ∷ parts separators (drop (suc end) text)
-parts_cut separators [] end first = absurd (let within = first.within in omega (arith, within))
+parts_cut separators [] end first = grind (arith, first.within)
 parts_cut separators (b ∷ text) zero first = cond-true _ _ _ first.here
 parts_cut separators (b ∷ text) (suc end) first =
     let within = first.within in
@@ -28,29 +28,26 @@ parts_cut separators (b ∷ text) (suc end) first =
       here = first.here;
       before = λ k below. first.before (suc k) (omega (arith, below));
     } in
-    cond-false _ _ _ (first.before 0 (omega arith)) ∙ ap (with_byte b) (parts_cut separators text end later)
+    cc (cond-false _ _ _ (first.before 0 (omega arith)), parts_cut separators text end later)
 
 pub cut_at : (separators text rest : List ℕ) (end : ℕ) → IsFirstSeparator separators text end
     → rest ≡ drop (end + 1) text → parts separators text ≡ take end text ∷ parts separators rest
-cut_at separators text rest end first after =
-    let next : suc end ≡ end + 1 = omega arith in
-    parts_cut separators text end first
-    ∙ ap (λ rest. take end text ∷ parts separators rest) (ap (λ n. drop n text) next ∙ sym after)
+cut_at separators text rest end first after = grind (arith, parts_cut)
 
 parts_whole : (separators text : List ℕ) → text ≢ [] → HasNone separators text (length text)
     → parts separators text ≡ text ∷ []
 parts_whole separators [] some none = absurd (some refl)
 parts_whole separators (b ∷ []) some none = cond-false _ _ _ (none 0 (omega arith))
 parts_whole separators (b ∷ d ∷ text) some none =
-    cond-false _ _ _ (none 0 (omega arith))
-    ∙ ap (with_byte b) (parts_whole separators (d ∷ text) (λ same. cc)
-    (λ k below. none (suc k) (omega (arith, below))))
+    cc (
+      cond-false _ _ _ (none 0 (omega arith)),
+      parts_whole separators (d ∷ text) (λ same. cc)
+          (λ k below. none (suc k) (omega (arith, below))),
+    )
 
 pub cut_nowhere : (separators text rest : List ℕ) → text ≢ [] → HasNone separators text (length text)
     → length rest ≡ 0 → parts separators text ≡ text ∷ parts separators rest
-cut_nowhere separators text rest some none empty =
-    parts_whole separators text some none
-    ∙ ap (λ rest. text ∷ parts separators rest) (sym (no_length rest empty))
+cut_nowhere separators text rest some none empty = grind (arith, no_length, parts_whole)
 
 -- ---- How expectations are checked.
 
@@ -60,12 +57,10 @@ pub robot_found : (agent file target : List ℕ) (robot : RobotValue) (decision 
     × IsDecisionOn (placed_rules agent (lines_read file)) target decision
 robot_found agent file target robot decision of by =
     let is = read_robot agent file _ of.2 in
-    let alike = answers_computed agent (lines_read file) robot.rules is.rules in (
-      is.accepted,
-      record {
-        verdict = (alike.verdicts target decision.allowed).0 by.verdict;
-        deciding = (alike.deciding target decision.line).0 by.deciding;
-      },
+    let alike = answers_computed agent (lines_read file) robot.rules is.rules in grind (
+      arith,
+      alike.verdicts,
+      alike.deciding,
     )
 
 pub failures_next : (file : List ℕ) (old new : List Found) (items : List Expectation) (place : ℕ)
@@ -79,15 +74,12 @@ failures_next file old new items place d next below are same is added =
     record {
       checked = are.checked ++ next ∷ [];
       all =
-          map-append (λ (one : CheckedValue). one.expectation) are.checked (next ∷ [])
-          ∙ ap (λ t. t ++ next.expectation ∷ []) are.all
-          ∙ ap (λ (expected : ExpectationValue). map expectation_value (take place items) ++ expected ∷ [])
-          same
-          ∙ sym (ap (map expectation_value) (take_more items place d below)
-          ∙ map-append expectation_value (take place items) (one ∷ []));
-      judged = each_append (IsChecked file) are.checked (next ∷ []) are.judged (is, tt);
+          cc (
+            map-append (λ (one : CheckedValue). one.expectation) are.checked (next ∷ []),
+            take_more items place d below,
+            map-append expectation_value (take place items) (one ∷ []),
+          );
+      judged = grind (arith, each_append);
       whole =
-          added ∙ ap (λ (t : List Found). t ++ failures (next ∷ [])) are.whole
-          ∙ sym (ap (map failure) (filter-append fails are.checked (next ∷ []))
-          ∙ map-append failure (filter fails are.checked) (filter fails (next ∷ [])));
+          grind (arith, filter-append, map-append);
     }

@@ -1,7 +1,7 @@
 -- Other readings: which lines are empty Disallows, and what decides without their rules, also in normal form.
-use Rattle.std.specs.Prelude.{◌||◌, length, nat_le}
+use Rattle.std.specs.Prelude.{◌||◌, length}
 use Rattle.std.proofs.Common.{◌≡◌, ◌≢◌, ◌∙◌, ℕ, zero, suc, ◌==◌, Bool, true, false, List, [], ◌∷◌, ◌++◌, Some}
-use Rattle.std.proofs.Common.{Contains, Option, None, ap, arith, if◌then◌else◌, inl, inr, map, refl, subst}
+use Rattle.std.proofs.Common.{Contains, Option, None, ap, arith, inl, inr, map, refl, subst}
 use Rattle.std.proofs.Common.{◌<◌, ◌≤◌, ◌-◌, drop, slice_get, slice_index_or, sym}
 use Rattle.std.specs.{Char.to_ascii_lowercase, List.All, Option.option_map_or}
 use Rattle.std.proofs.lemmas.Bool.{cases_Bool, false≢true, not-true, Decides.nat_tests}
@@ -14,16 +14,16 @@ use Rattle.texting_robots.specs.Callers.{Label, bodies_in, bodies_read, label_by
 use Rattle.texting_robots.specs.declared.labels.{LabeledLine.LabeledLine}
 use Rattle.texting_robots.specs.{Statement.IsStatement, declared.parser.statement.Kind.TheVariants.Disallow}
 use Rattle.texting_robots.specs.{declared.decision.Decision.Decision, declared.parser.statement.Kind.Kind}
-use Rattle.texting_robots.specs.{Decision.IsDecisionOn, Pattern.longest_with_dollar, Internal.Line.line_of}
-use Rattle.texting_robots.specs.Internal.Statement.{kind_by, kind_with, skip_blanks, statement_of, tail_as}
+use Rattle.texting_robots.specs.{Decision.IsDecisionOn, Internal.Line.line_of}
+use Rattle.texting_robots.specs.Internal.Statement.{kind_by, kind_with, skip_blanks, statement_of}
 use Rattle.texting_robots.proofs.Shared.{none_denies, verdict_by, length_within, line_raw, line_stated}
 use Rattle.texting_robots.proofs.Shared.{any_unplaced, one_verdict, found_statement, statement_found}
 use Rattle.texting_robots.proofs.Shared.{rejection_is_computed, no_line_allows}
 use Rattle.robots_needless.proofs.TogetherLemmas.{in_filter, to_filter}
 use Rattle.robots_warnings.specs.Conflicts.{IsEmptyDisallow, begins_with_d, is_empty_disallow}
-use Rattle.robots_warnings.specs.FieldNames.{is_space_or_tab, without_front}
+use Rattle.robots_warnings.specs.FieldNames.{without_front}
 use Rattle.robots_warnings.specs.{File.lines_of, Read.IsRead, declared.read.FileRead.FileRead}
-use Rattle.audit_expect.specs.OtherReading.{IsNormalDecision, normal_pattern, normal_rule}
+use Rattle.audit_expect.specs.OtherReading.{IsNormalDecision, normal_rule}
 use Rattle.audit_expect.specs.OtherReading.{AreOthers, IsOtherDecision}
 use Rattle.audit_expect.specs.Internal.Expectations.{IsDecidedBy, IsPreferred, decision_with, is_empty}
 use Rattle.audit_expect.specs.Internal.Expectations.{is_empty_label, is_marked, marks_in, marks_of, others_of}
@@ -40,22 +40,17 @@ lower_d b = grind (arith, nat_tests)
 
 begins : (text : List ℕ) → begins_with_d text ≡ is_disallow (kind_by text)
 begins [] = refl
-begins (b ∷ text) = lower_d b ∙ sym (letter_d (to_ascii_lowercase b))
+begins (b ∷ text) = grind (arith, letter_d, lower_d)
 
 skipped : (body : List ℕ) → without_front body ≡ skip_blanks body
 skipped [] = refl
-skipped (b ∷ body) = ap (λ rest. if is_space_or_tab b then rest else b ∷ body) (skipped body)
+skipped (b ∷ body) = cc (skipped body)
 
 module _ (body : List ℕ) where
   selected : (kind : Kind) (value : List ℕ) → statement_of body ≡ Some (kind, value)
       → begins_with_d (without_front body) ≡ is_disallow (Some kind)
   unfolding statement_of
-  selected kind value stated =
-      let text = skip_blanks body in
-      ap begins_with_d (skipped body) ∙ begins text ∙ ap is_disallow
-      (option_and_then_some _ (kind_by text) (kind, value) stated (λ k by found.
-      option_and_then_some _ (tail_as k text) (kind, value) found (λ tail reads same.
-      by ∙ ap (λ (p : Kind × List ℕ). Some p.0) (same_Some _ _ same))))
+  selected kind value stated = grind (arith, begins, option_and_then_some, same_Some, skipped)
 
   begins_so : (line : LineValue) → is_empty_disallow line body ≡ true
       → begins_with_d (without_front body) ≡ true
@@ -88,14 +83,13 @@ stated_mark : (bodies : List (List ℕ)) (place : ℕ) (body : List ℕ) → sli
     → IsStatement Disallow [] body → is_marked (map is_empty bodies) place ≡ true
 stated_mark [] place body at is = cc
 stated_mark (own ∷ bodies) zero body at is =
-    stated_empty own (subst (IsStatement Disallow []) (sym (same_Some _ _ at)) is)
+    stated_empty own (grind (arith, same_Some))
 stated_mark (own ∷ bodies) (suc place) body at is = stated_mark bodies place body at is
 
 marked_stated : (bodies : List (List ℕ)) (number : ℕ) → is_marked (marks_of bodies) number ≡ true
     → IsEmptyDisallow bodies number
 marked_stated bodies zero is = cc
-marked_stated bodies (suc place) is =
-    let (body, at, stated) = mark_stated bodies place is in (place, body, omega arith, at, stated)
+marked_stated bodies (suc place) is = grind (arith, mark_stated)
 
 stated_marked : (bodies : List (List ℕ)) (number : ℕ) → IsEmptyDisallow bodies number
     → is_marked (marks_of bodies) number ≡ true
@@ -108,12 +102,8 @@ others_are bodies rules = record {
   each = λ placed. (
     λ has.
         let (listed, passes) = in_filter _ rules placed has in
-        (listed, λ is. false≢true (sym (not-true _ passes) ∙ stated_marked bodies placed.line is)),
-    λ (listed, isnt).
-        to_filter _ rules placed listed (elim (cases_Bool (is_marked (marks_of bodies) placed.line)) [
-          | inl is ↦ absurd (isnt (marked_stated bodies placed.line is))
-          | inr other ↦ rw other refl
-        ]),
+        grind (arith, not-true, stated_marked),
+    grind (arith, cases_Bool, marked_stated, to_filter),
   );
 }
 
@@ -157,21 +147,14 @@ module _ (rules : List PlacedRule) (text : List ℕ) (rule : PlacedRule) where
   pub here : (before : Option PlacedRule) (found : PlacedRule) → Matches rule.rule.0 text
       → IsDecidedBy rules text before → IsPreferred rule before found
       → IsDecidedBy (rules ++ rule ∷ []) text (Some found)
-  here None found matches none same =
-      rw same (first matches (λ placed listed fits. absurd (none placed listed fits)))
-  here (Some best) found matches is (inl (better, same)) =
-      rw same (first matches (λ placed listed fits over.
-      is.best placed listed fits (better_trans placed rule best over better)))
+  here None found matches none same = grind (arith, first, none)
+  here (Some best) found matches is (inl (better, same)) = grind (arith, better_trans, first, is.best)
   here (Some best) found matches is (inr (isnt, same)) = rw same (still best is (λ _. isnt))
 
 pub decision_found : (rules : List PlacedRule) (text : List ℕ) (found : Option PlacedRule)
     → text ≢ robots_file → IsDecidedBy rules text found → IsDecisionOn rules text (decision_with found)
-decision_found rules text None differs none =
-    record { verdict = none_denies rules text none; deciding = inr none }
-decision_found rules text (Some placed) differs is = record {
-  verdict = verdict_by rules text placed placed.rule.1 is refl differs;
-  deciding = (differs, placed, is, refl);
-}
+decision_found rules text None differs none = grind (arith, none_denies)
+decision_found rules text (Some placed) differs is = grind (arith, verdict_by)
 
 module _ (bodies : List (List ℕ)) (rules : List PlacedRule) (text : List ℕ) (decision : Decision) where
   abbrev others : List PlacedRule
@@ -188,9 +171,7 @@ module _ (bodies : List (List ℕ)) (rules : List PlacedRule) (text : List ℕ) 
   pub unchanged : IsDecisionOn rules text decision
       → option_map_or (is_marked (marks_of bodies)) decision.line false ≡ false
       → IsOtherDecision bodies rules text decision
-  unchanged is other =
-      let both = by decision.line is.deciding other in
-      decided_otherwise (record { verdict = both.0; deciding = both.1 })
+  unchanged is other = grind (arith, decided_otherwise, by)
     where
       among : (placed : PlacedRule) → Contains others placed → Contains rules placed
       among placed has = (in_filter _ rules placed has).0
@@ -230,39 +211,28 @@ others_accepted bodies agent lines accepted k d below overlong =
 
 -- a rule in normal form isn't overlong if it wasn't before
 normal_short : (placed : PlacedRule) → ¬ IsOverlong placed.rule.0 → ¬ IsOverlong (normal_rule placed).rule.0
-normal_short placed accepted =
-    let normal = normal_pattern placed.rule.0 in
-    elim (cases_Bool (nat_le (length normal) longest_with_dollar)) [
-      | inl short ↦ rw short (λ overlong. grind (arith, nat_tests, length_within normal))
-      | inr long ↦ rw long accepted
-    ]
+normal_short placed accepted = grind (arith, cases_Bool, length_within)
 
 pub normal_accepted : (rules : List PlacedRule)
     → All (λ (placed : PlacedRule). ¬ IsOverlong placed.rule.0) rules
     → All (λ (placed : PlacedRule). ¬ IsOverlong placed.rule.0) (map normal_rule rules)
 normal_accepted rules accepted =
     All-map (λ (placed : PlacedRule). ¬ IsOverlong placed.rule.0) normal_rule rules
-    (λ k d below. normal_short (slice_index_or rules k d) (accepted k d below))
+    (grind (arith, normal_short, accepted))
 
 empties : (labels : List Label) → lines_of labels ≡ map line_of (bodies_in labels)
     → map is_empty_label labels ≡ map is_empty (bodies_in labels)
 empties [] same = refl
-empties (label ∷ labels) same =
-    let here : label.line ≡ line_of label.body = ap (λ lines. slice_index_or lines 0 label.line) same in
-    let later = empties labels (ap (drop 1) same) in
-    rw (here, later) refl
+empties (label ∷ labels) same = grind (arith, empties labels (ap (drop 1) same))
 
 pub marks_read : (read : FileRead) → IsRead read
     → marks_in (map label_by_value read.labels.items) ≡ marks_of (bodies_read read.bytes.now)
-marks_read read is =
-    let labels = map label_by_value read.labels.items in
-    ap (λ marks. false ∷ marks) (empties labels (is.lines_are ∙ ap (map line_of) (sym is.bodies_are))
-    ∙ ap (map is_empty) is.bodies_are)
+marks_read read is = grind (arith, empties)
 
 mark_at : (labels : List LabeledLine) (place : ℕ) (d : LabeledLine) → place < length labels
     → slice_index_or (map is_empty_label (map label_by_value labels)) place false
     ≡ is_empty_label (label_by_value (slice_index_or labels place d))
-mark_at [] place d below = absurd (omega (arith, below))
+mark_at [] place d below = grind arith
 mark_at (label ∷ labels) zero d below = refl
 mark_at (label ∷ labels) (suc place) d below = mark_at labels place d (omega (arith, below))
 

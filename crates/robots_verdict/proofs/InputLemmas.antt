@@ -1,26 +1,26 @@
 -- Inputs: how they are split line by line.
-use Rattle.std.proofs.Common.{◌≡◌, ◌≢◌, ℕ, zero, suc, ◌+◌, ◌<◌, ◌==◌, true, false, inl, inr, List, [], ◌∷◌}
-use Rattle.std.proofs.Common.{◌++◌, ◌∙◌, Option, Some, None, Bor, IfErr, Result, Ok, Err, length, map, subst, sym, refl}
-use Rattle.std.proofs.Common.{◌&&◌, Bool, ap, arith, append_assoc, drop, if◌then◌else◌, slice_index_or, take}
+use Rattle.std.proofs.Common.{◌≡◌, ◌≢◌, ℕ, zero, suc, ◌+◌, ◌<◌, ◌==◌, true, false, List, [], ◌∷◌}
+use Rattle.std.proofs.Common.{◌++◌, ◌∙◌, Option, Some, None, Bor, IfErr, Result, Ok, Err, length, map, refl}
+use Rattle.std.proofs.Common.{◌&&◌, Bool, arith, append_assoc, drop, if◌then◌else◌, slice_index_or, take}
 use Rattle.std.specs.{Io.BufRead.strip_last, List.list_all, Str.is_utf8, Option.IsSomeAnd, Option.option_map, Result.IsErrAnd}
-use Rattle.std.proofs.lemmas.{Bool.cases_Bool, Bool.ne_eqb, List.append-nil, List.drop_more}
+use Rattle.std.proofs.lemmas.{Bool.ne_eqb, List.append-nil, List.drop_more}
 use Rattle.printable_text.specs.{Lines.lf}
 use Rattle.robots_verdict.specs.declared.fault.Fault.{Fault}
 use Rattle.robots_verdict.specs.declared.fault.Fault.TheVariants.{HeaderNotUtf8, Memory}
-use Rattle.robots_verdict.specs.Input.{Input, after_agent, cr, input_of, line_from, split, urls_from, with_url}
+use Rattle.robots_verdict.specs.Input.{Input, cr, input_of, line_from, split, urls_from, with_url}
 use Rattle.robots_verdict.specs.Internal.{IsFirstLf, IsOneLine}
 
 pub line_found : (line input : List ℕ) (place : ℕ) → IsFirstLf input place
     → line_from line input ≡ Some (strip_last cr (line ++ take place input), drop (suc place) input)
-line_found line [] place is = absurd (omega (arith, is.within))
-line_found line (b ∷ input) zero is = grind (arith, append-nil, is.feed)
+line_found line [] place is = absurd (omega arith)
+line_found line (b ∷ input) zero is = grind (arith, append-nil)
 line_found line (b ∷ input) (suc place) is =
     let later = line_found (line ++ b ∷ []) input place (record {
-      within = omega (arith, is.within);
+      within = omega arith;
       feed = is.feed;
-      before = λ k below. is.before (suc k) (omega (arith, below));
+      before = λ k below. is.before (suc k) (omega arith);
     }) in
-    rw (ne_eqb b lf (is.before 0 (omega arith))) (grind (arith, append_assoc, place))
+    rw (ne_eqb b lf (is.before 0 (omega arith))) (grind (arith, append_assoc))
 
 pub line_none : (line input : List ℕ) → IsOneLine input → None ≡ line_from line input
 line_none line [] one = refl
@@ -33,7 +33,7 @@ urls_after (Some (url, rest)) =
 
 urls_by : (line input : List ℕ) → urls_from line input ≡ urls_after (line_from line input)
 urls_by line [] = refl
-urls_by line (b ∷ input) = grind (arith, cases_Bool, urls_by (line ++ b ∷ []) input)
+urls_by line (b ∷ input) = grind (arith, urls_by (line ++ b ∷ []) input)
 
 abbrev in_front : List (List ℕ) → List (List ℕ) × List ℕ → List (List ℕ) × List ℕ
 in_front urls found = (urls ++ found.0, found.1)
@@ -78,7 +78,8 @@ abbrev pub all_utf8 : List (Bor (List ℕ)) → Bool
 all_utf8 texts = list_all is_utf8 (map (λ text. text.now) texts)
 
 utf8_at : (texts : List (Bor (List ℕ))) (i : ℕ) (d : Bor (List ℕ)) (b : Bool) → i < length texts
-    → is_utf8 (slice_index_or texts i d).now ≡ b → all_utf8 (drop i texts) ≡ (b && all_utf8 (drop (i + 1) texts))
+    → is_utf8 (slice_index_or texts i d).now ≡ b → all_utf8 (drop i texts) ≡ (b && all_utf8 (drop
+    (i + 1) texts))
 utf8_at texts i d b below is = grind (arith, drop_more)
 
 pub utf8_next : (texts : List (Bor (List ℕ))) (i : ℕ) (d : Bor (List ℕ))
@@ -129,5 +130,5 @@ pub urls_allocated : {X : Type 0} (r : Result X Fault) (fault : Fault) (urls : L
     → IfErr r (λ fault. fault ≡ Memory → (input ≢ []) × ¬ IsSomeAnd (split input) (λ parts. parts.urls ≡ []))
 urls_allocated (Ok x) fault urls input is some same all = tt
 urls_allocated (Err e) fault urls [] is some same all = absurd (cc)
-urls_allocated (Err e) fault [] (b ∷ input) is some same all = grind (arith, some)
+urls_allocated (Err e) fault [] (b ∷ input) is some same all = grind arith
 urls_allocated (Err e) fault (url ∷ urls) (b ∷ input) is some same all = grind arith

@@ -1,6 +1,6 @@
 -- How a report is built, and that an input has at most one.
 use Rattle.std.proofs.Common.{arith}
-use Rattle.std.proofs.Common.{◌≡◌, ◌≢◌, ◌⊎◌, ℕ, Bool, true, false, List, [], ◌∷◌, ◌++◌, Option, Some, None}
+use Rattle.std.proofs.Common.{◌≡◌, ◌≢◌, ℕ, Bool, true, false, List, [], ◌∷◌, ◌++◌, Option, Some, None}
 use Rattle.std.proofs.Common.{IfErr, IfSome, MatchBool, Result, Ok, Err, ap, inl, inr, map, refl, subst, sym, ◌∙◌}
 use Rattle.std.proofs.lemmas.Bool.{cases_Bool, false≢true}
 use Rattle.std.specs.{Result.IsErrAnd}
@@ -47,7 +47,7 @@ text_made input one two text robot is first second last =
 
 text_once : (input : Input) (text other : List ℕ) → IsReportText input text → IsReportText input other
     → text ≡ other
-text_once input text other one two = grind (arith, lines_once, one.verdict_lines, two.verdict_lines)
+text_once input text other one two = grind (arith, lines_once)
 
 match_once : {X : Type 0} (b : Bool) (P Q : X → Type 0) → ((x y : X) → P x → P y → x ≡ y)
     → ((x y : X) → Q x → Q y → x ≡ y) → (x y : X) → MatchBool b (P x) (Q x) → MatchBool b (P y) (Q y) → x ≡ y
@@ -66,7 +66,8 @@ report_once : (parts : Option Input) (report other : Result (List ℕ) Fault) �
     → IsReportOn parts other → report ≡ other
 report_once None report other one two = one ∙ sym two
 report_once (Some input) report other one two =
-    match_once (are_utf8 input) (IsReportOnUtf8 input) (λ (report : Result (List ℕ) Fault). report ≡ Err HeaderNotUtf8)
+    match_once (are_utf8 input) (IsReportOnUtf8 input) (λ (report : Result
+    (List ℕ) Fault). report ≡ Err HeaderNotUtf8)
     (read_once input) (λ x y p q. p ∙ sym q) report other one two
 
 pub one_report : (input : List ℕ) (report other : Result (List ℕ) Fault) → IsReport input report
@@ -80,7 +81,8 @@ rejected_or_not input =
     let decides = any_overlong_decides (rules_for input.agent lines) in
     elim (cases_Bool _) [
       | inl some ↦ inl (lines, lines_are_read input.file, is.1 (decides.0 some))
-      | inr none ↦ inr (λ rejected. false≢true (cc (decides.1 (is.0 (read_rejected input.agent input.file rejected)))))
+      | inr none ↦ inr (λ rejected. false≢true (cc (decides.1 (is.0
+          (read_rejected input.agent input.file rejected)))))
     ]
 
 text_of_report : (input : Input) → (text : List ℕ) × IsReportText input text
@@ -136,15 +138,14 @@ pub run_wrote : (left : Option (List ℕ)) (W : List ℕ → Type 0) (items byte
     → IfSome left (λ input. items ≡ input) → bytes ≡ items → IsReport bytes (Ok text) → written ≡ text
     → W written
     → IfSome left (λ input. (text : List ℕ) × IsReport input (Ok text) × W text)
-run_wrote left W items bytes text written read same report whole wrote = grind (arith, of_input)
+run_wrote left W items bytes text written read same report whole wrote = grind arith
 
 pub run_fault : {X : Type 0} (left : Option (List ℕ)) (items bytes : List ℕ) (r : Result X Fault)
     (fault wanted : Fault) → IfSome left (λ input. items ≡ input) → bytes ≡ items
     → (fault ≢ Memory → IsReport bytes (Err fault)) → IsErrAnd r (λ other. other ≡ fault)
     → wanted ≢ Memory → r ≡ Err wanted → IfSome left (λ input. IsReport input (Err wanted))
 run_fault left items bytes r fault wanted read same has is known answer =
-    let found : wanted ≡ fault = rw answer at is in
-    grind (arith, of_input, has, known)
+    grind arith
 
 pub run_memory : {X : Type 0} (left : Option (List ℕ)) (items bytes : List ℕ) (r : Result X Fault)
     (fault : Fault) → IfSome left (λ input. items ≡ input) → bytes ≡ items → (fault ≡ Memory → bytes ≢ [])

@@ -2,12 +2,12 @@
 -- alike have the same lines.
 use Rattle.std.proofs.Common.{arith}
 use Rattle.std.proofs.Common.{◌≡◌, ℕ, ◌+◌, ◌<◌, List, [], ◌∷◌, ◌++◌, length, map, take, append_assoc, refl}
-use Rattle.std.proofs.Common.{slice_index_or, sym, ap, ◌∙◌}
+use Rattle.std.proofs.Common.{slice_index_or}
 use Rattle.std.specs.{List.AllZip}
 use Rattle.std.proofs.lemmas.List.{append-nil, map-append, take_more, Elements.AllZip-push}
-use Rattle.texting_robots.specs.Callers.{AnswerAlike, PlacedRule, prepared, unplaced}
+use Rattle.texting_robots.specs.Callers.{AnswerAlike, PlacedRule, prepared}
 use Rattle.texting_robots.specs.{Decision.IsDecisionOn, declared.decision.Decision.Decision}
-use Rattle.texting_robots.proofs.Shared.{each_text_answered, one_line_decides, one_verdict}
+use Rattle.texting_robots.proofs.Shared.{each_text_answered}
 use Rattle.printable_text.specs.{Lines.ended}
 use Rattle.robots_verdict.specs.Report.{AddsVerdict, AddsVerdicts, IsVerdictLine, verdict_front}
 use Rattle.printable_text.proofs.{SanitizeLemmas.lines_added}
@@ -49,9 +49,7 @@ module _ (rules : List PlacedRule) where
       let a = one.decided in
       let b = two.decided in
       let text = prepared url in
-      let answers =
-      one_verdict (unplaced rules) text one.decision.allowed two.decision.allowed a.verdict b.verdict in
-      grind (arith, one_line_decides)
+      grind arith
 
   pub lines_once : (urls lines others : List (List ℕ)) → AllZip (IsVerdictLine rules) urls lines
       → AllZip (IsVerdictLine rules) urls others → lines ≡ others
@@ -90,4 +88,4 @@ lines_like rules others alike [] [] are = tt
 lines_like rules others alike [] (line ∷ lines) are = absurd are
 lines_like rules others alike (url ∷ urls) [] are = absurd are
 lines_like rules others alike (url ∷ urls) (line ∷ lines) (first, later) =
-    grind (arith, alike.verdicts, alike.deciding, lines_like rules others alike urls lines later)
+    grind (arith, lines_like rules others alike urls lines later)

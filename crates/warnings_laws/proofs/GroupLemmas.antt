@@ -138,7 +138,12 @@ module _ (gone : ℕ → Bool) where
       → list_any test (left_from gone position (lines_of labels)) ≡ list_any test (lines_of labels)
   any_left test others position first [] are = refl
   any_left test others position first (label ∷ labels) are =
-      grind (arith, differs_here, any_left test others (position + 1) (first_delay first label.line) labels (others_next are))
+      grind (
+        arith,
+        differs_here,
+        any_left test others (position + 1) (first_delay first label.line) labels
+            (others_next are),
+      )
 
   first_left : (name : List ℕ) (position : ℕ) (first found : Option ℕ) (tracker : GroupTracker)
       (labels : List Label) → AreOthers gone position first labels → IsSettled first found tracker
@@ -166,7 +171,8 @@ before_left gone position (line ∷ lines) are = elim (cases_Bool (gone (positio
   | inl goes ↦ absurd (false≢true (are 0 (grind arith)))
   | inr stays ↦ elim (cases_Bool (is_agent line)) [
     | inl agent ↦ rw (stays, agent) refl
-    | inr isnt ↦ rw (stays, isnt) (cc (before_left gone (position + 1) lines (λ place goes. rw isnt at (are (suc place) (grind (arith, gone))))))
+    | inr isnt ↦ rw (stays, isnt) (cc (before_left gone (position + 1) lines (λ place goes. rw isnt at (are
+        (suc place) (grind (arith, gone))))))
   ]
 ]
 

@@ -123,11 +123,17 @@ repeat_from : (everywhere : Bool) (lines : List LineValue) (position : ℕ) (abo
 repeat_from everywhere lines position above [] number reached (k, below, at) = absurd (omega arith)
 repeat_from everywhere lines position above (label ∷ labels) number reached has =
     let group = above_next above label.line in
-    (grind (arith, first_repeat, repeat_from everywhere lines (position + 1) group labels number (next reached)))
+    (grind (
+      arith,
+      first_repeat,
+      repeat_from everywhere lines (position + 1) group labels number
+          (next reached),
+    ))
 
 is_repeat : {name : List ℕ} {lines : List LineValue} {labels : List Label} → AreLabelsOf name lines labels
     → (everywhere : Bool) (number : ℕ) → Contains (repeated everywhere labels) number → IsRepeat lines number
-is_repeat {lines} {labels} are everywhere number = repeat_from everywhere lines 0 [] labels number (grind arith)
+is_repeat {lines} {labels} are everywhere number = repeat_from everywhere lines 0 [] labels number
+    (grind arith)
 
 captured_above : {lines : List LineValue} {position : ℕ} {line : Option LineValue} (name : List ℕ)
     (is : IsAbove lines position line) → IsCaptured name lines position → IsCaptured name lines is.other

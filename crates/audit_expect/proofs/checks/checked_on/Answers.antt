@@ -1,7 +1,5 @@
+use Rattle.std.proofs.Common.{arith}
 use Rattle.audit_expect.proofs.checks.checked_on.Goals as goal
 
 pub returns-clause-checked : goal.returns-clause-checked
-returns-clause-checked c = record {
-  here = c.in_ok-judgment.ensures.ok;
-  at_vendor = c.in_ok-vendor.ensures.ok;
-}
+returns-clause-checked c = grind arith

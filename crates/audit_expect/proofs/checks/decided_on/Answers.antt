@@ -1,6 +1,5 @@
-use Rattle.std.proofs.Common.{◌≡◌, string_bytes}
+use Rattle.std.proofs.Common.{arith}
 use Rattle.texting_robots.proofs.Shared.{read_robot}
-use Rattle.robots_warnings.specs.Targets.{normal_target, written_target}
 use Rattle.audit_expect.proofs.ExpectationsLemmas.{robot_found}
 use Rattle.audit_expect.proofs.checks.decided_on.Goals as goal
 
@@ -25,11 +24,4 @@ normal_decision-requires-clause-accepted c =
 pub returns-clause-ok : goal.returns-clause-ok
 returns-clause-ok c =
     let found = robot_found _ c.args.read.now.bytes.now _ _ _ c.requires.robot c.in_ok-decision.ensures.ok in
-    let form : string_bytes c.in-Some.target ≡ normal_target (written_target c.args.url.now) =
-    (rw c.in-Some.is at c.in_ok-form.ensures.ok).0 in (
-      found.0,
-      found.1,
-      c.in_ok-other.ensures.ok,
-      rw (c.deref.ensures, form) at c.in_ok-normal.ensures.ok,
-      (rw c.in-Some.is at c.in_ok-form.ensures.ok).1,
-    )
+    grind arith

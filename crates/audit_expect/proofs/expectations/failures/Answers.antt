@@ -1,4 +1,4 @@
-use Rattle.std.proofs.Common.{ap, subst, sym}
+use Rattle.std.proofs.Common.{ap, subst}
 use Rattle.audit_core.specs.Internal.{IsReading}
 use Rattle.audit_expect.specs.Internal.Expectations.{expectation_value, checked_value}
 use Rattle.audit_expect.proofs.ExpectationsLemmas.{failures_next}
@@ -10,7 +10,7 @@ loop-expectation-preserved c =
     let checked = c.in_ok-checked.ensures in
     record {
       latest = subst (λ agent. IsReading agent c.args.read.now.bytes.now c.in_ok-latest.latest.reading)
-          (sym latest.agent_is) latest.reading;
+          (cc) latest.reading;
       failures = failures_next c.args.read.now.bytes.now _ _ c.args.expectations.now
           c.loop-expectation.expectation-index _ (checked_value c.in_ok-checked.checked)
           c.loop-expectation-test.true c.loop-expectation.invariant.failures

@@ -1,5 +1,5 @@
-use Rattle.std.proofs.Common.{◌≡◌, ◌∙◌, ℕ, Bool, true, false, List, Contains, arith, map, subst, sym}
-use Rattle.std.proofs.lemmas.Bool.{not-false, not-true, or_parts}
+use Rattle.std.proofs.Common.{◌≡◌, ◌∙◌, ℕ, Bool, true, false, List, Contains, map, subst, sym}
+use Rattle.std.proofs.lemmas.Bool.{not-false, or_parts}
 use Rattle.texting_robots.specs.Callers.{PlacedRule, bodies_read, lines_read, placed_rules, unplaced}
 use Rattle.texting_robots.specs.{declared.decision.Decision.Decision}
 use Rattle.texting_robots.proofs.Shared.{one_verdict}

@@ -1,18 +1,10 @@
-use Rattle.std.proofs.Common.{◌≡◌, false, map, rules}
-use Rattle.std.specs.Option.{option_map_or}
-use Rattle.texting_robots.specs.Callers.{bodies_read, label_by_value, lines_read, placed_rules}
-use Rattle.audit_expect.specs.Internal.Expectations.{is_marked, marks_in}
+use Rattle.std.proofs.Common.{arith}
+use Rattle.texting_robots.specs.Callers.{bodies_read, lines_read, placed_rules}
 use Rattle.audit_expect.proofs.OtherReadingLemmas.{decided_otherwise, marks_read, others_accepted, unchanged}
 use Rattle.audit_expect.proofs.other_reading.other_decision.Goals as goal
 
 pub returns-then-not-is_by_marked-clause-ok : goal.returns-then-not-is_by_marked-clause-ok
-returns-then-not-is_by_marked-clause-ok c =
-    let file = c.args.read.now.bytes.now in
-    let other : option_map_or (is_marked (marks_in (map label_by_value c.deref.result.now)))
-    c.args.decision.now.line false ≡ false = search rules in
-    unchanged (bodies_read file) (placed_rules c.args.agent.now (lines_read file)) _
-    c.args.decision.now c.requires.decided
-    (rw (c.deref.ensures.value, marks_read c.args.read.now c.requires.read) at other)
+returns-then-not-is_by_marked-clause-ok c = grind (arith, marks_read, unchanged, c.args.read.now.bytes.now)
 
 pub decision_of-requires : goal.decision_of-requires
 decision_of-requires c =

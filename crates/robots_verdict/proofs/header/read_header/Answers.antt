@@ -1,13 +1,13 @@
 use Rattle.std.proofs.Common.{arith}
 use Rattle.std.proofs.Common.{refl}
-use Rattle.robots_verdict.proofs.{InputLemmas.urls_allocated, ReportLemmas.header_fault}
+use Rattle.robots_verdict.proofs.{InputLemmas.urls_allocated}
 use Rattle.robots_verdict.proofs.header.read_header.Goals as goal
 
 pub returns-in_err-agent-clause-fault : goal.returns-in_err-agent-clause-fault
-returns-in_err-agent-clause-fault c = grind (arith, header_fault, c.in_err-agent.ensures.fault)
+returns-in_err-agent-clause-fault c = grind arith
 
 pub returns-in_err-urls-clause-fault : goal.returns-in_err-urls-clause-fault
-returns-in_err-urls-clause-fault c = grind (arith, header_fault, c.in_err-urls.ensures.fault)
+returns-in_err-urls-clause-fault c = grind arith
 
 pub returns-in_err-urls-clause-memory : goal.returns-in_err-urls-clause-memory
 returns-in_err-urls-clause-memory c = urls_allocated c.from_residual-in_err-urls.result

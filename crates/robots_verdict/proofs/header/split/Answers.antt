@@ -1,7 +1,7 @@
 use Rattle.std.proofs.Common.{arith}
-use Rattle.std.proofs.{Common.rules, Common.refl, lemmas.List.map-append}
-use Rattle.robots_verdict.proofs.InputLemmas.{goes_first, goes_more, if_memory, no_agent, no_split, not_empty}
-use Rattle.robots_verdict.proofs.{InputLemmas.split_found, InputLemmas.some_url, ReportLemmas.no_parts}
+use Rattle.std.proofs.{Common.rules, lemmas.List.map-append}
+use Rattle.robots_verdict.proofs.InputLemmas.{goes_first, goes_more, if_memory, no_split, not_empty}
+use Rattle.robots_verdict.proofs.{InputLemmas.split_found, InputLemmas.some_url}
 use Rattle.robots_verdict.proofs.header.split.Goals as goal
 
 pub loop-url-init : goal.loop-url-init
@@ -16,10 +16,10 @@ loop-url-preserved c =
     (goes_more _ _ _ _ _ c.loop-url.invariant c.in-Some-first_line.ensures.line (search rules))
 
 pub returns-in_default-clause-fault : goal.returns-in_default-clause-fault
-returns-in_default-clause-fault c = grind (arith, no_agent, no_parts)
+returns-in_default-clause-fault c = grind arith
 
 pub returns-clause-fault : goal.returns-clause-fault
-returns-clause-fault c = grind (arith, no_parts, no_split)
+returns-clause-fault c = grind (arith, no_split)
 
 pub returns-in_err-push-clause-memory : goal.returns-in_err-push-clause-memory
 returns-in_err-push-clause-memory c = if_memory _ (

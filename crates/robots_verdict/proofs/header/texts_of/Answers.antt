@@ -1,5 +1,5 @@
-use Rattle.std.proofs.{Common.arith, Common.ap, Common.◌∙◌, lemmas.Grind.common_steps, lemmas.List.drop_all}
-use Rattle.robots_verdict.proofs.InputLemmas.{all_utf8, first_not_utf8, utf8_next}
+use Rattle.std.proofs.{Common.arith, lemmas.Grind.common_steps, lemmas.List.drop_all}
+use Rattle.robots_verdict.proofs.InputLemmas.{first_not_utf8, utf8_next}
 use Rattle.robots_verdict.proofs.header.texts_of.Goals as goal
 
 pub loop-url-preserved : goal.loop-url-preserved
@@ -11,7 +11,7 @@ loop-url-preserved c = record {
 pub returns-clause-ok : goal.returns-clause-ok
 returns-clause-ok c = (
   grind (arith, common_steps),
-  grind (arith, all_utf8, drop_all),
+  grind (arith, drop_all),
 )
 
 pub returns-in_err-text_of-clause-fault : goal.returns-in_err-text_of-clause-fault

@@ -1,21 +1,20 @@
 use Rattle.std.proofs.Common.{arith}
-use Rattle.std.proofs.Common.{Err, ap}
 use Rattle.std.specs.Io.KnownBytes.{Appends}
 use Rattle.robots_io.specs.Streams.{AppendsBeginning}
-use Rattle.robots_verdict.proofs.ReportLemmas.{run_fault, run_memory, run_unread, run_wrote}
+use Rattle.robots_verdict.proofs.ReportLemmas.{run_wrote}
 use Rattle.robots_verdict.proofs.program.run.Goals as goal
 
 pub returns-in_err-text-clause-no_empty_line : goal.returns-in_err-text-clause-no_empty_line
-returns-in_err-text-clause-no_empty_line g c = grind (arith, run_fault)
+returns-in_err-text-clause-no_empty_line g c = grind arith
 
 pub returns-in_err-text-clause-invalid_rule : goal.returns-in_err-text-clause-invalid_rule
-returns-in_err-text-clause-invalid_rule g c = grind (arith, run_fault)
+returns-in_err-text-clause-invalid_rule g c = grind arith
 
 pub returns-in_err-input-clause-memory : goal.returns-in_err-input-clause-memory
-returns-in_err-input-clause-memory g c = grind (arith, run_unread, c.in_err-input.ensures.memory)
+returns-in_err-input-clause-memory g c = grind arith
 
 pub returns-in_err-text-clause-memory : goal.returns-in_err-text-clause-memory
-returns-in_err-text-clause-memory g c = grind (arith, run_memory)
+returns-in_err-text-clause-memory g c = grind arith
 
 pub returns-clause-ok : goal.returns-clause-ok
 returns-clause-ok g c = run_wrote _ (Appends _ _) _ _ _ _ c.in_ok-input.ensures.all c.deref.ensures.value

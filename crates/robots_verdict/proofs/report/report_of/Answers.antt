@@ -1,11 +1,11 @@
 use Rattle.std.proofs.Common.{arith}
-use Rattle.std.proofs.Common.{◌≡◌, ◌++◌, ◌∷◌, [], ℕ, List, ap, inr, map, refl, string_bytes, take, ◌∙◌}
-use Rattle.texting_robots.specs.Robot.{RobotValue, file_limit}
+use Rattle.std.proofs.Common.{◌≡◌, ◌++◌, ◌∷◌, [], inr, map, refl, string_bytes, take}
+use Rattle.texting_robots.specs.Robot.{file_limit}
 use Rattle.texting_robots.proofs.Shared.{not_rejected, read_robot}
 use Rattle.printable_text.specs.Lines.{ended}
 use Rattle.robots_verdict.specs.Report.{delay_line, sitemap_line}
 use Rattle.robots_verdict.specs.Internal.{value_of}
-use Rattle.robots_verdict.proofs.{InputLemmas.some_input, ReportLemmas.robot_fault, ReportLemmas.text_made}
+use Rattle.robots_verdict.proofs.{InputLemmas.some_input, ReportLemmas.text_made}
 use Rattle.robots_verdict.proofs.report.report_of.Goals as goal
 
 pub returns-clause-ok : goal.returns-clause-ok
@@ -27,7 +27,7 @@ returns-clause-ok c =
     ))
 
 pub returns-in_err-robot-clause-fault : goal.returns-in_err-robot-clause-fault
-returns-in_err-robot-clause-fault c = grind (arith, robot_fault)
+returns-in_err-robot-clause-fault c = grind arith
 
 pub returns-in_err-push_delay-clause-memory : goal.returns-in_err-push_delay-clause-memory
 returns-in_err-push_delay-clause-memory c =
