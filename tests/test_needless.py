@@ -82,16 +82,16 @@ def test_some_lines_are_reported():
     assert found_in(lines) == [3, 4, 5, 7]
 
 
-WORDS = ["".join(letters) for size in range(4) for letters in itertools.product("abc", repeat=size)]
-MANY_PATHS = [f"/{word}{end}" for word in WORDS for end in ("", "$")] + [f"/{word}*c" for word in WORDS[:13]] + [f"/*{word}" for word in WORDS[1:13]]
-TEXTS = ["/" + word + letter for word in WORDS for letter in ("", *"abc")]
+LONGEST = "Disallow: /qqqqqqqq$"
+TEXTS = ["/qqqqqqqq", *("/" + "".join(letters) for size in range(5) for letters in itertools.product("abc", repeat=size))]
 
 
-@pytest.mark.parametrize("seed, paths, count", [(seed, PATHS, 8) for seed in range(20)] + [(seed, MANY_PATHS, 150) for seed in range(4)])
-def test_every_needless_rule_is_found(seed, paths, count):
-    """Without any other rule, the verdict on some short path is another one."""
+@pytest.mark.parametrize("seed", range(20))
+def test_every_needless_rule_is_found(seed):
+    """Without any other rule, the verdict on some short path is another one. The longest one denies a path, so that some rule is
+    needed, and none stays only because its block needs one."""
     some = random.Random(seed)
-    lines = ["User-agent: a", *(f"{some.choice(['Allow', 'Disallow'])}: {some.choice(paths)}" for _ in range(count))]
+    lines = ["User-agent: a", LONGEST, *(f"{some.choice(['Allow', 'Disallow'])}: {some.choice(PATHS)}" for _ in range(8))]
     numbers = found_in(lines)
     left = [line for number, line in enumerate(lines, 1) if number not in numbers]
 
@@ -101,7 +101,7 @@ def test_every_needless_rule_is_found(seed, paths, count):
 
     assert verdicts(left) == verdicts(lines)
     for at, line in enumerate(left[1:], 1):
-        if len(left) > 2 and line not in ("Allow: /", "Allow: ", "Disallow: "):
+        if line not in ("Allow: /", "Allow: ", "Disallow: "):
             assert verdicts(left[:at] + left[at + 1 :]) != verdicts(left), (lines, line)
 
 

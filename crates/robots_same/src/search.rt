@@ -137,9 +137,9 @@ impl<'a> Found<'a> {
             return Ok(true);
         }
         let bytes = self.states[at].next_bytes(alloc)?;
-        let items = self.states[at].items().saturating_add(2);
+        let cost = self.states[at].cost().saturating_add(2);
         if self.items > MOST_ITEMS
-            || !spend(budget, items.saturating_mul(bytes.len().saturating_add(1)))
+            || !spend(budget, cost.saturating_mul(bytes.len().saturating_add(1)))
         {
             return Ok(false);
         }

@@ -70,6 +70,11 @@ impl<'a> State<'a> {
         self.old.items.len().saturating_add(self.new.items.len())
     }
 
+    /// About how long a step of it takes, in steps of rules of ordinary lengths.
+    pub(crate) fn cost(&self) -> usize {
+        cost_of(self.old.items.as_slice()).saturating_add(cost_of(self.new.items.as_slice()))
+    }
+
     /// States with different items rarely have the same hash.
     pub(crate) fn hash(&self) -> u64 {
         let first = hash_items(u64::from(self.old.start), &self.old.items);
@@ -78,6 +83,14 @@ impl<'a> State<'a> {
             .wrapping_add(u64::from(self.new.start));
         hash_items(middle, &self.new.items)
     }
+}
+
+fn cost_of(items: &[Item<'_>]) -> usize {
+    let mut cost = items.len();
+    for item in items {
+        cost = cost.saturating_add(item.rest().len() / 256);
+    }
+    cost
 }
 
 fn hash_items(start: u64, items: &[Item<'_>]) -> u64 {
