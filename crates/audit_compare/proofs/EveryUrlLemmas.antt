@@ -4,7 +4,7 @@ use Rattle.std.proofs.Common.{Err, IfOk, None, Ok, Option, Result, Some, ap, cod
 use Rattle.std.specs.Option.{IfSome}
 use Rattle.std.proofs.lemmas.{Bool.false≢true}
 use Rattle.texting_robots.specs.Callers.{IsDenied, Matches, Rule, RobotValue, lines_read}
-use Rattle.texting_robots.specs.Callers.{placed_rules, robots_file}
+use Rattle.texting_robots.specs.Callers.{placed_rules, robots_file, unplaced}
 use Rattle.texting_robots.specs.{Pattern.MatchesWith, Decision.IsDecisionOn, declared.decision.Decision.Decision}
 use Rattle.robots_same.specs.Same.{HaveSameVerdicts}
 use Rattle.robots_warnings.specs.declared.closed.Reach.TheVariants.{Everything, Nothing}
@@ -55,10 +55,10 @@ all_denied rest other = (
   λ pattern has matches. no_allow pattern (codes "/" ++ rest) has matches,
 )
 
-pub everything : (rules others : List Rule) → others ≡ [] → HaveSameVerdicts (codes "/") rules others
-    → IsReach rules Everything
+pub everything : (rules others : List PlacedRule) → others ≡ []
+    → HaveSameVerdicts (codes "/") (unplaced rules) (unplaced others) → IsReach (unplaced rules) Everything
 everything rules others none same rest = (same rest true).1 (rw none (none_denied (codes "/" ++ rest)))
 
-pub nothing : (rules others : List Rule) → others ≡ closing ∷ [] → HaveSameVerdicts (codes "/") rules others
-    → IsReach rules Nothing
+pub nothing : (rules others : List PlacedRule) → others ≡ record { rule = closing; line = 0 } ∷ []
+    → HaveSameVerdicts (codes "/") (unplaced rules) (unplaced others) → IsReach (unplaced rules) Nothing
 nothing rules others is same rest other = (same rest false).1 (rw is (all_denied rest other))

@@ -1,7 +1,7 @@
 //! Whether the verdict of any URL changes for a crawler, and what the crawler may fetch.
 ghost use Rattle.std.specs.Prelude.{◌≡◌, IfErr, IfOk, IsTrue, codes};
 ghost use Rattle.std.specs.Option.{IfSome};
-ghost use Rattle.texting_robots.specs.Callers.{lines_read, placed_rules};
+ghost use Rattle.texting_robots.specs.Callers.{lines_read, placed_rules, unplaced};
 ghost use Rattle.audit_compare.specs.EveryUrl.{AreVerdicts, IsExample, IsReach, is_same};
 ghost use Rattle.robots_same.specs.Same.{HaveSameVerdicts};
 ghost use Rattle.robots_warnings.specs.Read.{IsRead};
@@ -55,9 +55,11 @@ fn are_same(
     others: &[Rule],
     budget: usize,
 ) -> Result<bool, AllocError>
-    ensures { IfOk result (λ same. IsTrue same → HaveSameVerdicts (codes "/") rules.now others.now) }
+    ensures { IfOk result (λ same. IsTrue same → HaveSameVerdicts (codes "/") (unplaced rules.now)
+        (unplaced others.now)) }
 {
-    match compare(alloc, b"/", rules, others, budget)? {
+    let mut left = budget;
+    match compare(alloc, b"/", rules, others, &mut left)? {
         Comparison::Same => Ok(true),
         _ => Ok(false),
     }
@@ -65,7 +67,7 @@ fn are_same(
 
 /// A part is also said if the budget is too small.
 fn reach_of(alloc: Global, rules: &[Rule], budget: usize) -> Result<Reach, AllocError>
-    ensures { IfOk result (IsReach rules.now) }
+    ensures { IfOk result (IsReach (unplaced rules.now)) }
 {
     let mut others = Vec::new(alloc);
     if are_same(alloc, rules, &others, budget)? {
@@ -74,6 +76,7 @@ fn reach_of(alloc: Global, rules: &[Rule], budget: usize) -> Result<Reach, Alloc
     others.push(Rule {
         pattern: String::from_str(alloc, "/")?,
         is_allow: false,
+        line: 0,
     })?;
     if are_same(alloc, rules, &others, budget)? {
         return Ok(Reach::Nothing);
@@ -163,7 +166,8 @@ pub(crate) fn verdicts_for(
 {
     let old_rules = rules_of(alloc, &older.site, agent)?;
     let new_rules = rules_of(alloc, &newer.site, agent)?;
-    let text = match compare(alloc, b"/", &old_rules, &new_rules, budget)? {
+    let mut left = budget;
+    let text = match compare(alloc, b"/", &old_rules, &new_rules, &mut left)? {
         Comparison::Same => return Ok(Verdicts::Same),
         Comparison::Differ(text) => text,
         Comparison::Undecided => Vec::new(alloc),
