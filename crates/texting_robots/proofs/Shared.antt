@@ -14,12 +14,12 @@ pub use Rattle.texting_robots.proofs.CapturedLemmas.{delays_are, given_captured,
 pub use Rattle.texting_robots.proofs.CapturedLemmas.{occurs_first, occurs_next, only_agents, rules_are}
 pub use Rattle.texting_robots.proofs.CapturedLemmas.{some_passes, taken_decides}
 pub use Rattle.texting_robots.proofs.RulesLemmas.{any_unplaced, before_agent, before_agents, first_more}
-pub use Rattle.texting_robots.proofs.RulesLemmas.{none_unplaced, option_or_none, rejected_wider}
+pub use Rattle.texting_robots.proofs.RulesLemmas.{none_unplaced, option_or_none}
 pub use Rattle.texting_robots.proofs.RulesLemmas.{some_overlong}
-pub use Rattle.texting_robots.proofs.SiteOwnLemmas.{any_between, file_rejected, same_robot}
+pub use Rattle.texting_robots.proofs.SiteOwnLemmas.{same_robot}
 pub use Rattle.texting_robots.proofs.SegmentLemmas.{in_front, only_wildcards_match, plain_wildcards}
 pub use Rattle.texting_robots.proofs.SegmentLemmas.{suffix_trans}
-pub use Rattle.texting_robots.proofs.VerdictLemmas.{cmp_less, cmp_same, one_line_decides, one_verdict}
+pub use Rattle.texting_robots.proofs.VerdictLemmas.{one_verdict}
 pub use Rattle.texting_robots.proofs.VerdictLemmas.{order_changes_nothing, same_verdicts}
 pub use Rattle.texting_robots.proofs.MainTheoremLemmas.{answers_computed, computed_are}
 pub use Rattle.texting_robots.proofs.MainTheoremLemmas.{deciding_line_holds_its_rule, has_lines}
