@@ -4,7 +4,7 @@ use Rattle.std.proofs.Common.{Err, IfOk, None, Ok, Option, Result, Some, ap, cod
 use Rattle.std.specs.Option.{IfSome}
 use Rattle.std.proofs.lemmas.{Bool.false≢true}
 use Rattle.texting_robots.specs.Callers.{IsDenied, Matches, Rule, RobotValue, lines_read}
-use Rattle.texting_robots.specs.Callers.{placed_rules, robots_file, unplaced}
+use Rattle.texting_robots.specs.Callers.{PlacedRule, placed_rules, robots_file, unplaced}
 use Rattle.texting_robots.specs.{Pattern.MatchesWith, Decision.IsDecisionOn, declared.decision.Decision.Decision}
 use Rattle.robots_same.specs.Same.{HaveSameVerdicts}
 use Rattle.robots_warnings.specs.declared.closed.Reach.TheVariants.{Everything, Nothing}
