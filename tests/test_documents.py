@@ -16,7 +16,7 @@ FINDINGS = {
     name for crate in ("compare/specs/Compare", "expect/specs/Expectations")
     for name in re.findall(r'codes "([a-z-]+)"', (CRATES / f"audit_{crate}.antt").read_text())
 }  # fmt: skip
-README, GUIDE, PROGRAMS, PROOFS, CONTRACTS = map(DOCUMENTS.get, ["README.md", *(f"docs/{name}.md" for name in ("GUIDE", "PROGRAMS", "PROOFS", "CONTRACTS"))])
+README, GUIDE, PROGRAMS, PROOFS = map(DOCUMENTS.get, ["README.md", *(f"docs/{name}.md" for name in ("GUIDE", "PROGRAMS", "PROOFS"))])
 
 
 def code(document, language):
@@ -115,11 +115,10 @@ def quoted(document):
     return found
 
 
-@pytest.mark.parametrize("document, function", [(PROOFS, "allowed_in_file"), (CONTRACTS, "Robot::new")], ids=["PROOFS", "CONTRACTS"])
-def test_quoted_contracts_are_those_of_the_source(document, function):
+def test_quoted_contracts_are_those_of_the_source():
     found = set().union(*map(contracts, (LIBRARY / "src").rglob("*.rt")))
-    parts = quoted(document)
-    assert function in {name for name, _ in parts}
+    parts = quoted(PROOFS)
+    assert "allowed_in_file" in {name for name, _ in parts}
     assert parts - found == set()
 
 
