@@ -227,10 +227,10 @@ def test_guide_runs_its_program():
 
 def test_readme_shows_what_its_first_command_prints():
     """The command as it is there, which compiles the program anew."""
-    command, report = section(README, "Try it").split("prints:")
+    command, report = README.split("\n## ")[0].split("prints:")
     ended = subprocess.run(["bash", "-c", shown(command)], cwd=ROOT, stdin=subprocess.DEVNULL, capture_output=True, text=True)
     warnings = [line for line in ended.stderr.splitlines() if line.startswith("robots.txt:")]
-    assert (ended.returncode, [*ended.stdout.splitlines(), *warnings]) == (1, shown(report.split("`+` marks")[0]).splitlines())
+    assert (ended.returncode, [*ended.stdout.splitlines(), *warnings]) == (1, shown(report.split("\n- ")[0]).splitlines())
 
 
 @pytest.mark.parametrize("command", [line for line in (shown(README) + shown(PROGRAMS)).splitlines() if re.match("(robots_audit|curl) ", line)])
