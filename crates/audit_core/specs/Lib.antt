@@ -1,6 +1,7 @@
 pub mod Request
 pub mod Answer
 pub mod Texts
+pub mod Reach
 pub mod Fault
 pub mod Rows
 pub mod Asked

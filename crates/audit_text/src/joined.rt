@@ -4,6 +4,7 @@ ghost use Rattle.std.specs.{BTreeSet.contains, Ordering.nat_cmp};
 ghost use Rattle.robots_warnings.specs.Table.{number_of};
 ghost use Rattle.audit_text.specs.Joined.{has_shared_end, is_joined, is_joined_as, joined, line_as, shared_lines};
 
+use audit_core::texts::Lines;
 use printable_text::level::Level;
 use robots_warnings::warning::{Detail, Warning};
 use std::alloc::{AllocError, Global};
@@ -128,12 +129,9 @@ impl<'a> fmt::Display for AlsoIn<'a> {
     fn fmt<W: fmt::Write>(&self, f: &mut fmt::Formatter<W>) -> fmt::Result {
         match self.0 {
             [] | [_] => Ok(()),
-            [_, one] => write!(f, " (also in line {one})"),
-            [_, one, two] => write!(f, " (also in lines {one} and {two})"),
-            [_, one, two, three] => write!(f, " (also in lines {one}, {two} and {three})"),
-            [_, one, two, three, more @ ..] => {
-                let more = more.len();
-                write!(f, " (also in lines {one}, {two}, {three} and {more} more)")
+            [_, others @ ..] => {
+                let others = Lines(others);
+                write!(f, " (also in {others})")
             }
         }
     }

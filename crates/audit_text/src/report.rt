@@ -9,7 +9,7 @@ use audit_core::counts::counts_of;
 use audit_core::request::Request;
 use audit_core::rows::write_rows;
 use audit_core::syntax::{LINE_APART, OTHER_LINE, SYNTAX_SENTENCE, VERDICTS_SENTENCE};
-use audit_core::texts::{Applied, DelayOrNone, write_rejected};
+use audit_core::texts::{Applied, DelayOrNone, Fetched, may_fetch, write_rejected};
 use printable_text::level::Level;
 use printable_text::report::Report;
 use rfc9309_laws::conformance::Conformance;
@@ -26,6 +26,11 @@ fn write_agent(out: &mut Report, audit: &AgentAudit<'_>) -> fmt::Result {
     let delay = DelayOrNone(audit.delay);
     write!(out, "delay: {delay}")?;
     out.end_line()?;
+    if may_fetch(audit.rejected, audit.reach).is_some() {
+        let fetched = Fetched(audit.reach, &audit.allows);
+        write!(out, "may fetch: {fetched}")?;
+        out.end_line()?;
+    }
     write_rejected(out, agent, audit.rejected)?;
     write_verdicts(out, None, &audit.verdicts)
 }
