@@ -67,6 +67,7 @@ line_of placed = placed.line
 no_line : (lines : List ℕ) {n : ℕ} → lines ≡ [] → Contains lines n → ⊥
 no_line [] none (k, below, at) = absurd (omega arith)
 no_line (line ∷ lines) none has = absurd (cc)
+
 -- what a Disallow of the whole site leaves of a path
 module _ (rules : List PlacedRule) (closing : PlacedRule) (listed : Contains rules closing)
     (closes : is_closing closing ≡ true) (rest : List ℕ) where

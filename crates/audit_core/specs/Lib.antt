@@ -11,4 +11,5 @@ pub mod Content
 pub mod Counts
 pub mod Needless
 pub mod Findings
+pub mod Joined
 pub mod Internal

@@ -15,6 +15,7 @@ pub mod crawler;
 pub mod fault;
 pub mod findings;
 pub mod group;
+pub mod joined;
 mod needless;
 pub mod reach;
 pub mod request;

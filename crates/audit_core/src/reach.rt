@@ -5,9 +5,9 @@ ghost use Rattle.texting_robots.specs.Callers.{PlacedRule};
 ghost use Rattle.robots_warnings.specs.Closed.{is_closing};
 ghost use Rattle.audit_core.specs.Reach.{IsReach, is_allow, is_long_allow, plain_rules};
 
+use crate::whole_site::is_whole_site;
 use robots_same::compare::{Comparison, compare};
 use robots_same::rule::Rule;
-use crate::whole_site::is_whole_site;
 use std::alloc::{AllocError, Global};
 use texting_robots::Robot;
 
@@ -42,9 +42,7 @@ fn are_allows(rules: &[Rule]) -> bool
 }
 
 fn has_open_site(rules: &[Rule]) -> bool {
-    rules
-        .iter()
-        .any(|rule| rule.is_allow && is_whole_site(rule.pattern.as_bytes()))
+    rules.iter().any(|rule| rule.is_allow && is_whole_site(rule.pattern.as_bytes()))
 }
 
 /// The lines of the Allows that are at least as long.
@@ -102,7 +100,9 @@ fn is_mixed(robot: &Robot, is_open: bool, rules: &[Rule]) -> bool {
         .take(TRIES)
         .map(|rule| rule.pattern.as_str().trim_end_matches("$"))
         .any(|path| {
-            path.starts_with("/") && path != "/robots.txt" && robot.allowed_prepared(path) != is_open
+            path.starts_with("/")
+                && path != "/robots.txt"
+                && robot.allowed_prepared(path) != is_open
         })
 }
 

@@ -12,6 +12,7 @@ use std::alloc::Global;
 use std::fmt;
 use std::fmt::Write;
 use texting_robots::labels::LabeledLine;
+use texting_robots::parser::Line;
 
 /// A browser lays out later what isn't visible yet.
 const BODY_LINES: usize = 500;
@@ -43,7 +44,12 @@ fn write_line_row(page: &mut Page, label: &LabeledLine<'_>) -> fmt::Result {
     write!(page.html, "{number}")?;
     page.html.close()?;
     page.element("td", group)?;
-    page.element("td", kind_text(label.line))?;
+    match label.line {
+        Line::UserAgent(_) => page.html.open("td", &[("class", "agent")])?,
+        _ => page.html.open("td", &[])?,
+    }
+    page.html.write_str(kind_text(label.line))?;
+    page.html.close()?;
     page.html.open("td", &[])?;
     let value = Shown(label.line);
     write!(page.html, "{value}")?;
@@ -89,9 +95,10 @@ pub(crate) fn write_file_table(
     agent: Option<&str>,
     audit: &Audit<'_>,
 ) -> fmt::Result {
+    let class = if agent.is_none() { "lines all" } else { "lines" };
     let agent = labeling_agent(agent);
     page.element("h2", "File")?;
-    page.html.open("table", &[("class", "lines")])?;
+    page.html.open("table", &[("class", class)])?;
     page.html.open("caption", &[])?;
     write!(
         page.html,
