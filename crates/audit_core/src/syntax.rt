@@ -17,7 +17,7 @@ impl fmt::Display for Standard {
             Conformance::OtherFile => Ok(()),
             Conformance::OtherLine(line) => write!(f, "not RFC 9309 syntax: line {line}"),
             Conformance::Syntax(line) => {
-                write!(f, "RFC 9309 syntax; verdicts may be others: line {line}")
+                write!(f, "RFC 9309 syntax; verdicts may differ: line {line}")
             }
             Conformance::Verdicts => {
                 f.write_str("RFC 9309 syntax and verdicts, for URLs in normal form")

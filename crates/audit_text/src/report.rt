@@ -18,7 +18,16 @@ use std::alloc::Global;
 use std::fmt;
 use std::fmt::Write;
 
-fn write_agent(out: &mut Report, audit: &AgentAudit<'_>) -> fmt::Result {
+fn write_fetched(out: &mut Report, audit: &AgentAudit<'_>) -> fmt::Result {
+    if may_fetch(audit.rejected, audit.reach).is_none() {
+        return Ok(());
+    }
+    let fetched = Fetched(audit.reach, &audit.allows);
+    write!(out, "may fetch: {fetched}")?;
+    out.end_line()
+}
+
+fn write_agent(out: &mut Report, is_quiet: bool, audit: &AgentAudit<'_>) -> fmt::Result {
     let (agent, group) = (audit.agent, audit.group);
     let applied = Applied { agent, group };
     write!(out, "group: {applied}")?;
@@ -26,21 +35,23 @@ fn write_agent(out: &mut Report, audit: &AgentAudit<'_>) -> fmt::Result {
     let delay = DelayOrNone(audit.delay);
     write!(out, "delay: {delay}")?;
     out.end_line()?;
-    if may_fetch(audit.rejected, audit.reach).is_some() {
-        let fetched = Fetched(audit.reach, &audit.allows);
-        write!(out, "may fetch: {fetched}")?;
-        out.end_line()?;
+    if !is_quiet {
+        write_fetched(out, audit)?;
     }
     write_rejected(out, agent, audit.rejected)?;
     write_verdicts(out, None, &audit.verdicts)
 }
 
-fn write_agents(out: &mut Report, is_single: bool, agents: &[AgentAudit<'_>]) -> fmt::Result {
-    if !is_single {
+fn write_agents(
+    out: &mut Report,
+    request: &Request<'_>,
+    agents: &[AgentAudit<'_>],
+) -> fmt::Result {
+    if request.agent.is_none() {
         return write_crawlers(out, agents);
     }
     for agent in agents {
-        write_agent(out, agent)?;
+        write_agent(out, !request.has_rows(), agent)?;
     }
     Ok(())
 }
@@ -62,7 +73,7 @@ pub fn write_report(out: &mut Report, request: &Request<'_>, audit: &Audit<'_>) 
     if request.has_rows() {
         write_rows(out, &audit.labels)?;
     }
-    write_agents(out, request.agent.is_some(), &audit.agents)?;
+    write_agents(out, request, &audit.agents)?;
     write_syntax(out, audit)
 }
 

@@ -4,6 +4,7 @@ use crate::page::elements::Page;
 use crate::page::slices::{after, first};
 use crate::page::warnings::write_warning_row;
 use audit_core::audit::{Audit, labeling_agent};
+use audit_core::joined::in_order;
 use audit_core::rows::{Shown, comment_of, kind_text, membership_word};
 use audit_core::sitemaps::sitemaps_of;
 use printable_text::report::Untrusted;
@@ -106,7 +107,7 @@ pub(crate) fn write_file_table(
     )?;
     page.html.close()?;
     write_line_columns(page)?;
-    let lists = by_line(alloc, &audit.warnings)?;
+    let lists = by_line(alloc, &in_order(alloc, &audit.warnings)?)?;
     for at in 0..audit.labels.len().div_ceil(BODY_LINES) {
         let lines = after(&audit.labels, at.saturating_mul(BODY_LINES));
         page.html.open("tbody", &[])?;
