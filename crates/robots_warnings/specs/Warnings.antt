@@ -1,12 +1,14 @@
 -- All warnings about a file and a request, in the order of output.
 use Rattle.std.specs.Prelude.{ℕ, ◌==◌, Bool, true, List, [], ◌∷◌, ◌++◌, ◌&&◌, Option, Some, None, map}
-use Rattle.std.specs.Prelude.{flat_map, if◌then◌else◌, length, not, ◌||◌, ◌+◌, filter, slice_get}
+use Rattle.std.specs.Prelude.{flat_map, if◌then◌else◌, length, not, ◌||◌, ◌+◌, filter, is_some, slice_get}
+use Rattle.std.specs.Option.{option_or}
 use Rattle.texting_robots.specs.Callers.{LineValue, Label, is_named}
 use Rattle.robots_warnings.specs.{declared.facts.FileFacts.FileFacts, Facts.suppresses_line_warnings}
 use Rattle.robots_warnings.specs.{File.is_in_scope_of, File.lines_of, Repeated.repeated, Spellings.unpaired}
 use Rattle.robots_warnings.specs.declared.positions.Preceding.{Preceding, TheVariants.Other}
 use Rattle.robots_warnings.specs.declared.table.Cause.{Cause, TheVariants.AllowedAndDisallowed}
 use Rattle.robots_warnings.specs.declared.table.Cause.TheVariants.{ClosesEverything, CutLine, EmptyDisallow}
+use Rattle.robots_warnings.specs.declared.table.Cause.TheVariants.{ClosesHome, ClosesHomeToOthers}
 use Rattle.robots_warnings.specs.declared.table.Cause.TheVariants.{EscapedDelimiter, ClosesSite, RepeatedRule}
 use Rattle.robots_warnings.specs.declared.table.Cause.TheVariants.{GoogleIgnoresStar, GooglebotGroup}
 use Rattle.robots_warnings.specs.declared.table.Cause.TheVariants.{GroupPastSizeLimit, MisspelledName}
@@ -18,7 +20,9 @@ use Rattle.robots_warnings.specs.Crawlers.{names_past_limit}
 use Rattle.robots_warnings.specs.Checks.{Check, file_checks, line_checks, position_checks, url_checks}
 use Rattle.robots_warnings.specs.Message.{WarningValue}
 use Rattle.robots_warnings.specs.Positions.{first_delay, last_group, preceding_with, sole_name}
-use Rattle.robots_warnings.specs.Closed.{replacing, star_count, closed_at, is_major}
+use Rattle.robots_warnings.specs.Closed.{replacing, star_count, closed_at, is_major, lets_in}
+use Rattle.robots_warnings.specs.{declared.closed.Part.Part, declared.closed.Part.TheVariants.Home}
+use Rattle.robots_warnings.specs.declared.closed.Part.TheVariants.{Site}
 use Rattle.robots_warnings.specs.Conflicts.{conflict, overruled, is_empty_at}
 use Rattle.robots_warnings.specs.declared.spellings.Spelling.TheVariants.{Plain, Standard}
 
@@ -87,22 +91,30 @@ past_limit_warnings facts file labels =
 abbrev pub others : ℕ → Option Detail
 others count = if count == 0 then None else Some (Others count)
 
--- a line closes the site to this crawler and to so many others: the warning names the first major one
-abbrev pub closing_warning : ℕ → List ℕ → ℕ → (major : Option (List ℕ)) → WarningValue
-closing_warning number agent count None =
-    record { line = Some number; cause = ClosesEverything; about = Some agent; detail = others count }
-closing_warning number agent count (Some major) =
-    record { line = Some number; cause = ClosesSite; about = Some major; detail = others count }
+abbrev pub closing_cause : Part → (is_major : Bool) → Cause
+closing_cause Home is_major = if is_major then ClosesHome else ClosesHomeToOthers
+closing_cause _ is_major = if is_major then ClosesSite else ClosesEverything
 
-abbrev pub closing_warnings : List LineValue → ℕ → List (List ℕ) → List WarningValue
-closing_warnings lines number [] = []
-closing_warnings lines number (agent ∷ agents) =
-    let major = slice_get (filter (is_major lines) (agent ∷ agents)) 0 in
-    closing_warning number agent (length agents) major ∷ []
+-- a line closes this part of the site to these crawlers: the warning names the first major one
+abbrev pub closing_warnings : Part → (let_in : Bool) → List LineValue → ℕ → List (List ℕ) → List WarningValue
+closing_warnings part let_in lines number [] = []
+closing_warnings part let_in lines number (agent ∷ agents) =
+    let major = slice_get (filter (is_major let_in lines) (agent ∷ agents)) 0 in
+    record {
+      line = Some number;
+      cause = closing_cause part (is_some major);
+      about = option_or major (Some agent);
+      detail = others (length agents);
+    } ∷ []
+
+abbrev pub part_warnings : Part → List (List ℕ) → List LineValue → List Label → List WarningValue
+part_warnings part agents lines labels =
+    flat_map (λ label. closing_warnings part (lets_in lines) lines label.number
+    (closed_at part lines agents label.number)) labels
 
 abbrev pub site_warnings : List (List ℕ) → List LineValue → List Label → List WarningValue
 site_warnings agents lines labels =
-    flat_map (λ label. closing_warnings lines label.number (closed_at lines agents label.number)) labels
+    part_warnings Site agents lines labels ++ part_warnings Home agents lines labels
 
 abbrev pub rule_warnings : (allow disallow : ℕ → Option ℕ) → ℕ → List WarningValue
 rule_warnings allow disallow number =

@@ -28,14 +28,16 @@ use texting_robots::parser::Line;
 /// A warning, and whether its condition holds.
 pub(crate) type Check = (Cause, bool);
 
-pub(crate) fn file_checks(facts: FileFacts) -> [Check; 8]
+pub(crate) fn file_checks(facts: FileFacts) -> [Check; 9]
     ensures { result ≡ file_checks facts }
 {
+    let is_empty = !(facts.kinds.text || facts.is_too_large);
     [
         (Cause::LooksLikeHtml, facts.is_html),
         (Cause::LooksLikeUtf16, facts.is_utf_16),
         (Cause::NoDirectives, facts.is_other_text),
-        (Cause::EmptyFile, !(facts.kinds.text || facts.is_too_large)),
+        (Cause::EmptyFile, is_empty && !facts.has_hash),
+        (Cause::OnlyComments, is_empty && facts.has_hash),
         (Cause::FileTooLarge, facts.is_too_large),
         (
             Cause::NoUserAgent,

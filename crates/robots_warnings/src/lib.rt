@@ -14,6 +14,7 @@ pub mod file;
 pub mod names;
 mod names_past_limit;
 mod numbers;
+mod openings;
 pub mod own_rules;
 pub mod positions;
 pub mod read;

@@ -22,6 +22,7 @@ pub enum Cause {
     LooksLikeUtf16,
     NoDirectives,
     EmptyFile,
+    OnlyComments,
     FileTooLarge,
     NoUserAgent,
     DamagedByteOrderMark,
@@ -105,6 +106,8 @@ pub enum Cause {
     TwoDelays,
     ClosesSite,
     ClosesEverything,
+    ClosesHome,
+    ClosesHomeToOthers,
     ReplacesStar,
     RepeatedRule,
     MisspelledName,
@@ -120,11 +123,12 @@ pub enum Cause {
 
 /// The warnings with their levels and names.
 #[rattlefmt::skip]
-pub static WARNINGS: [(Cause, Level, &str); 86] = [
+pub static WARNINGS: [(Cause, Level, &str); 89] = [
     (Cause::LooksLikeHtml, Level::Error, "looks-like-html"),
     (Cause::LooksLikeUtf16, Level::Error, "looks-like-utf-16"),
     (Cause::NoDirectives, Level::Error, "no-directives"),
     (Cause::EmptyFile, Level::Warning, "empty-file"),
+    (Cause::OnlyComments, Level::Note, "empty-file"),
     (Cause::FileTooLarge, Level::Warning, "file-too-large"),
     (Cause::NoUserAgent, Level::Warning, "no-user-agent"),
     (Cause::DamagedByteOrderMark, Level::Warning, "damaged-byte-order-mark"),
@@ -197,6 +201,8 @@ pub static WARNINGS: [(Cause, Level, &str); 86] = [
     (Cause::TwoDelays, Level::Warning, "two-delays"),
     (Cause::ClosesSite, Level::Warning, "closes-everything"),
     (Cause::ClosesEverything, Level::Note, "closes-everything"),
+    (Cause::ClosesHome, Level::Warning, "closes-home-page"),
+    (Cause::ClosesHomeToOthers, Level::Note, "closes-home-page"),
     (Cause::ReplacesStar, Level::Note, "replaces-star"),
     (Cause::RepeatedRule, Level::Note, "repeated-rule"),
     (Cause::MisspelledName, Level::Note, "misspelled-name"),

@@ -3,7 +3,7 @@ use crate::table::Cause;
 
 /// In the order of [`WARNINGS`](crate::table::WARNINGS).
 #[rattlefmt::skip]
-pub(crate) static MESSAGES: [(Cause, &str); 86] = [
+pub(crate) static MESSAGES: [(Cause, &str); 89] = [
     (Cause::LooksLikeHtml,
         "no usable line found; the text starts with <, so it may be an HTML page; serve a plain-text robots.txt instead"),
     (Cause::LooksLikeUtf16,
@@ -11,7 +11,9 @@ pub(crate) static MESSAGES: [(Cause, &str); 86] = [
     (Cause::NoDirectives,
         "no usable User-agent, Allow, Disallow, Crawl-delay or Sitemap line found, so everything is allowed; write one directive per line, for example: Disallow: /search"),
     (Cause::EmptyFile,
-        "the file has nothing but, at most, blank lines and comments, so every URL may be fetched; pass the right file, or, if that is meant, write User-agent: * and an empty Disallow"),
+        "the file has nothing but, at most, blank lines, so every URL may be fetched; pass the right file, or, if that is meant, write User-agent: * and an empty Disallow"),
+    (Cause::OnlyComments,
+        "the file has nothing but comments, so every URL may be fetched; if that is meant, User-agent: * and an empty Disallow say so"),
     (Cause::FileTooLarge,
         "the file is larger than 512,000 bytes (500 KiB); the rest is ignored; shorten it or move important groups to the top"),
     (Cause::NoUserAgent,
@@ -153,9 +155,13 @@ pub(crate) static MESSAGES: [(Cause, &str); 86] = [
     (Cause::TwoDelays,
         "the delay differs from one above it in the same group, so it isn't used here, but other crawlers may use it; delete all but one"),
     (Cause::ClosesSite,
-        "the whole site is closed to it, except, at most, paths that begin as /robots.txt or as a sitemap of this file; if that isn't meant, delete this rule or add a longer Allow"),
+        "may fetch nothing (except, at most, /robots.txt, sitemaps, static files, well-known paths and the home page alone, if an Allow names them); if search engines should read the site, delete this rule or add a longer Allow"),
     (Cause::ClosesEverything,
-        "may fetch nothing but, at most, paths that begin as /robots.txt or as a sitemap of this file; if that isn't meant, delete this rule or add a longer Allow"),
+        "may fetch nothing (except, at most, /robots.txt, sitemaps, static files, well-known paths and the home page alone, if an Allow names them); if that isn't meant, delete this rule or add a longer Allow"),
+    (Cause::ClosesHome,
+        "may not fetch the home page, only what this rule doesn't match or a longer Allow names; if search engines should read the home page, delete this rule or add a longer Allow"),
+    (Cause::ClosesHomeToOthers,
+        "may not fetch the home page, only what this rule doesn't match or a longer Allow names, but a large search engine may fetch the site; if that isn't meant, delete this rule or add a longer Allow"),
     (Cause::ReplacesStar,
         "the group has none of the Disallow rules of *, and a crawler with a group of its own doesn't get them; repeat in this group those that should apply to it"),
     (Cause::RepeatedRule,
@@ -182,11 +188,12 @@ pub(crate) static MESSAGES: [(Cause, &str); 86] = [
 /// command in its first line, or a command. In a file, `\xFF` is a byte, and `\{512000 a}` is 512,000 times
 /// an `a`.
 #[rattlefmt::skip]
-pub(crate) static EXAMPLES: [(Cause, &str); 86] = [
+pub(crate) static EXAMPLES: [(Cause, &str); 89] = [
     (Cause::LooksLikeHtml, "<html>\n</html>"),
     (Cause::LooksLikeUtf16, "\\xFF\\xFED\\x00"),
     (Cause::NoDirectives, "hello\nworld"),
-    (Cause::EmptyFile, "# no rules"),
+    (Cause::EmptyFile, "\\x20"),
+    (Cause::OnlyComments, "# no rules"),
     (Cause::FileTooLarge, "Disallow: /\\{512000 a}"),
     (Cause::NoUserAgent, "Disallow: /a\nDisallow: /b"),
     (Cause::DamagedByteOrderMark, "\\xEF\\xBBAllow: /"),
@@ -259,6 +266,8 @@ pub(crate) static EXAMPLES: [(Cause, &str); 86] = [
     (Cause::TwoDelays, "User-agent: *\nCrawl-delay: 1\nCrawl-delay: 2"),
     (Cause::ClosesSite, "User-agent: *\nDisallow: /"),
     (Cause::ClosesEverything, "User-agent: GPTBot\nDisallow: /"),
+    (Cause::ClosesHome, "User-agent: *\nDisallow: /\nAllow: /blog/"),
+    (Cause::ClosesHomeToOthers, "User-agent: Googlebot\nAllow: /\nUser-agent: *\nDisallow: /$"),
     (Cause::ReplacesStar, "User-agent: *\nDisallow: /a\nUser-agent: FerrisBot\nDisallow: /b"),
     (Cause::RepeatedRule, "User-agent: *\nDisallow: /a\nDisallow: /a"),
     (Cause::MisspelledName, "User-agent: Googlbot\nDisallow: /a"),

@@ -84,6 +84,8 @@ impl<'a> fmt::Display for Warning<'a> {
             let kind = match self.cause {
                 Cause::ClosesSite
                 | Cause::ClosesEverything
+                | Cause::ClosesHome
+                | Cause::ClosesHomeToOthers
                 | Cause::GooglebotGroup
                 | Cause::GoogleIgnoresStar
                 | Cause::MisspelledName => "crawler",

@@ -105,7 +105,7 @@ fn warn_in_general<'a>(
         (file_lines read.now.site) (map label_by_value read.now.labels.items))) }
 {
     warn(found, None, None, &file_checks(read.facts))?;
-    warn_of_closed(alloc, found, agents, &read.site, &read.labels)?;
+    warn_of_closed(alloc, found, agents, read)?;
     warn_of_urls(alloc, found, urls)
 }
 
