@@ -10,6 +10,9 @@ use Rattle.robots_warnings.specs.Contents.{comment_of, has_odd_comment, has_odd_
 use Rattle.robots_warnings.specs.Contents.{is_cut_short, is_cut_to_root}
 use Rattle.robots_warnings.specs.FieldNames.{begins_inner_field, is_misspelled, is_without_colon, meant_by}
 use Rattle.robots_warnings.specs.Positions.{are_joined, is_above_agents, is_empty_group, is_other_delay}
+use Rattle.robots_warnings.specs.{Positions.is_ignored, Rules.begins_question_marks, SeveralValues.has_tag}
+use Rattle.robots_warnings.specs.{Contents.is_cut, Contents.is_emptied}
+use Rattle.texting_robots.specs.Line.{delay_in}
 use Rattle.robots_warnings.specs.Positions.{is_split, name_star}
 use Rattle.robots_warnings.specs.Rules.{before_byte, begins_dot_segment, begins_wildcard, has, has_odd_start}
 use Rattle.robots_warnings.specs.Rules.{has_dollar_inside, has_more_after_dollar, has_odd_character}
@@ -53,6 +56,7 @@ abbrev pub raw_rule_checks : Bool → (value tail comment : List ℕ) → List C
 raw_rule_checks is_in_scope value tail comment =
     (cause.SpaceAroundValue, has_odd_space value tail)
     ∷ (cause.HashLeavesRoot, is_in_scope && is_cut_to_root value tail comment)
+    ∷ (cause.HashEmptiesRule, is_in_scope && is_emptied value tail comment)
     ∷ (cause.HashCutsRule, is_in_scope && is_cut_short value tail comment)
     ∷ []
 
@@ -75,8 +79,12 @@ form_checks value =
     )
     ∷ (cause.UrlInPath, is_url_in_path value)
     ∷ (cause.UrlAsRule, begins_as_url value)
-    ∷ (cause.OddCharacter, has_odd_character value && not (holds_otherwise value || is_quoted value))
-    ∷ (cause.UnencodedCharacter, holds_otherwise value)
+    ∷ (
+      cause.OddCharacter,
+      has_odd_character value
+          && not (holds_otherwise value || (is_quoted value || (is_expression value || has_tag value))),
+    )
+    ∷ (cause.UnencodedCharacter, holds_otherwise value && not (is_expression value || has_tag value))
     ∷ (cause.QuoteAtEnd, has_quote_at_end value)
     ∷ (cause.QuotedRule, is_quoted value)
     ∷ []
@@ -86,6 +94,7 @@ abbrev pub content_checks : List ℕ → List Check
 content_checks value =
     (cause.RegexWithoutSlash, has_odd_start value && is_expression value)
     ∷ (cause.RegexSyntax, not (has_odd_start value) && is_expression value)
+    ∷ (cause.QuestionMarks, somewhere begins_question_marks value && not (is_expression value))
     ∷ (cause.StarAfterDollar, has_more_after_dollar value)
     ∷ (cause.DollarNotAtEnd, has_dollar_inside value)
     ∷ (cause.EscapedWildcard, somewhere begins_wildcard value)
@@ -126,6 +135,7 @@ position_checks last preceding above delay label lines =
     ∷ (cause.DelayAboveStar, is_split preceding above label lines && name_star lines)
     ∷ (cause.JoinedGroups, are_joined lines)
     ∷ (cause.TwoDelays, is_other_delay delay label)
+    ∷ (cause.IgnoredDelay, is_ignored above (delay_in label.line))
     ∷ []
 
 -- any line that isn't ignored
@@ -150,7 +160,10 @@ raw_checks is_in_scope (UserAgent value) tail comment =
 raw_checks is_in_scope (Allow value) tail comment = raw_rule_checks is_in_scope value tail comment
 raw_checks is_in_scope (Disallow value) tail comment = raw_rule_checks is_in_scope value tail comment
 raw_checks is_in_scope (CrawlDelay delay) tail comment = (cause.DelayNotation, has_odd_delay tail) ∷ []
-raw_checks is_in_scope (Sitemap value) tail comment = (cause.SpaceAroundValue, has_odd_space value tail) ∷ []
+raw_checks is_in_scope (Sitemap value) tail comment =
+    (cause.SpaceAroundValue, has_odd_space value tail)
+    ∷ (cause.HashCutsSitemap, is_cut value tail comment)
+    ∷ []
 raw_checks is_in_scope (Raw content) tail comment = []
 
 -- what a directive with this content has besides its value

@@ -2,7 +2,7 @@
 use Rattle.std.specs.Prelude.{ℕ, ◌==◌, Bool, true, List, [], ◌∷◌, ◌++◌, ◌&&◌, Option, Some, None, map}
 use Rattle.std.specs.Prelude.{flat_map, if◌then◌else◌, length, not, ◌||◌, ◌+◌, filter, is_some, slice_get}
 use Rattle.std.specs.Option.{option_or}
-use Rattle.texting_robots.specs.Callers.{LineValue, Label, is_named}
+use Rattle.texting_robots.specs.Callers.{LineValue, Label, UserAgent, is_named}
 use Rattle.robots_warnings.specs.{declared.facts.FileFacts.FileFacts, Facts.suppresses_line_warnings}
 use Rattle.robots_warnings.specs.{File.is_in_scope_of, File.lines_of, Repeated.repeated, Spellings.unpaired}
 use Rattle.robots_warnings.specs.declared.positions.Preceding.{Preceding, TheVariants.Other}
@@ -11,11 +11,11 @@ use Rattle.robots_warnings.specs.declared.table.Cause.TheVariants.{ClosesEveryth
 use Rattle.robots_warnings.specs.declared.table.Cause.TheVariants.{ClosesHome, ClosesHomeToOthers}
 use Rattle.robots_warnings.specs.declared.table.Cause.TheVariants.{EscapedDelimiter, ClosesSite, RepeatedRule}
 use Rattle.robots_warnings.specs.declared.table.Cause.TheVariants.{GoogleIgnoresStar, GooglebotGroup}
-use Rattle.robots_warnings.specs.declared.table.Cause.TheVariants.{GroupPastSizeLimit, MisspelledName}
+use Rattle.robots_warnings.specs.declared.table.Cause.TheVariants.{GroupPastSizeLimit, MisspelledName, WrongName}
 use Rattle.robots_warnings.specs.declared.table.Cause.TheVariants.{NonstandardEscape, ReplacesStar}
 use Rattle.robots_warnings.specs.declared.warning.Detail.{Detail}
 use Rattle.robots_warnings.specs.declared.warning.Detail.TheVariants.{Group, Line, Meant, Others, Rules}
-use Rattle.robots_warnings.specs.Crawlers.{Row, crawlers, gets_other, is_given, meant, meant_in}
+use Rattle.robots_warnings.specs.Crawlers.{Row, crawlers, gets_other, is_given, is_wrong, meant}
 use Rattle.robots_warnings.specs.Crawlers.{names_past_limit}
 use Rattle.robots_warnings.specs.Checks.{Check, file_checks, line_checks, position_checks, url_checks}
 use Rattle.robots_warnings.specs.Message.{WarningValue}
@@ -128,15 +128,23 @@ crawler_warnings is_empty agents lines labels = flat_map
     (λ label. rule_warnings (conflict is_empty agents lines) (overruled is_empty agents lines) label.number)
     labels
 
--- about a line or a name, if there is a known crawler that may be meant
-abbrev pub warned_of_name : (line : Option ℕ) → (about : Option (List ℕ)) → (meant : Option ℕ)
+abbrev pub warned_of_meant : (line : Option ℕ) → (about : Option (List ℕ)) → Cause → (meant : Option ℕ)
     → List WarningValue
-warned_of_name line about None = []
-warned_of_name line about (Some crawler) =
-    record { line = line; cause = MisspelledName; about = about; detail = Some (Meant crawler) } ∷ []
+warned_of_meant line about cause None = []
+warned_of_meant line about cause (Some crawler) =
+    record { line = line; cause = cause; about = about; detail = Some (Meant crawler) } ∷ []
+
+-- about a line or a crawler with this name, if there is a known crawler that may be meant
+abbrev pub warned_of_name : (line : Option ℕ) → (about : Option (List ℕ)) → List ℕ → List WarningValue
+warned_of_name line about name =
+    warned_of_meant line about (if is_wrong name then WrongName else MisspelledName) (meant name)
+
+abbrev pub line_name_warning : ℕ → LineValue → List WarningValue
+line_name_warning number (UserAgent name) = warned_of_name (Some number) None name
+line_name_warning number _ = []
 
 abbrev pub name_warning : Label → List WarningValue
-name_warning label = warned_of_name (Some label.number) None (meant_in label.line)
+name_warning label = line_name_warning label.number label.line
 
 abbrev pub name_warnings : List Label → List WarningValue
 name_warnings labels = flat_map name_warning labels
@@ -144,7 +152,7 @@ name_warnings labels = flat_map name_warning labels
 -- if the file doesn't name this crawler
 abbrev pub agent_warning : List LineValue → List ℕ → List WarningValue
 agent_warning lines agent =
-    if is_named agent lines then [] else warned_of_name None (Some agent) (meant agent)
+    if is_named agent lines then [] else warned_of_name None (Some agent) agent
 
 abbrev pub agent_warnings : List LineValue → List (List ℕ) → List WarningValue
 agent_warnings lines agents = flat_map (agent_warning lines) agents

@@ -5,18 +5,20 @@ ghost use Rattle.robots_warnings.specs.FieldNames.{is_without_colon};
 ghost use Rattle.robots_warnings.specs.Checks.{content_checks, field_checks, file_checks, form_checks, position_checks, raw_rule_checks, sitemap_checks, text_checks, url_checks, user_agent_checks};
 ghost use Rattle.robots_warnings.specs.{File.is_in_scope_of, File.lines_of, Rules.is_expression};
 
-use crate::contents::{has_odd_comment, has_odd_space, is_cut_short, is_cut_to_root};
+use crate::contents::{
+    has_odd_comment, has_odd_space, is_cut_short, is_cut_to_root, is_emptied,
+};
 use crate::facts::FileFacts;
 use crate::field_names::{begins_inner_field, is_misspelled};
 use crate::positions::{
-    Preceding, are_joined, is_empty_group, is_other_delay, is_split, name_star,
+    Preceding, are_joined, is_empty_group, is_ignored, is_other_delay, is_split, name_star,
 };
 use crate::rules::{
-    before_byte, begins_dot_segment, begins_wildcard, has, has_dollar_inside,
-    has_more_after_dollar, has_odd_start, has_quote_at_end, holds_otherwise, is_only_odd,
-    is_quoted, is_url_in_path, is_utf8, somewhere,
+    before_byte, begins_dot_segment, begins_question_marks, begins_wildcard, has,
+    has_dollar_inside, has_more_after_dollar, has_odd_character, has_odd_start, has_quote_at_end,
+    holds_otherwise, is_quoted, is_url_in_path, is_utf8, somewhere,
 };
-use crate::several_values::several_values;
+use crate::several_values::{has_tag, several_values};
 use crate::table::Cause;
 use crate::targets::has_odd_target;
 use crate::tokens::{is_product_token, is_usual_name};
@@ -71,7 +73,7 @@ pub(crate) fn raw_rule_checks(
     value: &[u8],
     tail: &[u8],
     comment: &[u8],
-) -> [Check; 3]
+) -> [Check; 4]
     ensures { result ≡ raw_rule_checks is_in_scope value.now tail.now comment.now }
 {
     [
@@ -79,6 +81,10 @@ pub(crate) fn raw_rule_checks(
         (
             Cause::HashLeavesRoot,
             is_in_scope && is_cut_to_root(value, tail, comment),
+        ),
+        (
+            Cause::HashEmptiesRule,
+            is_in_scope && is_emptied(value, tail, comment),
         ),
         (
             Cause::HashCutsRule,
@@ -111,20 +117,25 @@ pub(crate) fn form_checks(value: &[u8], is_regex: bool) -> [Check; 9]
 {
     let is_odd = has_odd_start(value);
     let has_equals = value.starts_with(b"=");
+    let is_encoded_otherwise = holds_otherwise(value);
+    let is_other = is_regex | has_tag(value);
     [
         (Cause::RuleNotUtf8, !is_utf8(value)),
         (Cause::EqualsInRule, is_odd & has_equals),
         (Cause::MissingSlash, is_odd & !(has_equals | is_regex)),
         (Cause::UrlInPath, is_url_in_path(value)),
         (Cause::UrlAsRule, begins_as_url(value)),
-        (Cause::OddCharacter, is_only_odd(value)),
-        (Cause::UnencodedCharacter, holds_otherwise(value)),
+        (
+            Cause::OddCharacter,
+            has_odd_character(value) & !(is_encoded_otherwise | is_quoted(value) | is_other),
+        ),
+        (Cause::UnencodedCharacter, is_encoded_otherwise & !is_other),
         (Cause::QuoteAtEnd, has_quote_at_end(value)),
         (Cause::QuotedRule, is_quoted(value)),
     ]
 }
 
-pub(crate) fn content_checks(value: &[u8], is_regex: bool) -> [Check; 7]
+pub(crate) fn content_checks(value: &[u8], is_regex: bool) -> [Check; 8]
     requires { is_regex ≡ is_expression value.now }
     ensures { result ≡ content_checks value.now }
 {
@@ -134,6 +145,10 @@ pub(crate) fn content_checks(value: &[u8], is_regex: bool) -> [Check; 7]
     [
         (Cause::RegexWithoutSlash, is_odd & is_regex),
         (Cause::RegexSyntax, !is_odd & is_regex),
+        (
+            Cause::QuestionMarks,
+            somewhere(value, begins_question_marks) & !is_regex,
+        ),
         (Cause::StarAfterDollar, has_more_after_dollar(value)),
         (Cause::DollarNotAtEnd, has_dollar_inside(value)),
         (Cause::EscapedWildcard, somewhere(value, begins_wildcard)),
@@ -172,7 +187,7 @@ pub(crate) fn position_checks(
     delay: Option<u64>,
     labeled: &LabeledLine<'_>,
     from_here: &[LabeledLine<'_>],
-) -> [Check; 6]
+) -> [Check; 7]
     ensures { result ≡ position_checks last preceding (option_map (λ name. name.now) above.entry) delay
         (label_by_value labeled.now) (lines_of (map label_by_value from_here.now)) }
 {
@@ -187,5 +202,6 @@ pub(crate) fn position_checks(
         (Cause::DelayAboveStar, is_star),
         (Cause::JoinedGroups, are_joined(from_here)),
         (Cause::TwoDelays, is_other_delay(delay, labeled)),
+        (Cause::IgnoredDelay, is_ignored(above, labeled.line)),
     ]
 }

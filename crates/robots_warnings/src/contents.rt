@@ -4,7 +4,7 @@ ghost use Rattle.std.specs.Prelude.{◌≡◌};
 ghost use Rattle.std.specs.Char.{is_ascii_digit};
 ghost use Rattle.std.specs.List.{list_all, list_any};
 ghost use Rattle.robots_warnings.specs.Contents.{are_digits, comment_of, has_odd_comment, has_odd_delay, has_odd_space};
-ghost use Rattle.robots_warnings.specs.Contents.{is_control, is_cut, is_cut_short, is_cut_to_root, raw_value, tail_of};
+ghost use Rattle.robots_warnings.specs.Contents.{is_control, is_cut, is_cut_short, is_cut_to_root, is_emptied, raw_value, tail_of};
 
 use crate::closed::is_whole_site;
 use crate::field_names::{without_end, without_front};
@@ -33,7 +33,7 @@ pub(crate) fn has_odd_space(value: &[u8], tail: &[u8]) -> bool
     !raw.is_empty() && raw != value
 }
 
-fn is_cut(value: &[u8], tail: &[u8], comment: &[u8]) -> bool
+pub(crate) fn is_cut(value: &[u8], tail: &[u8], comment: &[u8]) -> bool
     ensures { result ≡ is_cut value.now tail.now comment.now }
 {
     !comment.is_empty() && !value.is_empty() && tail.ends_with(value)
@@ -45,6 +45,13 @@ pub(crate) fn is_cut_to_root(value: &[u8], tail: &[u8], comment: &[u8]) -> bool
     let is_path = comment.starts_with(b"#/") || comment.starts_with(b"#!/");
     (is_cut(value, tail, comment) || (is_path && raw_value(tail).is_empty()))
         && is_whole_site(value)
+}
+
+pub(crate) fn is_emptied(value: &[u8], tail: &[u8], comment: &[u8]) -> bool
+    ensures { result ≡ is_emptied value.now tail.now comment.now }
+{
+    let is_word = matches!(comment, [_, letter, ..] if letter.is_ascii_alphanumeric());
+    raw_value(tail).is_empty() && is_whole_site(value) && is_word
 }
 
 pub(crate) fn is_cut_short(value: &[u8], tail: &[u8], comment: &[u8]) -> bool

@@ -28,8 +28,9 @@ const DIRECTIVES: [(&str, Cause); 5] = [
     ("crawl-delay", Cause::LikeCrawlDelay),
 ];
 
-/// Field names that other crawlers support or supported, in the order of the search, and the warning for each.
-const UNSUPPORTED: [(&str, Cause); 10] = [
+/// Field names that other crawlers support or supported, and names that mean a usual one, in the order of the
+/// search, and the warning for each.
+const UNSUPPORTED: [(&str, Cause); 15] = [
     ("noindex", Cause::NoindexLine),
     ("nofollow", Cause::NofollowLine),
     ("host", Cause::HostLine),
@@ -40,6 +41,11 @@ const UNSUPPORTED: [(&str, Cause); 10] = [
     ("content-usage", Cause::ContentUsageLine),
     ("robot-version", Cause::RobotVersionLine),
     ("comment", Cause::CommentLine),
+    ("no-index", Cause::NoindexLine),
+    ("no-follow", Cause::NofollowLine),
+    ("agent", Cause::LikeUserAgent),
+    ("allowed", Cause::LikeAllow),
+    ("disallowed", Cause::LikeDisallow),
 ];
 
 const KINDS: [Kind; 5] = [

@@ -59,6 +59,7 @@ pub enum Cause {
     UnusualProductToken,
     // a rule
     HashLeavesRoot,
+    HashEmptiesRule,
     HashCutsRule,
     RuleNotUtf8,
     EqualsInRule,
@@ -71,6 +72,7 @@ pub enum Cause {
     QuotedRule,
     RegexWithoutSlash,
     RegexSyntax,
+    QuestionMarks,
     StarAfterDollar,
     DollarNotAtEnd,
     NonstandardEscape,
@@ -88,6 +90,7 @@ pub enum Cause {
     // a sitemap
     SitemapNotAbsolute,
     SitemapHost,
+    HashCutsSitemap,
     SitemapDenied,
     // any line
     OneLine,
@@ -104,12 +107,14 @@ pub enum Cause {
     EmptyDisallow,
     // the groups
     TwoDelays,
+    IgnoredDelay,
     ClosesSite,
     ClosesEverything,
     ClosesHome,
     ClosesHomeToOthers,
     ReplacesStar,
     RepeatedRule,
+    WrongName,
     MisspelledName,
     GooglebotGroup,
     GoogleIgnoresStar,
@@ -123,7 +128,7 @@ pub enum Cause {
 
 /// The warnings with their levels and names.
 #[rattlefmt::skip]
-pub static WARNINGS: [(Cause, Level, &str); 89] = [
+pub static WARNINGS: [(Cause, Level, &str); 94] = [
     (Cause::LooksLikeHtml, Level::Error, "looks-like-html"),
     (Cause::LooksLikeUtf16, Level::Error, "looks-like-utf-16"),
     (Cause::NoDirectives, Level::Error, "no-directives"),
@@ -160,6 +165,7 @@ pub static WARNINGS: [(Cause, Level, &str); 89] = [
     (Cause::InvalidProductToken, Level::Warning, "invalid-product-token"),
     (Cause::UnusualProductToken, Level::Note, "unusual-product-token"),
     (Cause::HashLeavesRoot, Level::Error, "hash-cuts-rule"),
+    (Cause::HashEmptiesRule, Level::Warning, "hash-cuts-rule"),
     (Cause::HashCutsRule, Level::Warning, "hash-cuts-rule"),
     (Cause::RuleNotUtf8, Level::Warning, "rule-not-utf-8"),
     (Cause::EqualsInRule, Level::Error, "missing-slash"),
@@ -172,6 +178,7 @@ pub static WARNINGS: [(Cause, Level, &str); 89] = [
     (Cause::QuotedRule, Level::Error, "quoted-rule"),
     (Cause::RegexWithoutSlash, Level::Error, "regex-syntax"),
     (Cause::RegexSyntax, Level::Warning, "regex-syntax"),
+    (Cause::QuestionMarks, Level::Warning, "regex-syntax"),
     (Cause::StarAfterDollar, Level::Warning, "dollar-not-at-end"),
     (Cause::DollarNotAtEnd, Level::Warning, "dollar-not-at-end"),
     (Cause::NonstandardEscape, Level::Warning, "nonstandard-escape"),
@@ -186,6 +193,7 @@ pub static WARNINGS: [(Cause, Level, &str); 89] = [
     (Cause::DelayOverADay, Level::Warning, "delay-over-a-day"),
     (Cause::SitemapNotAbsolute, Level::Warning, "sitemap-not-absolute"),
     (Cause::SitemapHost, Level::Warning, "sitemap-host"),
+    (Cause::HashCutsSitemap, Level::Note, "sitemap-fragment"),
     (Cause::SitemapDenied, Level::Note, "sitemap-denied"),
     (Cause::OneLine, Level::Error, "one-line"),
     (Cause::ControlInComment, Level::Note, "control-in-comment"),
@@ -199,12 +207,14 @@ pub static WARNINGS: [(Cause, Level, &str); 89] = [
     (Cause::AllowedAndDisallowed, Level::Warning, "allowed-and-disallowed"),
     (Cause::EmptyDisallow, Level::Warning, "empty-disallow"),
     (Cause::TwoDelays, Level::Warning, "two-delays"),
+    (Cause::IgnoredDelay, Level::Note, "ignored-delay"),
     (Cause::ClosesSite, Level::Warning, "closes-everything"),
     (Cause::ClosesEverything, Level::Note, "closes-everything"),
     (Cause::ClosesHome, Level::Warning, "closes-home-page"),
     (Cause::ClosesHomeToOthers, Level::Note, "closes-home-page"),
     (Cause::ReplacesStar, Level::Note, "replaces-star"),
     (Cause::RepeatedRule, Level::Note, "repeated-rule"),
+    (Cause::WrongName, Level::Warning, "misspelled-name"),
     (Cause::MisspelledName, Level::Note, "misspelled-name"),
     (Cause::GooglebotGroup, Level::Note, "googlebot-group"),
     (Cause::GoogleIgnoresStar, Level::Note, "google-ignores-star"),

@@ -3,7 +3,7 @@ use crate::table::Cause;
 
 /// In the order of [`WARNINGS`](crate::table::WARNINGS).
 #[rattlefmt::skip]
-pub(crate) static MESSAGES: [(Cause, &str); 89] = [
+pub(crate) static MESSAGES: [(Cause, &str); 94] = [
     (Cause::LooksLikeHtml,
         "no usable line found; the text starts with <, so it may be an HTML page; serve a plain-text robots.txt instead"),
     (Cause::LooksLikeUtf16,
@@ -76,6 +76,8 @@ pub(crate) static MESSAGES: [(Cause, &str); 89] = [
         "not a valid product token (ASCII letters, _ and - only), although some crawlers have such names; here the whole name is compared, but others, such as Google, read only the letters, _ and - at its start; check the crawler's documentation"),
     (Cause::HashLeavesRoot,
         "everything from # on is a comment, so what is left of the rule is the whole site, or an empty Disallow, which allows it; rules can't be about the part of a URL after #; write %23 if a path has one, or a space before a comment"),
+    (Cause::HashEmptiesRule,
+        "nothing is left of the rule before the #, which begins a comment, and an empty Disallow allows everything; write a path, without a fragment, or a space after the # of a comment"),
     (Cause::HashCutsRule,
         "everything from # on is a comment, so the rule is shorter and matches more paths; write %23 for a # in a path, or a space before a comment"),
     (Cause::RuleNotUtf8,
@@ -100,6 +102,8 @@ pub(crate) static MESSAGES: [(Cause, &str); 89] = [
         "this looks like a regular expression, which robots.txt doesn't support, and it doesn't start with / or *, so it matches no path; write what paths start with, with * for any characters, and a final $ for the end of the URL, for example: /admin"),
     (Cause::RegexSyntax,
         "this looks like a regular expression, which robots.txt doesn't support; use * for any characters, and a final $ for the end of the URL"),
+    (Cause::QuestionMarks,
+        "a ? stands for itself in robots.txt, so ?? matches only two of them; use * for any characters"),
     (Cause::StarAfterDollar,
         "only stars or more $ follow the first $, so it is the end of the path here; by RFC 9309 a $ is special only at the end of a rule, and this one is literal; delete what follows it"),
     (Cause::DollarNotAtEnd,
@@ -115,7 +119,7 @@ pub(crate) static MESSAGES: [(Cause, &str); 89] = [
     (Cause::SpaceInValue,
         "all of this is read as one value, with the white space or control character in it; write one value per line, %20 for a space, and comments after #"),
     (Cause::CommaInValue,
-        "all of this is read as one value, with the comma in it; write one value per line"),
+        "all of this is read as one value, with the comma or semicolon in it; write one value per line"),
     (Cause::TagInValue,
         "all of this is read as one value, with the HTML tag in it; delete the tag, and write one value per line"),
     (Cause::UnseenInValue,
@@ -128,6 +132,8 @@ pub(crate) static MESSAGES: [(Cause, &str); 89] = [
         "the sitemap isn't a valid URL that starts with http:// or https://; write, for example, https://example.com/sitemap.xml"),
     (Cause::SitemapHost,
         "the sitemap is at no public host (there is none, an IP address, localhost, undefined or null), so search engines may not fetch it; write the site's own, for example: https://example.com/sitemap.xml"),
+    (Cause::HashCutsSitemap,
+        "a # begins a comment, so the rest of the line isn't part of the sitemap's URL; delete it, or write a space before the #"),
     (Cause::SitemapDenied,
         "a rule for * denies this sitemap, if it is on the host of this file, so crawlers may not read it; allow it by a longer Allow, or correct the rule"),
     (Cause::OneLine,
@@ -154,6 +160,8 @@ pub(crate) static MESSAGES: [(Cause, &str); 89] = [
         "here an empty Disallow is an Allow of /, which wins over a Disallow of / or * for the same crawler; for RFC 9309 and Google it is no rule, and that Disallow applies; delete the one you don't want"),
     (Cause::TwoDelays,
         "the delay differs from one above it in the same group, so it isn't used here, but other crawlers may use it; delete all but one"),
+    (Cause::IgnoredDelay,
+        "the crawler of this group ignores Crawl-delay; delete the line, and see its vendor's help for how to slow it down"),
     (Cause::ClosesSite,
         "may fetch nothing (except, at most, /robots.txt, sitemaps, static files, well-known paths and the home page alone, if an Allow names them); if search engines should read the site, delete this rule or add a longer Allow"),
     (Cause::ClosesEverything,
@@ -166,6 +174,8 @@ pub(crate) static MESSAGES: [(Cause, &str); 89] = [
         "the group has none of the Disallow rules of *, and a crawler with a group of its own doesn't get them; repeat in this group those that should apply to it"),
     (Cause::RepeatedRule,
         "the same rule is above in the same group, so this one changes no verdict; delete it, or correct it if another path is meant"),
+    (Cause::WrongName,
+        "no crawler has this name, and a group applies only to a crawler with its very name; write the crawler's own"),
     (Cause::MisspelledName,
         "no known crawler has this name, and a group applies only to a crawler with its very name; correct it if another one is meant"),
     (Cause::GooglebotGroup,
@@ -188,7 +198,7 @@ pub(crate) static MESSAGES: [(Cause, &str); 89] = [
 /// command in its first line, or a command. In a file, `\xFF` is a byte, and `\{512000 a}` is 512,000 times
 /// an `a`.
 #[rattlefmt::skip]
-pub(crate) static EXAMPLES: [(Cause, &str); 89] = [
+pub(crate) static EXAMPLES: [(Cause, &str); 94] = [
     (Cause::LooksLikeHtml, "<html>\n</html>"),
     (Cause::LooksLikeUtf16, "\\xFF\\xFED\\x00"),
     (Cause::NoDirectives, "hello\nworld"),
@@ -225,6 +235,7 @@ pub(crate) static EXAMPLES: [(Cause, &str); 89] = [
     (Cause::InvalidProductToken, "User-agent: *\nUser-agent: Bot/1.0\nDisallow: /a"),
     (Cause::UnusualProductToken, "User-agent: MJ12bot\nDisallow: /a"),
     (Cause::HashLeavesRoot, "User-agent: *\nDisallow: /#/admin"),
+    (Cause::HashEmptiesRule, "User-agent: *\nDisallow: #top"),
     (Cause::HashCutsRule, "User-agent: *\nDisallow: /a#b"),
     (Cause::RuleNotUtf8, "User-agent: *\nDisallow: /\\xE9"),
     (Cause::EqualsInRule, "User-agent: *\nDisallow = /a"),
@@ -237,6 +248,7 @@ pub(crate) static EXAMPLES: [(Cause, &str); 89] = [
     (Cause::QuotedRule, "User-agent: *\nDisallow: \"/a\""),
     (Cause::RegexWithoutSlash, "User-agent: *\nDisallow: ^/admin"),
     (Cause::RegexSyntax, "User-agent: *\nDisallow: /.*"),
+    (Cause::QuestionMarks, "User-agent: *\nDisallow: /product-??"),
     (Cause::StarAfterDollar, "User-agent: *\nDisallow: /a$*"),
     (Cause::DollarNotAtEnd, "User-agent: *\nDisallow: /$a"),
     (Cause::NonstandardEscape, "User-agent: *\nDisallow: /%c3"),
@@ -251,6 +263,7 @@ pub(crate) static EXAMPLES: [(Cause, &str); 89] = [
     (Cause::DelayOverADay, "User-agent: *\nCrawl-delay: 100000"),
     (Cause::SitemapNotAbsolute, "User-agent: *\nSitemap: /s.xml"),
     (Cause::SitemapHost, "User-agent: *\nSitemap: http://localhost/s.xml"),
+    (Cause::HashCutsSitemap, "Sitemap: https://example.com/s.xml#a"),
     (Cause::SitemapDenied, "User-agent: *\nDisallow: /s\nSitemap: https://example.com/s.xml"),
     (Cause::OneLine, "User-agent: * Disallow: /"),
     (Cause::ControlInComment, "# \\x01"),
@@ -264,12 +277,14 @@ pub(crate) static EXAMPLES: [(Cause, &str); 89] = [
     (Cause::AllowedAndDisallowed, "Allow: /a\nDisallow: /a"),
     (Cause::EmptyDisallow, "User-agent: *\nDisallow: /\nDisallow:"),
     (Cause::TwoDelays, "User-agent: *\nCrawl-delay: 1\nCrawl-delay: 2"),
+    (Cause::IgnoredDelay, "User-agent: Googlebot\nCrawl-delay: 10"),
     (Cause::ClosesSite, "User-agent: *\nDisallow: /"),
     (Cause::ClosesEverything, "User-agent: GPTBot\nDisallow: /"),
     (Cause::ClosesHome, "User-agent: *\nDisallow: /\nAllow: /blog/"),
     (Cause::ClosesHomeToOthers, "User-agent: Googlebot\nAllow: /\nUser-agent: *\nDisallow: /$"),
     (Cause::ReplacesStar, "User-agent: *\nDisallow: /a\nUser-agent: FerrisBot\nDisallow: /b"),
     (Cause::RepeatedRule, "User-agent: *\nDisallow: /a\nDisallow: /a"),
+    (Cause::WrongName, "User-agent: ChatGPT\nDisallow: /a"),
     (Cause::MisspelledName, "User-agent: Googlbot\nDisallow: /a"),
     (Cause::GooglebotGroup, "# robots_audit robots.txt --agent Googlebot-News\nUser-agent: Googlebot\nDisallow: /a"),
     (Cause::GoogleIgnoresStar, "# robots_audit robots.txt --agent AdsBot-Google\nUser-agent: *\nDisallow: /a"),

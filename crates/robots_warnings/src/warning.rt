@@ -88,6 +88,7 @@ impl<'a> fmt::Display for Warning<'a> {
                 | Cause::ClosesHomeToOthers
                 | Cause::GooglebotGroup
                 | Cause::GoogleIgnoresStar
+                | Cause::WrongName
                 | Cause::MisspelledName => "crawler",
                 _ => "URL",
             };

@@ -15,7 +15,7 @@ use crate::checks::{
 };
 use crate::closed::warn_of_closed;
 use crate::conflicts::{RuleLines, rule_lines};
-use crate::contents::{has_odd_delay, has_odd_space, split_content};
+use crate::contents::{has_odd_delay, has_odd_space, is_cut, split_content};
 use crate::crawlers::{crawlers, warn_of_all_names, warn_of_vendors};
 use crate::empty_disallows::empty_disallows;
 use crate::facts::suppresses_line_warnings;
@@ -160,9 +160,16 @@ fn warn_of_raw_value(
 {
     let at = Some(number);
     match line {
-        Line::UserAgent(value) | Line::Sitemap(value) => {
+        Line::UserAgent(value) => {
             let is_odd = has_odd_space(value, parts.0);
             warn(found, at, None, &[(Cause::SpaceAroundValue, is_odd)])
+        }
+        Line::Sitemap(value) => {
+            let checks = [
+                (Cause::SpaceAroundValue, has_odd_space(value, parts.0)),
+                (Cause::HashCutsSitemap, is_cut(value, parts.0, parts.1)),
+            ];
+            warn(found, at, None, &checks)
         }
         Line::Allow(value) | Line::Disallow(value) => {
             let checks = raw_rule_checks(is_in_scope, value, parts.0, parts.1);
