@@ -124,7 +124,7 @@ static CONDITIONS: [(&str, &str); 66] = [
 #[rattlefmt::skip]
 static THEOREMS: [(&str, &str); 17] = [
     ("closes-everything",
-        "each path is denied to the crawler, unless it begins with /robots.txt or with the path of a sitemap, or an Allow matches it that opens little, as --explain states (closes_everything)"),
+        "each path is denied to the crawler, unless it begins with /robots.txt or with the path of a sitemap, or an Allow of little, as above, matches it (closes_everything)"),
     ("url-not-normal",
         "without this note the path and the query that are compared are the normal form of what is written, so the sentence about verdicts applies (url_not_normal)"),
     ("hash-cuts-rule", "as an error: what is left of the rule matches every path (hash_cuts_rule)"),

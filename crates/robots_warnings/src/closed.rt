@@ -511,6 +511,23 @@ fn warn_of_agents<'a>(
     Ok(())
 }
 
+fn warn_of_number<'a>(
+    found: &mut Found<'a>,
+    part: Part,
+    let_in: bool,
+    site: &Site,
+    closed: &ClosedLines<'a>,
+    number: usize,
+) -> Result<(), AllocError>
+    ensures { OnOk result (Adds found.old.items found.new.items
+        (closing_warnings part let_in (file_lines site.now) number (agents_at closed.now number))) }
+{
+    let Some(agents) = closed.get(&number) else {
+        return Ok(());
+    };
+    warn_of_agents(found, part, let_in, site, number, agents)
+}
+
 fn warn_of_lines<'a>(
     found: &mut Found<'a>,
     part: Part,
@@ -524,9 +541,7 @@ fn warn_of_lines<'a>(
         (map label_by_value labels.now))) }
 {
     for labeled in labels {
-        if let Some(agents) = closed.get(&labeled.number) {
-            warn_of_agents(found, part, let_in, site, labeled.number, agents)?;
-        }
+        warn_of_number(found, part, let_in, site, closed, labeled.number)?;
     }
     Ok(())
 }

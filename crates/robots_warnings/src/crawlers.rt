@@ -8,7 +8,7 @@ ghost use Rattle.robots_warnings.specs.Crawlers.{most_edits, name_at_vendor, nam
 ghost use Rattle.robots_warnings.specs.Crawlers.{row_at, value_at_vendor, wrong_names};
 ghost use Rattle.robots_warnings.specs.Internal.{Adds, row_value};
 ghost use Rattle.robots_warnings.specs.Warnings.{agent_warning, agent_warnings, name_warnings};
-ghost use Rattle.robots_warnings.specs.Warnings.{vendor_warning, vendor_warnings, warned_of_name};
+ghost use Rattle.robots_warnings.specs.Warnings.{line_name_warning, vendor_warning, vendor_warnings, warned_of_name};
 
 use crate::file::first;
 use crate::table::Cause;
@@ -357,6 +357,20 @@ fn warn_of_name<'a>(
     Ok(())
 }
 
+fn warn_of_line_name(
+    alloc: Global,
+    found: &mut Found<'_>,
+    number: usize,
+    line: Line<'_>,
+) -> Result<(), AllocError>
+    ensures { OnOk result (Adds found.old.items found.new.items (line_name_warning number (by_value line.entry))) }
+{
+    match line {
+        Line::UserAgent(name) => warn_of_name(alloc, found, Some(number), None, name),
+        _ => Ok(()),
+    }
+}
+
 fn warn_of_names(
     alloc: Global,
     found: &mut Found<'_>,
@@ -365,9 +379,7 @@ fn warn_of_names(
     ensures { OnOk result (Adds found.old.items found.new.items (name_warnings (map label_by_value labels.now))) }
 {
     for labeled in labels {
-        if let Line::UserAgent(name) = labeled.line {
-            warn_of_name(alloc, found, Some(labeled.number), None, name)?;
-        }
+        warn_of_line_name(alloc, found, labeled.number, labeled.line)?;
     }
     Ok(())
 }
