@@ -5,9 +5,7 @@ ghost use Rattle.robots_warnings.specs.FieldNames.{is_without_colon};
 ghost use Rattle.robots_warnings.specs.Checks.{content_checks, field_checks, file_checks, form_checks, position_checks, raw_rule_checks, sitemap_checks, text_checks, url_checks, user_agent_checks};
 ghost use Rattle.robots_warnings.specs.{File.is_in_scope_of, File.lines_of, Rules.is_expression};
 
-use crate::contents::{
-    has_odd_comment, has_odd_space, is_cut_short, is_cut_to_root, is_emptied,
-};
+use crate::contents::{has_odd_comment, has_odd_space, is_cut_short, is_cut_to_root, is_emptied};
 use crate::facts::FileFacts;
 use crate::field_names::{begins_inner_field, is_misspelled};
 use crate::positions::{

@@ -168,9 +168,10 @@ fn raise(
         return Ok(());
     }
     let pattern = rule.pattern(alloc)?;
-    let is_rival =
-        !leaves_closed(part, exempt, pattern.as_str()) && !matches_no_path(pattern.as_bytes());
-    if is_rival && *needed <= pattern.len() {
+    if *needed <= pattern.len()
+        && !matches_no_path(pattern.as_bytes())
+        && !leaves_closed(part, exempt, pattern.as_str())
+    {
         *needed = pattern.len() + 1;
     }
     Ok(())

@@ -7,8 +7,8 @@ use crate::rules::somewhere;
 
 /// How the names of static files end.
 pub(crate) const STATIC_FILES: [&str; 15] = [
-    ".css", ".js", ".png", ".jpg", ".jpeg", ".gif", ".svg", ".ico", ".webp", ".woff", ".woff2", ".ttf",
-    ".txt", ".xml", ".json",
+    ".css", ".js", ".png", ".jpg", ".jpeg", ".gif", ".svg", ".ico", ".webp", ".woff", ".woff2",
+    ".ttf", ".txt", ".xml", ".json",
 ];
 
 /// How other paths begin that crawlers fetch besides pages.
