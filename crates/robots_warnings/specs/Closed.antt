@@ -177,7 +177,8 @@ is_number number None = false
 is_number number (Some line) = line == number
 
 abbrev pub closed_at : Part → List LineValue → List (List ℕ) → ℕ → List (List ℕ)
-closed_at part lines agents number = filter (λ agent. is_number number (line_reported part lines agent)) agents
+closed_at part lines agents number =
+    filter (λ agent. is_number number (line_reported part lines agent)) agents
 
 -- ---- Groups of crawlers that have none of the Disallow rules of `*`.
 

@@ -8,10 +8,10 @@ use Rattle.robots_warnings.specs.{File.is_in_scope_of, File.lines_of, Repeated.r
 use Rattle.robots_warnings.specs.declared.positions.Preceding.{Preceding, TheVariants.Other}
 use Rattle.robots_warnings.specs.declared.table.Cause.{Cause, TheVariants.AllowedAndDisallowed}
 use Rattle.robots_warnings.specs.declared.table.Cause.TheVariants.{ClosesEverything, CutLine, EmptyDisallow}
-use Rattle.robots_warnings.specs.declared.table.Cause.TheVariants.{ClosesHome, ClosesHomeToOthers}
+use Rattle.robots_warnings.specs.declared.table.Cause.TheVariants.{ClosesHome, ClosesHomeToOthers, WrongName}
 use Rattle.robots_warnings.specs.declared.table.Cause.TheVariants.{EscapedDelimiter, ClosesSite, RepeatedRule}
 use Rattle.robots_warnings.specs.declared.table.Cause.TheVariants.{GoogleIgnoresStar, GooglebotGroup}
-use Rattle.robots_warnings.specs.declared.table.Cause.TheVariants.{GroupPastSizeLimit, MisspelledName, WrongName}
+use Rattle.robots_warnings.specs.declared.table.Cause.TheVariants.{GroupPastSizeLimit, MisspelledName}
 use Rattle.robots_warnings.specs.declared.table.Cause.TheVariants.{NonstandardEscape, ReplacesStar}
 use Rattle.robots_warnings.specs.declared.warning.Detail.{Detail}
 use Rattle.robots_warnings.specs.declared.warning.Detail.TheVariants.{Group, Line, Meant, Others, Rules}

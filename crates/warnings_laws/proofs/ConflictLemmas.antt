@@ -222,7 +222,8 @@ is_shorter n m isnt = grind arith
 
 pub closed_denies : (is_exempt : List ℕ → Bool) (agent : List ℕ) (lines : List LineValue)
     (rules : List PlacedRule) (text : List ℕ)
-    → is_some (closing_line part.All is_exempt (placed_rules agent lines)) ≡ true → AreRulesFor agent lines rules
+    → is_some (closing_line part.All is_exempt (placed_rules agent lines)) ≡ true
+    → AreRulesFor agent lines rules
     → byte "/" ∷ text ≢ robots_file
     → ((pattern : List ℕ) → Contains (unplaced rules) (pattern, true) → is_exempt pattern ≡ true
     → ¬ Matches pattern (byte "/" ∷ text))
@@ -254,7 +255,8 @@ closed_denies is_exempt agent lines rules text is are differs opens =
         → (is_exempt pattern ≡ true) ⊎ (is_exempt pattern ≡ false)
         → (matches_no_path pattern ≡ true) ⊎ (matches_no_path pattern ≡ false) → length pattern < n
     shorter n pattern has matches isnt (inl exempt) _ = absurd (opens pattern has exempt matches)
-    shorter n pattern has matches isnt (inr stated) (inl never) = absurd (without_path pattern text never matches)
+    shorter n pattern has matches isnt (inr stated) (inl never) =
+        absurd (without_path pattern text never matches)
     shorter n pattern has matches isnt (inr stated) (inr may) =
         is_shorter n (length pattern) (rw (stated, may) at isnt)
 
