@@ -134,8 +134,8 @@ position_checks last preceding above delay label lines =
     ∷ (cause.DelaySplitsGroup, is_split preceding above label lines && not (name_star lines))
     ∷ (cause.DelayAboveStar, is_split preceding above label lines && name_star lines)
     ∷ (cause.JoinedGroups, are_joined lines)
-    ∷ (cause.TwoDelays, is_other_delay delay label)
     ∷ (cause.IgnoredDelay, is_ignored above (delay_in label.line))
+    ∷ (cause.TwoDelays, is_other_delay delay label)
     ∷ []
 
 -- any line that isn't ignored

@@ -199,7 +199,7 @@ pub(crate) fn position_checks(
         (Cause::DelaySplitsGroup, is_split && !is_star),
         (Cause::DelayAboveStar, is_star),
         (Cause::JoinedGroups, are_joined(from_here)),
-        (Cause::TwoDelays, is_other_delay(delay, labeled)),
         (Cause::IgnoredDelay, is_ignored(above, labeled.line)),
+        (Cause::TwoDelays, is_other_delay(delay, labeled)),
     ]
 }
