@@ -125,7 +125,7 @@ pub(crate) fn form_checks(value: &[u8], is_regex: bool) -> [Check; 9]
         (Cause::UrlAsRule, begins_as_url(value)),
         (
             Cause::OddCharacter,
-            has_odd_character(value) & !(is_encoded_otherwise | is_quoted(value) | is_other),
+            has_odd_character(value) & !(is_encoded_otherwise | (is_quoted(value) | is_other)),
         ),
         (Cause::UnencodedCharacter, is_encoded_otherwise & !is_other),
         (Cause::QuoteAtEnd, has_quote_at_end(value)),

@@ -1,7 +1,7 @@
 //! Conditions on what the content of a directive has besides its value: white space, a comment, and the text
 //! of a delay. Those on a raw value are for directives with a colon.
-ghost use Rattle.std.specs.Prelude.{◌≡◌};
-ghost use Rattle.std.specs.Char.{is_ascii_digit};
+ghost use Rattle.std.specs.Prelude.{◌≡◌, slice_index};
+ghost use Rattle.std.specs.Char.{is_ascii_alphanumeric, is_ascii_digit};
 ghost use Rattle.std.specs.List.{list_all, list_any};
 ghost use Rattle.robots_warnings.specs.Contents.{are_digits, comment_of, has_odd_comment, has_odd_delay, has_odd_space};
 ghost use Rattle.robots_warnings.specs.Contents.{is_control, is_cut, is_cut_short, is_cut_to_root, is_emptied, raw_value, tail_of};
@@ -47,11 +47,19 @@ pub(crate) fn is_cut_to_root(value: &[u8], tail: &[u8], comment: &[u8]) -> bool
         && is_whole_site(value)
 }
 
+fn begins_word(comment: &[u8]) -> bool
+    ensures { result ≡ is_ascii_alphanumeric (slice_index comment.now 1) }
+{
+    match comment {
+        [_, letter, ..] => letter.is_ascii_alphanumeric(),
+        _ => false,
+    }
+}
+
 pub(crate) fn is_emptied(value: &[u8], tail: &[u8], comment: &[u8]) -> bool
     ensures { result ≡ is_emptied value.now tail.now comment.now }
 {
-    let is_word = matches!(comment, [_, letter, ..] if letter.is_ascii_alphanumeric());
-    raw_value(tail).is_empty() && is_whole_site(value) && is_word
+    raw_value(tail).is_empty() && is_whole_site(value) && begins_word(comment)
 }
 
 pub(crate) fn is_cut_short(value: &[u8], tail: &[u8], comment: &[u8]) -> bool
