@@ -43,7 +43,7 @@ static CONDITIONS: [(&str, &str); 66] = [
     ("robot-version-line", "the field name of an ignored line is Robot-version"),
     ("comment-line", "the field name of an ignored line is Comment"),
     ("unrecognized-line",
-        "the line is neither blank nor a comment, and has no known field name; a name is suggested if the text before the colon, or the first word, begins with it, with at most one letter more (for Allow and Disallow also - or _), or differs from it in at most two bytes; an invisible character in the name, or = in place of the colon, is named"),
+        "the line is neither blank nor a comment, and has no known field name; a name is suggested if the text before the colon is Agent, Allowed or Disallowed, or it or the first word begins with the name, with at most one letter more (for Allow and Disallow also - or _), or differs from it in at most two bytes; an invisible character in the name, or = in place of the colon, is named"),
     ("nonstandard-field",
         "the field name of a directive isn't spelled as in the message, ASCII letters in any case"),
     ("missing-colon", "a directive has no colon after its field name"),

@@ -28,9 +28,8 @@ const DIRECTIVES: [(&str, Cause); 5] = [
     ("crawl-delay", Cause::LikeCrawlDelay),
 ];
 
-/// Field names that other crawlers support or supported, and names that mean a usual one, in the order of the
-/// search, and the warning for each.
-const UNSUPPORTED: [(&str, Cause); 15] = [
+/// Field names that other crawlers support or supported, in the order of the search, and the warning for each.
+const UNSUPPORTED: [(&str, Cause); 12] = [
     ("noindex", Cause::NoindexLine),
     ("nofollow", Cause::NofollowLine),
     ("host", Cause::HostLine),
@@ -43,6 +42,10 @@ const UNSUPPORTED: [(&str, Cause); 15] = [
     ("comment", Cause::CommentLine),
     ("no-index", Cause::NoindexLine),
     ("no-follow", Cause::NofollowLine),
+];
+
+/// Names before a colon that mean a usual one.
+const OTHER_FORMS: [(&str, Cause); 3] = [
     ("agent", Cause::LikeUserAgent),
     ("allowed", Cause::LikeAllow),
     ("disallowed", Cause::LikeDisallow),
@@ -220,6 +223,9 @@ pub(crate) fn meant_by(alloc: Global, body: &[u8]) -> Result<Cause, AllocError>
         return Ok(Cause::HostName);
     }
     if let Some(cause) = first_in(&UNSUPPORTED, name, word) {
+        return Ok(cause);
+    }
+    if let Some(cause) = first_in(&OTHER_FORMS, name, name) {
         return Ok(cause);
     }
     match directive_in(alloc, name, word)? {
