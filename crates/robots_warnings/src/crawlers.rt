@@ -95,14 +95,13 @@ static CRAWLERS: [(&str, &str); 109] = [
 ];
 
 /// Names that no crawler has, each with that of the known crawler that is probably meant.
-static WRONG_NAMES: [(&str, &str); 26] = [
+static WRONG_NAMES: [(&str, &str); 25] = [
     ("all", "*"),
     ("any", "*"),
     ("everyone", "*"),
     ("Google", "Googlebot"),
     ("Gemini", "Google-Extended"),
     ("Bing", "Bingbot"),
-    ("Baidu", "Baiduspider"),
     ("Yahoo", "Slurp"),
     ("OpenAI", "GPTBot"),
     ("ChatGPT", "ChatGPT-User"),
