@@ -60,10 +60,16 @@ raw_rule_checks is_in_scope value tail comment =
     ∷ (cause.HashCutsRule, is_in_scope && is_cut_short value tail comment)
     ∷ []
 
+-- another field name follows
+abbrev pub is_one_line : List ℕ → Bool
+is_one_line text = has (byte ":") text && somewhere begins_inner_field text
+
 -- the value of a user-agent line
 abbrev pub user_agent_checks : List ℕ → List Check
-user_agent_checks value =
-    (cause.InvalidProductToken, not (is_product_token value) && not (is_usual_name value))
+user_agent_checks value = (
+  cause.InvalidProductToken,
+  not (is_product_token value) && not (is_usual_name value || is_one_line value),
+)
     ∷ (cause.UnusualProductToken, not (is_product_token value) && is_usual_name value)
     ∷ []
 
@@ -99,7 +105,11 @@ content_checks value =
     ∷ (cause.DollarNotAtEnd, has_dollar_inside value)
     ∷ (cause.EscapedWildcard, somewhere begins_wildcard value)
     ∷ (cause.DotSegment, somewhere begins_dot_segment (before_byte (byte "?") value))
-    ∷ (several_values value, is_utf8 value && has_several_values value)
+    ∷ (
+      several_values value,
+      (is_utf8 value && has_several_values value)
+          && not (is_one_line value || starts_with nat_eq value (codes "=")),
+    )
     ∷ []
 
 abbrev pub rule_checks : List ℕ → List Check
@@ -119,7 +129,7 @@ sitemap_checks value =
 -- the tail and the comment of any line
 abbrev pub text_checks : (tail comment : List ℕ) → List Check
 text_checks tail comment =
-    (cause.OneLine, has (byte ":") tail && somewhere begins_inner_field tail)
+    (cause.OneLine, is_one_line tail)
     ∷ (cause.ControlInComment, has_odd_comment comment)
     ∷ []
 

@@ -2,7 +2,7 @@
 ghost use Rattle.std.specs.Prelude.{◌≡◌, IfOk, map, option_map};
 ghost use Rattle.texting_robots.specs.Callers.{label_by_value};
 ghost use Rattle.robots_warnings.specs.FieldNames.{is_without_colon};
-ghost use Rattle.robots_warnings.specs.Checks.{content_checks, field_checks, file_checks, form_checks, position_checks, raw_rule_checks, sitemap_checks, text_checks, url_checks, user_agent_checks};
+ghost use Rattle.robots_warnings.specs.Checks.{content_checks, field_checks, file_checks, form_checks, is_one_line, position_checks, raw_rule_checks, sitemap_checks, text_checks, url_checks, user_agent_checks};
 ghost use Rattle.robots_warnings.specs.{File.is_in_scope_of, File.lines_of, Rules.is_expression};
 
 use crate::contents::{has_odd_comment, has_odd_space, is_cut_short, is_cut_to_root, is_emptied};
@@ -91,13 +91,22 @@ pub(crate) fn raw_rule_checks(
     ]
 }
 
+fn is_one_line(text: &[u8]) -> bool
+    ensures { result ≡ is_one_line text.now }
+{
+    has(b':', text) && somewhere(text, begins_inner_field)
+}
+
 pub(crate) fn user_agent_checks(value: &[u8]) -> [Check; 2]
     ensures { result ≡ user_agent_checks value.now }
 {
     let is_other = !is_product_token(value);
     let is_usual = is_usual_name(value);
     [
-        (Cause::InvalidProductToken, is_other && !is_usual),
+        (
+            Cause::InvalidProductToken,
+            is_other && !(is_usual || is_one_line(value)),
+        ),
         (Cause::UnusualProductToken, is_other && is_usual),
     ]
 }
@@ -151,7 +160,10 @@ pub(crate) fn content_checks(value: &[u8], is_regex: bool) -> [Check; 8]
         (Cause::DollarNotAtEnd, has_dollar_inside(value)),
         (Cause::EscapedWildcard, somewhere(value, begins_wildcard)),
         (Cause::DotSegment, has_dots),
-        (cause, is_utf8(value) & seems_several),
+        (
+            cause,
+            (is_utf8(value) & seems_several) & !(is_one_line(value) | value.starts_with(b"=")),
+        ),
     ]
 }
 
@@ -169,9 +181,8 @@ pub(crate) fn sitemap_checks(alloc: Global, value: &[u8]) -> Result<[Check; 3], 
 pub(crate) fn text_checks(tail: &[u8], comment: &[u8]) -> [Check; 2]
     ensures { result ≡ text_checks tail.now comment.now }
 {
-    let has_field = has(b':', tail) && somewhere(tail, begins_inner_field);
     [
-        (Cause::OneLine, has_field),
+        (Cause::OneLine, is_one_line(tail)),
         (Cause::ControlInComment, has_odd_comment(comment)),
     ]
 }
