@@ -10,7 +10,7 @@ use Rattle.robots_warnings.specs.Contents.{comment_of, has_odd_comment, has_odd_
 use Rattle.robots_warnings.specs.Contents.{is_cut_short, is_cut_to_root}
 use Rattle.robots_warnings.specs.FieldNames.{begins_inner_field, is_misspelled, is_without_colon, meant_by}
 use Rattle.robots_warnings.specs.Positions.{are_joined, is_above_agents, is_empty_group, is_other_delay}
-use Rattle.robots_warnings.specs.{Positions.is_ignored, Rules.begins_question_marks, SeveralValues.has_tag}
+use Rattle.robots_warnings.specs.{Positions.is_ignored, Rules.has_question_marks, SeveralValues.has_tag}
 use Rattle.robots_warnings.specs.{Contents.is_cut, Contents.is_emptied}
 use Rattle.texting_robots.specs.Line.{delay_in}
 use Rattle.robots_warnings.specs.Positions.{is_split, name_star}
@@ -100,7 +100,7 @@ abbrev pub content_checks : List ℕ → List Check
 content_checks value =
     (cause.RegexWithoutSlash, has_odd_start value && is_expression value)
     ∷ (cause.RegexSyntax, not (has_odd_start value) && is_expression value)
-    ∷ (cause.QuestionMarks, somewhere begins_question_marks value && not (is_expression value))
+    ∷ (cause.QuestionMarks, has_question_marks value && not (is_expression value))
     ∷ (cause.StarAfterDollar, has_more_after_dollar value)
     ∷ (cause.DollarNotAtEnd, has_dollar_inside value)
     ∷ (cause.EscapedWildcard, somewhere begins_wildcard value)

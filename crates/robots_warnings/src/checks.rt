@@ -12,8 +12,8 @@ use crate::positions::{
     Preceding, are_joined, is_empty_group, is_ignored, is_other_delay, is_split, name_star,
 };
 use crate::rules::{
-    before_byte, begins_dot_segment, begins_question_marks, begins_wildcard, has,
-    has_dollar_inside, has_more_after_dollar, has_odd_character, has_odd_start, has_quote_at_end,
+    before_byte, begins_dot_segment, begins_wildcard, has, has_dollar_inside,
+    has_more_after_dollar, has_odd_character, has_odd_start, has_question_marks, has_quote_at_end,
     holds_otherwise, is_quoted, is_url_in_path, is_utf8, somewhere,
 };
 use crate::several_values::{has_tag, several_values};
@@ -149,21 +149,16 @@ pub(crate) fn content_checks(value: &[u8], is_regex: bool) -> [Check; 8]
     let is_odd = has_odd_start(value);
     let has_dots = somewhere(before_byte(b'?', value), begins_dot_segment);
     let (cause, seems_several) = several_values(value);
+    let is_other = is_one_line(value) | value.starts_with(b"=");
     [
         (Cause::RegexWithoutSlash, is_odd & is_regex),
         (Cause::RegexSyntax, !is_odd & is_regex),
-        (
-            Cause::QuestionMarks,
-            somewhere(value, begins_question_marks) & !is_regex,
-        ),
+        (Cause::QuestionMarks, has_question_marks(value) & !is_regex),
         (Cause::StarAfterDollar, has_more_after_dollar(value)),
         (Cause::DollarNotAtEnd, has_dollar_inside(value)),
         (Cause::EscapedWildcard, somewhere(value, begins_wildcard)),
         (Cause::DotSegment, has_dots),
-        (
-            cause,
-            (is_utf8(value) & seems_several) & !(is_one_line(value) | value.starts_with(b"=")),
-        ),
+        (cause, (is_utf8(value) & seems_several) & !is_other),
     ]
 }
 

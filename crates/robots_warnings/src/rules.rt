@@ -6,7 +6,7 @@ ghost use Rattle.robots_warnings.specs.Internal.Plain.{is_plain, is_plain_byte};
 ghost use Rattle.robots_warnings.specs.Rules.{after_byte, before_byte, begins_delimiter, begins_dot_segment, begins_host, begins_quote};
 ghost use Rattle.robots_warnings.specs.Rules.{begins_lone_percent, begins_odd_escape, begins_oddly, begins_sign, begins_wildcard, from_first};
 ghost use Rattle.robots_warnings.specs.Rules.{has, has_any, has_dollar_inside, has_more_after_dollar};
-ghost use Rattle.robots_warnings.specs.Rules.{begins_question_marks, has_odd_character, has_odd_start, has_quote_at_end, holds_otherwise, is_delimiter};
+ghost use Rattle.robots_warnings.specs.Rules.{begins_question_marks, has_odd_character, has_question_marks, has_odd_start, has_quote_at_end, holds_otherwise, is_delimiter};
 ghost use Rattle.robots_warnings.specs.Rules.{is_expression, is_quoted, is_url_in_path, needs_no_escape, somewhere};
 
 use crate::urls::{as_text, begins_as_url};
@@ -203,10 +203,16 @@ pub(crate) fn is_expression(value: &[u8]) -> bool
         || value.ends_with(b")+")
 }
 
-pub(crate) fn begins_question_marks(text: &[u8]) -> bool
+fn begins_question_marks(text: &[u8]) -> bool
     ensures { result ≡ begins_question_marks text.now }
 {
     text.starts_with(b"??")
+}
+
+pub(crate) fn has_question_marks(value: &[u8]) -> bool
+    ensures { result ≡ has_question_marks value.now }
+{
+    somewhere(value, begins_question_marks)
 }
 
 pub(crate) fn has_dollar_inside(value: &[u8]) -> bool
