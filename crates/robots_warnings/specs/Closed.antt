@@ -9,7 +9,7 @@ use Rattle.texting_robots.specs.Callers.{sitemaps_in, Label}
 use Rattle.robots_warnings.specs.{declared.closed.TheConstants.SEARCH_ENGINES, declared.closed.Reach.Reach}
 use Rattle.robots_warnings.specs.declared.closed.{Part.Part, Part.TheVariants.All, Part.TheVariants.Home}
 use Rattle.robots_warnings.specs.declared.closed.Part.TheVariants.{Site}
-use Rattle.robots_warnings.specs.declared.openings.TheConstants.{STATIC_FILES, WELL_KNOWN}
+use Rattle.robots_warnings.specs.declared.site_patterns.TheConstants.{STATIC_FILES, WELL_KNOWN}
 use Rattle.robots_warnings.specs.{Conflicts.first_line, File.lines_of, declared.positions.Preceding.Preceding}
 use Rattle.robots_warnings.specs.Crawlers.{meant, other_group, ends_token}
 use Rattle.robots_warnings.specs.Rules.{begins_oddly, has_dollar_inside, somewhere}

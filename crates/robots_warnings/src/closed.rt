@@ -4,19 +4,19 @@ ghost use Rattle.std.specs.Prelude.{is_some, length, map, nat_lt, option_map, sl
 ghost use Rattle.std.specs.{HashSet.contains_text, List.filter_map, List.list_all, List.list_any, Str.str_eq_ignore_ascii_case};
 ghost use Rattle.texting_robots.specs.Callers.{PlacedRule, file_lines, label_by_value, placed_rules};
 ghost use Rattle.robots_warnings.specs.{declared.closed.Part.TheVariants.All};
-ghost use Rattle.robots_warnings.specs.Closed.{closed_at, closes, closing_line, is_allow, is_anything, is_closing, is_exempt};
-ghost use Rattle.robots_warnings.specs.Closed.{is_any, is_engine, is_for, is_home, is_home_root, is_literally, is_major};
-ghost use Rattle.robots_warnings.specs.Closed.{is_number, is_rival, is_root, is_star_or_dollar, is_whole_site, leaves_closed};
-ghost use Rattle.robots_warnings.specs.Closed.{lets_in, line_closing, line_reported, matches_no_path, opened_path};
-ghost use Rattle.robots_warnings.specs.Closed.{part_closing, reach_by, reach_of, without_stars};
+ghost use Rattle.robots_warnings.specs.Closed.{closed_at, closes, closing_line, is_allow, is_closing, is_exempt};
+ghost use Rattle.robots_warnings.specs.Closed.{is_for, is_literally, is_major, is_number, is_rival, leaves_closed};
+ghost use Rattle.robots_warnings.specs.Closed.{lets_in, line_closing, line_reported, opened_path, part_closing};
+ghost use Rattle.robots_warnings.specs.Closed.{reach_by, reach_of};
 ghost use Rattle.robots_warnings.specs.Internal.{Adds, Rules.HasExempt, Rules.IsNeeded, Rules.agents_at};
 ghost use Rattle.robots_warnings.specs.Warnings.{closing_cause, closing_warnings, others, part_warnings, site_warnings};
 
 use crate::crawlers::{meant, other_group};
-use crate::openings::opens_little;
 use crate::own_rules::own_rules;
 use crate::read::FileRead;
-use crate::rules::{begins_oddly, has_dollar_inside};
+use crate::site_patterns::{
+    has_star_or_dollar, is_home, is_whole_site, matches_no_path, opens_little,
+};
 use crate::table::Cause;
 use crate::targets::prepared;
 use crate::tokens::token_front;
@@ -66,61 +66,6 @@ pub enum Reach {
     Part,
 }
 
-fn are_stars_or_dollars(text: &[u8]) -> bool
-    ensures { result ≡ list_all is_star_or_dollar text.now }
-{
-    text.iter().all(|byte| *byte == b'*' || *byte == b'$')
-}
-
-fn is_anything(value: &[u8]) -> bool
-    ensures { result ≡ is_anything value.now }
-{
-    match value {
-        [b'*', rest @ ..] => are_stars_or_dollars(rest),
-        _ => false,
-    }
-}
-
-fn is_root(value: &[u8]) -> bool
-    ensures { result ≡ is_root value.now }
-{
-    match value {
-        [b'/', rest @ ..] => rest.is_empty() || is_anything(rest),
-        _ => false,
-    }
-}
-
-fn without_stars<'a>(value: &'a [u8]) -> &'a [u8]
-    ensures { result.now ≡ without_stars value.now }
-{
-    let mut rest = value;
-    while let [b'*', after @ ..] = rest {
-        rest = after;
-    }
-    rest
-}
-
-pub(crate) fn is_whole_site(value: &[u8]) -> bool
-    ensures { result ≡ is_whole_site value.now }
-{
-    is_anything(value) || is_root(without_stars(value))
-}
-
-fn is_home_root(value: &[u8]) -> bool
-    ensures { result ≡ is_home_root value.now }
-{
-    match value {
-        [b'/', rest @ ..] => are_stars_or_dollars(rest),
-        _ => false,
-    }
-}
-
-fn is_home(value: &[u8]) -> bool
-    ensures { result ≡ is_home value.now }
-{
-    is_anything(value) || is_home_root(without_stars(value))
-}
-
 fn is_for(part: Part, value: &[u8]) -> bool
     ensures { result ≡ is_for part value.now }
 {
@@ -135,12 +80,6 @@ fn is_closing(part: Part, rule: &SiteRule<'_>) -> bool
     ensures { result ≡ is_closing part rule.now }
 {
     !rule.is_allow && is_for(part, rule.value.as_bytes())
-}
-
-fn matches_no_path(pattern: &[u8]) -> bool
-    ensures { result ≡ matches_no_path pattern.now }
-{
-    begins_oddly(pattern) || has_dollar_inside(pattern)
 }
 
 fn leaves_closed(part: Part, exempt: &Patterns, pattern: &str) -> bool
@@ -256,12 +195,6 @@ pub fn reach_of(
         return Ok(Reach::Part);
     }
     reach_by(alloc, rules)
-}
-
-fn has_star_or_dollar(text: &[u8]) -> bool
-    ensures { result ≡ list_any is_star_or_dollar text.now }
-{
-    text.iter().any(|byte| *byte == b'*' || *byte == b'$')
 }
 
 fn add(patterns: &mut Patterns, text: String) -> Result<(), AllocError>

@@ -6,9 +6,9 @@ ghost use Rattle.std.specs.List.{list_all, list_any};
 ghost use Rattle.robots_warnings.specs.Contents.{are_digits, comment_of, has_odd_comment, has_odd_delay, has_odd_space};
 ghost use Rattle.robots_warnings.specs.Contents.{is_control, is_cut, is_cut_short, is_cut_to_root, is_emptied, raw_value, tail_of};
 
-use crate::closed::is_whole_site;
 use crate::field_names::{without_end, without_front};
 use crate::rules::{after_byte, before_byte, begins_oddly, has, is_utf8, place};
+use crate::site_patterns::is_whole_site;
 
 /// The tail, which is between the first colon and the comment, and the comment, which starts with `#` or is
 /// empty.
