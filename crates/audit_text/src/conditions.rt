@@ -65,7 +65,7 @@ static CONDITIONS: [(&str, &str); 66] = [
     ("quoted-rule",
         "as an error: the value of a rule begins with a quote, also a typographic one, or with a straight one and ends with it; as a warning: its last character is its only typographic quote"),
     ("regex-syntax",
-        "a rule has a bracket with a range such as [a-z], .* at its start, after / or ( or before $, ^ at its start, (?, \\ before a letter or digit, a final + after a dot, ] or ), or (, a vertical bar and ) in this order; or, without any of these, ??; it is an error if the rule begins with neither / nor *"),
+        "a rule has a bracket with a range such as [a-z], .* at its start, after / or ( or before $, ^ at its start, (?, \\ before a letter or digit, a final + after a dot, ] or ), or (, a vertical bar and ) in this order; or ??; without the latter, it is an error if the rule begins with neither / nor *"),
     ("dollar-not-at-end", "a byte follows the first $ of a rule"),
     ("nonstandard-escape",
         "a rule has an escape with lowercase digits, or of a letter, a digit or one of -._~; not if the group has the rule of the same kind in the standard spelling, too: /%2b and /%2B"),

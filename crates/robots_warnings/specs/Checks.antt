@@ -100,7 +100,7 @@ abbrev pub content_checks : List ℕ → List Check
 content_checks value =
     (cause.RegexWithoutSlash, has_odd_start value && is_expression value)
     ∷ (cause.RegexSyntax, not (has_odd_start value) && is_expression value)
-    ∷ (cause.QuestionMarks, has_question_marks value && not (is_expression value))
+    ∷ (cause.QuestionMarks, has_question_marks value)
     ∷ (cause.StarAfterDollar, has_more_after_dollar value)
     ∷ (cause.DollarNotAtEnd, has_dollar_inside value)
     ∷ (cause.EscapedWildcard, somewhere begins_wildcard value)

@@ -153,7 +153,7 @@ pub(crate) fn content_checks(value: &[u8], is_regex: bool) -> [Check; 8]
     [
         (Cause::RegexWithoutSlash, is_odd & is_regex),
         (Cause::RegexSyntax, !is_odd & is_regex),
-        (Cause::QuestionMarks, has_question_marks(value) & !is_regex),
+        (Cause::QuestionMarks, has_question_marks(value)),
         (Cause::StarAfterDollar, has_more_after_dollar(value)),
         (Cause::DollarNotAtEnd, has_dollar_inside(value)),
         (Cause::EscapedWildcard, somewhere(value, begins_wildcard)),
