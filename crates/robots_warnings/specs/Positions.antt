@@ -8,7 +8,7 @@ use Rattle.texting_robots.specs.declared.labels.Membership.{Membership, TheVaria
 use Rattle.robots_warnings.specs.declared.positions.Preceding.{Preceding}
 use Rattle.robots_warnings.specs.declared.positions.Preceding.TheVariants.{Agent, Delay, Other}
 use Rattle.robots_warnings.specs.{Facts.has_text, Facts.is_rule, File.hash, File.is_blank, Rules.has}
-use Rattle.robots_warnings.specs.{Rules.somewhere, Urls.begins_in_any_case}
+use Rattle.robots_warnings.specs.{Rules.somewhere, FieldNames.begins_with}
 use Rattle.robots_warnings.specs.declared.positions.TheConstants.{IGNORE_DELAYS}
 use Rattle.std.specs.List.{list_any}
 
@@ -116,7 +116,7 @@ is_other_delay first label =
     not (is_outside label.membership) && are_different first (delay_in label.line)
 
 abbrev pub begins_ignoring : List ℕ → Bool
-begins_ignoring text = list_any (λ part. begins_in_any_case part.now text) IGNORE_DELAYS
+begins_ignoring text = list_any (λ part. begins_with part.now text) IGNORE_DELAYS
 
 -- a crawler with this name ignores the delay
 abbrev pub is_ignored : (name : Option (List ℕ)) → (delay : Option ℕ) → Bool

@@ -114,7 +114,7 @@ fn is_name(name: &str, word: &[u8]) -> bool
 }
 
 #[tactic(auto, unfolding(crate::specs::FieldNames::begins_with))]
-fn begins_with(name: &str, word: &[u8]) -> bool
+pub(crate) fn begins_with(name: &str, word: &[u8]) -> bool
     ensures { result ≡ begins_with name.now word.now }
 {
     is_name(name, first(name.len(), word))

@@ -9,9 +9,9 @@ ghost use Rattle.robots_warnings.specs.Positions.{begin_bare, first_delay, is_ot
 ghost use Rattle.robots_warnings.specs.Positions.{is_split, last_group, name_star, reach_name, sole_name};
 
 use crate::facts::has_text;
+use crate::field_names::begins_with;
 use crate::file::is_blank;
 use crate::rules::{has, somewhere};
-use crate::urls::begins_in_any_case;
 use texting_robots::labels::{LabeledLine, Membership};
 use texting_robots::parser::Line;
 
@@ -87,9 +87,7 @@ pub(crate) const IGNORE_DELAYS: [&str; 2] = ["google", "yandex"];
 fn begins_ignoring(text: &[u8]) -> bool
     ensures { result ≡ begins_ignoring text.now }
 {
-    IGNORE_DELAYS
-        .iter()
-        .any(|part| begins_in_any_case(part.as_bytes(), text))
+    IGNORE_DELAYS.iter().any(|part| begins_with(part, text))
 }
 
 /// `name` is the only name of the group.
