@@ -27,12 +27,16 @@ fn is_name_end(text: &[u8], end: &[u8]) -> bool
     text.starts_with(end) && are_file_ends(&text[end.len()..])
 }
 
+fn begins_one_of(ends: &[&str], text: &[u8]) -> bool
+    ensures { result ≡ list_any (λ end. is_name_end text.now end.now) ends.now }
+{
+    ends.iter().any(|end| is_name_end(text, end.as_bytes()))
+}
+
 fn begins_name_end(text: &[u8]) -> bool
     ensures { result ≡ begins_name_end text.now }
 {
-    STATIC_FILES
-        .iter()
-        .any(|end| is_name_end(text, end.as_bytes()))
+    begins_one_of(&STATIC_FILES, text)
 }
 
 /// Only static files, paths that are known to every crawler, or the home page and no other one.
