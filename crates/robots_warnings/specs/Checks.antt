@@ -100,11 +100,16 @@ abbrev pub content_checks : List ℕ → List Check
 content_checks value =
     (cause.RegexWithoutSlash, has_odd_start value && is_expression value)
     ∷ (cause.RegexSyntax, not (has_odd_start value) && is_expression value)
-    ∷ (cause.QuestionMarks, has_question_marks value)
     ∷ (cause.StarAfterDollar, has_more_after_dollar value)
     ∷ (cause.DollarNotAtEnd, has_dollar_inside value)
     ∷ (cause.EscapedWildcard, somewhere begins_wildcard value)
     ∷ (cause.DotSegment, somewhere begins_dot_segment (before_byte (byte "?") value))
+    ∷ []
+
+-- what it seems to be several of
+abbrev pub plural_checks : List ℕ → List Check
+plural_checks value =
+    (cause.QuestionMarks, has_question_marks value)
     ∷ (
       several_values value,
       (is_utf8 value && has_several_values value)
@@ -113,7 +118,7 @@ content_checks value =
     ∷ []
 
 abbrev pub rule_checks : List ℕ → List Check
-rule_checks value = form_checks value ++ content_checks value
+rule_checks value = form_checks value ++ (content_checks value ++ plural_checks value)
 
 -- microseconds per day
 abbrev pub day : ℕ

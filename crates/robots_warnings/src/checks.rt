@@ -2,7 +2,7 @@
 ghost use Rattle.std.specs.Prelude.{◌≡◌, IfOk, map, option_map};
 ghost use Rattle.texting_robots.specs.Callers.{label_by_value};
 ghost use Rattle.robots_warnings.specs.FieldNames.{is_without_colon};
-ghost use Rattle.robots_warnings.specs.Checks.{content_checks, field_checks, file_checks, form_checks, is_one_line, position_checks, raw_rule_checks, sitemap_checks, text_checks, url_checks, user_agent_checks};
+ghost use Rattle.robots_warnings.specs.Checks.{content_checks, field_checks, file_checks, form_checks, is_one_line, plural_checks, position_checks, raw_rule_checks, sitemap_checks, text_checks, url_checks, user_agent_checks};
 ghost use Rattle.robots_warnings.specs.{File.is_in_scope_of, File.lines_of, Rules.is_expression};
 
 use crate::contents::{has_odd_comment, has_odd_space, is_cut_short, is_cut_to_root, is_emptied};
@@ -142,22 +142,29 @@ pub(crate) fn form_checks(value: &[u8], is_regex: bool) -> [Check; 9]
     ]
 }
 
-pub(crate) fn content_checks(value: &[u8], is_regex: bool) -> [Check; 8]
+pub(crate) fn content_checks(value: &[u8], is_regex: bool) -> [Check; 6]
     requires { is_regex ≡ is_expression value.now }
     ensures { result ≡ content_checks value.now }
 {
     let is_odd = has_odd_start(value);
     let has_dots = somewhere(before_byte(b'?', value), begins_dot_segment);
-    let (cause, seems_several) = several_values(value);
-    let is_other = is_one_line(value) | value.starts_with(b"=");
     [
         (Cause::RegexWithoutSlash, is_odd & is_regex),
         (Cause::RegexSyntax, !is_odd & is_regex),
-        (Cause::QuestionMarks, has_question_marks(value)),
         (Cause::StarAfterDollar, has_more_after_dollar(value)),
         (Cause::DollarNotAtEnd, has_dollar_inside(value)),
         (Cause::EscapedWildcard, somewhere(value, begins_wildcard)),
         (Cause::DotSegment, has_dots),
+    ]
+}
+
+pub(crate) fn plural_checks(value: &[u8]) -> [Check; 2]
+    ensures { result ≡ plural_checks value.now }
+{
+    let (cause, seems_several) = several_values(value);
+    let is_other = is_one_line(value) | value.starts_with(b"=");
+    [
+        (Cause::QuestionMarks, has_question_marks(value)),
         (cause, (is_utf8(value) & seems_several) & !is_other),
     ]
 }
