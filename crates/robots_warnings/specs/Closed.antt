@@ -156,10 +156,12 @@ is_engine agent =
 abbrev pub is_any : List LineValue → List ℕ → Bool
 is_any lines agent = bytes_eq agent (codes "*") || not (is_named agent lines)
 
--- a group of its own leaves the site open to a large search engine
+-- a group of its own leaves the site open to this crawler
+unfoldable pub is_let_in : List LineValue → List ℕ → Bool
+is_let_in lines name = is_named name lines && is_none (line_closing lines name)
+
 abbrev pub lets_in : List LineValue → Bool
-lets_in lines =
-    list_any (λ name. is_named name.now lines && is_none (line_closing lines name.now)) SEARCH_ENGINES
+lets_in lines = list_any (λ name. is_let_in lines name.now) SEARCH_ENGINES
 
 -- a closed site is a mistake more often than not: `let_in` if a large search engine may fetch it
 abbrev pub is_major : (let_in : Bool) → List LineValue → List ℕ → Bool

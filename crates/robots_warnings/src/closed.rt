@@ -5,7 +5,7 @@ ghost use Rattle.std.specs.{HashSet.contains_text, List.filter_map, List.list_al
 ghost use Rattle.texting_robots.specs.Callers.{PlacedRule, file_lines, label_by_value, placed_rules};
 ghost use Rattle.robots_warnings.specs.{declared.closed.Part.TheVariants.All};
 ghost use Rattle.robots_warnings.specs.Closed.{closed_at, closes, closing_line, is_allow, is_closing, is_exempt};
-ghost use Rattle.robots_warnings.specs.Closed.{is_for, is_literally, is_major, is_number, is_rival, leaves_closed};
+ghost use Rattle.robots_warnings.specs.Closed.{is_for, is_let_in, is_literally, is_major, is_number, is_rival, leaves_closed};
 ghost use Rattle.robots_warnings.specs.Closed.{lets_in, line_closing, line_reported, opened_path, part_closing};
 ghost use Rattle.robots_warnings.specs.Closed.{reach_by, reach_of};
 ghost use Rattle.robots_warnings.specs.Internal.{Adds, Rules.HasExempt, Rules.IsNeeded, Rules.agents_at};
@@ -323,14 +323,26 @@ fn line_reported(
     part_closing(alloc, Part::Home, exempt, site, agent)
 }
 
-/// Whether a group of its own leaves the site open to a large search engine.
+/// Whether a group of its own leaves the site open to this crawler.
+#[tactic(auto, unfolding(crate::specs::Closed::is_let_in))]
+fn is_let_in(alloc: Global, exempt: &Patterns, site: &Site, name: &str) -> Result<bool, AllocError>
+    requires { HasExempt (file_lines site.now) exempt.now }
+    ensures { IfOk result (λ is. is ≡ is_let_in (file_lines site.now) name.now) }
+{
+    if !site.is_named(name) {
+        return Ok(false);
+    }
+    Ok(part_closing(alloc, Part::Site, exempt, site, name)?.is_none())
+}
+
+/// Whether it does to a large search engine.
 fn lets_in(alloc: Global, exempt: &Patterns, site: &Site) -> Result<bool, AllocError>
     requires { HasExempt (file_lines site.now) exempt.now }
     ensures { IfOk result (λ is. is ≡ lets_in (file_lines site.now)) }
 {
     let mut names: &[&str] = &SEARCH_ENGINES;
     while let [name, rest @ ..] = names {
-        if site.is_named(name) && part_closing(alloc, Part::Site, exempt, site, name)?.is_none() {
+        if is_let_in(alloc, exempt, site, name)? {
             return Ok(true);
         }
         names = rest;

@@ -1,6 +1,6 @@
 //! Patterns of a whole site, of its home page, and of little of it.
-ghost use Rattle.std.specs.Prelude.{◌≡◌};
-ghost use Rattle.std.specs.List.{list_all, list_any};
+ghost use Rattle.std.specs.Prelude.{◌≡◌, nat_eq};
+ghost use Rattle.std.specs.List.{list_all, list_any, starts_with};
 ghost use Rattle.robots_warnings.specs.Closed.{begins_name_end, is_anything, is_file_end, is_home, is_home_root, is_name_end};
 ghost use Rattle.robots_warnings.specs.Closed.{is_root, is_star_or_dollar, is_whole_site, matches_no_path, opens_little, without_stars};
 
@@ -39,14 +39,20 @@ fn begins_name_end(text: &[u8]) -> bool
     begins_one_of(&STATIC_FILES, text)
 }
 
+fn begins_as_one_of(starts: &[&str], pattern: &[u8]) -> bool
+    ensures { result ≡ list_any (λ start. starts_with nat_eq pattern.now start.now) starts.now }
+{
+    starts
+        .iter()
+        .any(|start| pattern.starts_with(start.as_bytes()))
+}
+
 /// Only static files, paths that are known to every crawler, or the home page and no other one.
 pub(crate) fn opens_little(pattern: &[u8]) -> bool
     ensures { result ≡ opens_little pattern.now }
 {
     (somewhere(pattern, begins_name_end) || pattern == b"/$".as_slice())
-        || WELL_KNOWN
-            .iter()
-            .any(|start| pattern.starts_with(start.as_bytes()))
+        || begins_as_one_of(&WELL_KNOWN, pattern)
 }
 
 fn are_stars_or_dollars(text: &[u8]) -> bool
