@@ -12,9 +12,9 @@ use crate::positions::{
     Preceding, are_joined, is_empty_group, is_ignored, is_other_delay, is_split, name_star,
 };
 use crate::rules::{
-    before_byte, begins_dot_segment, begins_wildcard, has, has_dollar_inside,
-    has_more_after_dollar, has_odd_character, has_odd_start, has_question_marks, has_quote_at_end,
-    holds_otherwise, is_quoted, is_url_in_path, is_utf8, somewhere,
+    has, has_dollar_inside, has_dot_segment, has_more_after_dollar, has_odd_character,
+    has_odd_start, has_question_marks, has_quote_at_end, has_wildcard, holds_otherwise, is_quoted,
+    is_url_in_path, is_utf8, somewhere,
 };
 use crate::several_values::{has_tag, several_values};
 use crate::table::Cause;
@@ -147,14 +147,13 @@ pub(crate) fn content_checks(value: &[u8], is_regex: bool) -> [Check; 6]
     ensures { result ≡ content_checks value.now }
 {
     let is_odd = has_odd_start(value);
-    let has_dots = somewhere(before_byte(b'?', value), begins_dot_segment);
     [
         (Cause::RegexWithoutSlash, is_odd & is_regex),
         (Cause::RegexSyntax, !is_odd & is_regex),
         (Cause::StarAfterDollar, has_more_after_dollar(value)),
         (Cause::DollarNotAtEnd, has_dollar_inside(value)),
-        (Cause::EscapedWildcard, somewhere(value, begins_wildcard)),
-        (Cause::DotSegment, has_dots),
+        (Cause::EscapedWildcard, has_wildcard(value)),
+        (Cause::DotSegment, has_dot_segment(value)),
     ]
 }
 

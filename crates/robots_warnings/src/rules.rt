@@ -1,7 +1,7 @@
 //! Conditions on the value of an Allow or a Disallow line.
 ghost use Rattle.std.specs.Prelude.{◌≡◌, ◌<◌, ◌≤◌, ◌==◌, ◌&&◌, ◌||◌, ℕ, Bool, List, false, length, not, true};
 ghost use Rattle.std.specs.Char.{digit_value, is_ascii_hexdigit};
-ghost use Rattle.std.specs.{Fn.FnReturnsAt, List.list_all, List.position_or_len, Str.is_utf8};
+ghost use Rattle.std.specs.{Fn.FnReturnsAt, List.list_all, List.position_or_len, Str.byte, Str.is_utf8};
 ghost use Rattle.robots_warnings.specs.Internal.Plain.{is_plain, is_plain_byte};
 ghost use Rattle.robots_warnings.specs.Rules.{after_byte, before_byte, begins_delimiter, begins_dot_segment, begins_host, begins_quote};
 ghost use Rattle.robots_warnings.specs.Rules.{begins_lone_percent, begins_odd_escape, begins_oddly, begins_sign, begins_wildcard, from_first};
@@ -266,10 +266,16 @@ pub(crate) fn begins_odd_escape(text: &[u8]) -> bool
     }
 }
 
-pub(crate) fn begins_wildcard(text: &[u8]) -> bool
+fn begins_wildcard(text: &[u8]) -> bool
     ensures { result ≡ begins_wildcard text.now }
 {
     text.starts_with(b"%2A") || text.starts_with(b"%2a") || text.starts_with(b"%24")
+}
+
+pub(crate) fn has_wildcard(value: &[u8]) -> bool
+    ensures { result ≡ somewhere begins_wildcard value.now }
+{
+    somewhere(value, begins_wildcard)
 }
 
 pub(crate) fn begins_delimiter(text: &[u8]) -> bool
@@ -284,7 +290,7 @@ pub(crate) fn begins_delimiter(text: &[u8]) -> bool
 }
 
 #[tactic(auto, using(crate::proofs::StepLemmas::no_segment))]
-pub(crate) fn begins_dot_segment(text: &[u8]) -> bool
+fn begins_dot_segment(text: &[u8]) -> bool
     ensures { result ≡ begins_dot_segment text.now }
 {
     text.starts_with(b"/.")
@@ -292,4 +298,11 @@ pub(crate) fn begins_dot_segment(text: &[u8]) -> bool
             || text.starts_with(b"/../")
             || text == b"/.$".as_slice()
             || text == b"/..$".as_slice())
+}
+
+/// In the path.
+pub(crate) fn has_dot_segment(value: &[u8]) -> bool
+    ensures { result ≡ somewhere begins_dot_segment (before_byte (byte "?") value.now) }
+{
+    somewhere(before_byte(b'?', value), begins_dot_segment)
 }
