@@ -50,7 +50,7 @@ def test_each_name_is_counted():
 def test_the_levels_of_a_name_are_counted_separately():
     """So an error that leads to status 3 is listed, even after many warnings with its name."""
     text = "User-agent: *\n" + "Disallow: /a#b\n" * 21 + "Disallow: /#/admin\n" * 22
-    listed = [warning_line(f"{n} hash-cuts-rule warning") for n in range(2, 22)] + [warning_line(f"{n} hash-cuts-rule error") for n in range(23, 43)]
+    listed = [warning_line(f"{n} hash-cuts-rule") for n in range(2, 22)] + [warning_line(f"{n} hash-cuts-rule error") for n in range(23, 43)]
     others = [more("warning", 1, "hash-cuts-rule"), more("error", 2, "hash-cuts-rule"), total("22 errors, 21 warnings")]
     result = audit(text, "--only=hash-cuts-rule", "--strict=error")
     assert (result.status, result.err) == (3, "".join(listed + others))
