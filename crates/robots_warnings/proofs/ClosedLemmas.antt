@@ -18,8 +18,7 @@ use Rattle.robots_warnings.specs.{Closed.closes, Internal.IsRowAt, Internal.Row}
 use Rattle.robots_warnings.specs.Closed.{is_anything, is_closing, is_rival, is_star_or_dollar, is_literally}
 use Rattle.robots_warnings.specs.Closed.{is_number, is_root, is_whole_site, opened_path, without_stars}
 use Rattle.robots_warnings.specs.Closed.{is_for, is_home, is_home_root}
-use Rattle.robots_warnings.specs.declared.closed.Part.{Part, TheVariants.All, TheVariants.Home}
-use Rattle.robots_warnings.specs.declared.closed.Part.TheVariants.{Site}
+use Rattle.robots_warnings.specs.declared.closed.Part.{Part, TheVariants.Home, TheVariants.Site}
 use Rattle.robots_warnings.specs.Internal.{Rules.IsNeeded, Names.AddsName, Names.Key, Names.key_cmp, IsAt}
 use Rattle.std.proofs.Math.{Bool.or-false}
 use Rattle.robots_warnings.specs.contracts.table.{Cause.the_type}
@@ -147,13 +146,11 @@ home_root_escaped (b ∷ value) = elim (cases_Bool (is_escaped b)) [
 ]
 
 pub part_escaped : (part : Part) (value : List ℕ) → is_for part (escaped value) ≡ is_for part value
-part_escaped All value = whole_site_escaped value
 part_escaped Site value = whole_site_escaped value
 part_escaped Home value =
     rw (anything_escaped value, stars_left_out value, home_root_escaped (without_stars value)) refl
 
 part_stays : (part : Part) (pattern : List ℕ) → is_for part pattern ≡ true → escaped pattern ≡ pattern
-part_stays All pattern is = whole_site_stays pattern is
 part_stays Site pattern is = whole_site_stays pattern is
 part_stays Home pattern is = home_stays pattern is
 

@@ -6,15 +6,12 @@ use Rattle.std.specs.List.{before_first, filter_map, list_all, list_any, starts_
 use Rattle.std.specs.Str.{byte, str_eq_ignore_ascii_case, str_to_ascii_lowercase}
 use Rattle.texting_robots.specs.Callers.{LineValue, PlacedRule, is_named, placed_rules, prepared, robots_file}
 use Rattle.texting_robots.specs.Callers.{sitemaps_in, Label}
-use Rattle.robots_warnings.specs.{declared.closed.TheConstants.SEARCH_ENGINES, declared.closed.Reach.Reach}
-use Rattle.robots_warnings.specs.declared.closed.{Part.Part, Part.TheVariants.All, Part.TheVariants.Home}
-use Rattle.robots_warnings.specs.declared.closed.Part.TheVariants.{Site}
+use Rattle.robots_warnings.specs.declared.closed.{TheConstants.SEARCH_ENGINES, Part.Part}
+use Rattle.robots_warnings.specs.declared.closed.Part.TheVariants.{Home, Site}
 use Rattle.robots_warnings.specs.declared.site_patterns.TheConstants.{STATIC_FILES, WELL_KNOWN}
 use Rattle.robots_warnings.specs.{Conflicts.first_line, File.lines_of, declared.positions.Preceding.Preceding}
 use Rattle.robots_warnings.specs.Crawlers.{meant, other_group, ends_token}
 use Rattle.robots_warnings.specs.Rules.{begins_oddly, has_dollar_inside, somewhere}
-use Rattle.robots_warnings.specs.declared.closed.Reach.TheVariants.{Everything, Nothing}
-use Rattle.robots_warnings.specs.declared.closed.Reach.TheVariants as reach
 use Rattle.texting_robots.specs.Group.{is_agent, is_group}
 use Rattle.robots_warnings.specs.declared.positions.Preceding.TheVariants.{Agent, Delay, Other}
 use Rattle.robots_warnings.specs.Positions.{begin_with_one, name_star, preceding_with}
@@ -53,7 +50,6 @@ is_home pattern = is_anything pattern || is_home_root (without_stars pattern)
 
 -- it is for this part of the site
 abbrev pub is_for : Part → List ℕ → Bool
-is_for All pattern = is_whole_site pattern
 is_for Site pattern = is_whole_site pattern
 is_for Home pattern = is_home pattern
 
@@ -95,28 +91,12 @@ closes part is_exempt rules placed =
 -- the patterns of Allows that leave this part closed, if those are exempt that open what crawlers may fetch
 -- of a closed site
 abbrev pub leaves_closed : Part → (is_exempt : List ℕ → Bool) → List ℕ → Bool
-leaves_closed All is_exempt pattern = is_exempt pattern
 leaves_closed Site is_exempt pattern = is_exempt pattern || opens_little pattern
 leaves_closed Home is_exempt pattern = not (is_home pattern)
 
 -- the line of the first of these rules that closes this part
 abbrev pub closing_line : Part → (is_exempt : List ℕ → Bool) → List PlacedRule → Option ℕ
 closing_line part is_exempt rules = first_line (closes part (leaves_closed part is_exempt) rules) rules
-
-abbrev pub is_allow : PlacedRule → Bool
-is_allow placed = placed.rule.1
-
--- what a crawler may fetch. `Everything` is only said if each rule is an Allow, and `Nothing` if one closes
--- the site and no Allow is exempt; `Part` says nothing
-abbrev pub reach_by : List PlacedRule → Reach
-reach_by rules =
-    if list_all is_allow rules then Everything
-    else if is_some (closing_line All (λ pattern. false) rules) then Nothing else reach.Part
-
--- nothing is said of a crawler to which its vendor applies another group
-abbrev pub reach_of : List LineValue → List ℕ → Reach
-reach_of lines agent =
-    if is_some (other_group lines agent) then reach.Part else reach_by (placed_rules agent lines)
 
 -- literally this path, with or without `$`: the path has no star or `$`
 abbrev pub is_literally : List ℕ → List ℕ → Bool
@@ -172,7 +152,7 @@ abbrev pub line_reported : Part → List LineValue → List ℕ → Option ℕ
 line_reported Home lines agent =
     if is_some (line_closing lines agent) || not (is_major false lines agent) then None
     else part_closing Home lines agent
-line_reported _ lines agent = line_closing lines agent
+line_reported Site lines agent = line_closing lines agent
 
 abbrev pub is_number : ℕ → Option ℕ → Bool
 is_number number None = false

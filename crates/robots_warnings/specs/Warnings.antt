@@ -93,7 +93,7 @@ others count = if count == 0 then None else Some (Others count)
 
 abbrev pub closing_cause : Part → (is_major : Bool) → Cause
 closing_cause Home is_major = if is_major then ClosesHome else ClosesHomeToOthers
-closing_cause _ is_major = if is_major then ClosesSite else ClosesEverything
+closing_cause Site is_major = if is_major then ClosesSite else ClosesEverything
 
 -- a line closes this part of the site to these crawlers: the warning names the first major one
 abbrev pub closing_warnings : Part → (let_in : Bool) → List LineValue → ℕ → List (List ℕ) → List WarningValue

@@ -1,13 +1,12 @@
 //! Rules that leave nothing, or nearly nothing, of a site to a crawler.
 ghost use Rattle.std.specs.Prelude.{◌≡◌, ◌++◌, ◌||◌, ◌∷◌, [], Bool, IfOk, List, OnOk, bytes_eq, codes, false, filter, flat_map, if◌then◌else◌};
 ghost use Rattle.std.specs.Prelude.{is_some, length, map, nat_lt, option_map, slice_get, string_bytes, ℕ};
-ghost use Rattle.std.specs.{HashSet.contains_text, List.filter_map, List.list_all, List.list_any, Str.str_eq_ignore_ascii_case};
+ghost use Rattle.std.specs.{HashSet.contains_text, List.filter_map, List.list_any, Str.str_eq_ignore_ascii_case};
 ghost use Rattle.texting_robots.specs.Callers.{PlacedRule, file_lines, label_by_value, placed_rules};
 ghost use Rattle.robots_warnings.specs.{declared.closed.Part.TheVariants.All};
-ghost use Rattle.robots_warnings.specs.Closed.{closed_at, closes, closing_line, is_allow, is_closing, is_exempt};
+ghost use Rattle.robots_warnings.specs.Closed.{closed_at, closes, closing_line, is_closing, is_exempt};
 ghost use Rattle.robots_warnings.specs.Closed.{is_for, is_let_in, is_literally, is_major, is_number, is_rival, leaves_closed};
 ghost use Rattle.robots_warnings.specs.Closed.{lets_in, line_closing, line_reported, opened_path, part_closing};
-ghost use Rattle.robots_warnings.specs.Closed.{reach_by, reach_of};
 ghost use Rattle.robots_warnings.specs.Internal.{Adds, Rules.HasExempt, Rules.IsNeeded, Rules.agents_at};
 ghost use Rattle.robots_warnings.specs.Warnings.{closing_cause, closing_warnings, others, part_warnings, site_warnings};
 
@@ -48,29 +47,17 @@ pub(crate) const SEARCH_ENGINES: [&str; 7] = [
 /// What a rule closes to a crawler.
 #[derive(Clone, Copy, PartialEq, Eq)]
 pub enum Part {
-    /// The whole site. Each Allow counts.
-    All,
     /// The whole site. An Allow that opens little of it doesn't count.
     Site,
     /// The home page.
     Home,
 }
 
-/// What a crawler may fetch.
-#[derive(Clone, Copy, PartialEq, Eq)]
-pub enum Reach {
-    Everything,
-    /// Nothing but `/robots.txt`.
-    Nothing,
-    /// It may also be everything or nothing.
-    Part,
-}
-
 fn is_for(part: Part, value: &[u8]) -> bool
     ensures { result ≡ is_for part value.now }
 {
     match part {
-        Part::All | Part::Site => is_whole_site(value),
+        Part::Site => is_whole_site(value),
         Part::Home => is_home(value),
     }
 }
@@ -86,7 +73,6 @@ fn leaves_closed(part: Part, exempt: &Patterns, pattern: &str) -> bool
     ensures { result ≡ leaves_closed part (contains_text exempt.now) pattern.now }
 {
     match part {
-        Part::All => exempt.contains(pattern),
         Part::Site => exempt.contains(pattern) || opens_little(pattern.as_bytes()),
         Part::Home => !is_home(pattern.as_bytes()),
     }
@@ -154,47 +140,6 @@ fn closing_line(
         }
     }
     Ok(None)
-}
-
-fn is_open(rules: &[SiteRule<'_>]) -> bool
-    ensures { result ≡ list_all is_allow rules.now }
-{
-    rules.iter().all(|rule| rule.is_allow)
-}
-
-fn is_shut(alloc: Global, rules: &[SiteRule<'_>]) -> Result<bool, AllocError>
-    ensures { IfOk result (λ is. is ≡ is_some (closing_line All (λ pattern. false) rules.now)) }
-{
-    let none = HashSet::new(alloc);
-    Ok(closing_line(alloc, Part::All, &none, rules)?.is_some())
-}
-
-fn reach_by(alloc: Global, rules: &[SiteRule<'_>]) -> Result<Reach, AllocError>
-    ensures { IfOk result (λ reach. reach ≡ reach_by rules.now) }
-{
-    if is_open(rules) {
-        return Ok(Reach::Everything);
-    }
-    if is_shut(alloc, rules)? {
-        return Ok(Reach::Nothing);
-    }
-    Ok(Reach::Part)
-}
-
-/// What the crawler, which has these rules, may fetch. It is `Part` if its vendor applies another group.
-pub fn reach_of(
-    alloc: Global,
-    site: &Site,
-    agent: &str,
-    rules: &[SiteRule<'_>],
-) -> Result<Reach, AllocError>
-    requires { rules.now ≡ placed_rules agent.now (file_lines site.now) }
-    ensures { IfOk result (λ reach. reach ≡ reach_of (file_lines site.now) agent.now) }
-{
-    if other_group(site, agent).is_some() {
-        return Ok(Reach::Part);
-    }
-    reach_by(alloc, rules)
 }
 
 fn add(patterns: &mut Patterns, text: String) -> Result<(), AllocError>
@@ -426,10 +371,10 @@ fn closing_cause(part: Part, is_major: bool) -> Cause
     ensures { result ≡ closing_cause part is_major }
 {
     match (part, is_major) {
+        (Part::Site, true) => Cause::ClosesSite,
+        (Part::Site, false) => Cause::ClosesEverything,
         (Part::Home, true) => Cause::ClosesHome,
         (Part::Home, false) => Cause::ClosesHomeToOthers,
-        (_, true) => Cause::ClosesSite,
-        (_, false) => Cause::ClosesEverything,
     }
 }
 
