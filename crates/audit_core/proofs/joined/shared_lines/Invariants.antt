@@ -1,6 +1,6 @@
 use Rattle.std.proofs.Common.{◌≡◌, ◌++◌, drop, filter_map}
-use Rattle.audit_text.specs.Joined.{line_as, shared_lines}
-use Rattle.audit_text.proofs.joined.shared_lines.Given as goal
+use Rattle.audit_core.specs.Joined.{line_as, shared_lines}
+use Rattle.audit_core.proofs.joined.shared_lines.Given as goal
 
 abbrev pub invariant-loop-other : goal.invariant-loop-other
 invariant-loop-other l =

@@ -1,9 +1,10 @@
-//! Notes that are written as one: it has the lines of the others.
-ghost use Rattle.std.specs.Prelude.{◌≡◌, ◌<◌, ◌==◌, ◌||◌, ◌&&◌, ◌++◌, ◌∷◌, [], ℕ, IfOk, OnOk, filter_map, if◌then◌else◌, not};
+//! Warnings in order, and which of them are written as one, with the lines of the others.
+ghost use Rattle.std.specs.Prelude.{◌≡◌, ◌<◌, ◌==◌, ◌||◌, ◌&&◌, ◌++◌, ◌∷◌, [], ℕ, IfOk, IsPermutation, OnOk, filter_map, if◌then◌else◌, not};
 ghost use Rattle.std.specs.{BTreeSet.contains, Ordering.nat_cmp};
 ghost use Rattle.robots_warnings.specs.Table.{number_of};
-ghost use Rattle.audit_text.specs.Joined.{has_shared_end, is_joined, is_joined_as, joined, line_as, shared_lines};
+ghost use Rattle.audit_core.specs.Joined.{has_shared_end, is_alike, is_joined, is_joined_as, joined, line_as, shared_lines};
 
+use crate::texts::Lines;
 use printable_text::level::Level;
 use robots_warnings::warning::{Detail, Warning};
 use std::alloc::{AllocError, Global};
@@ -21,11 +22,17 @@ fn has_shared_end(detail: Option<Detail>) -> bool
     }
 }
 
+/// A note may name another crawler than those that are written as one with it.
+fn is_alike(warning: &Warning<'_>) -> bool
+    ensures { result ≡ is_alike warning.now }
+{
+    warning.about.is_none() || !warning.cause.level().reaches(Level::Warning)
+}
+
 fn is_joined(warning: &Warning<'_>) -> bool
     ensures { result ≡ is_joined warning.now }
 {
-    !warning.cause.level().reaches(Level::Warning)
-        && (warning.line.is_some() && has_shared_end(warning.detail))
+    is_alike(warning) && (warning.line.is_some() && has_shared_end(warning.detail))
 }
 
 fn is_joined_as(number: usize, warning: &Warning<'_>) -> bool
@@ -48,7 +55,7 @@ fn is_first(met: &mut Numbers, warning: &Warning<'_>) -> Result<bool, AllocError
     }
 }
 
-pub(crate) fn push_if<'a>(
+pub fn push_if<'a>(
     found: &mut Vec<Warning<'a>>,
     holds: bool,
     warning: &Warning<'a>,
@@ -62,10 +69,27 @@ pub(crate) fn push_if<'a>(
     Ok(())
 }
 
-pub(crate) fn joined<'a>(
-    alloc: Global,
-    warnings: &[Warning<'a>],
-) -> Result<Vec<Warning<'a>>, AllocError>
+fn copies<'a>(alloc: Global, warnings: &[Warning<'a>]) -> Result<Vec<Warning<'a>>, AllocError>
+    ensures { IfOk result (λ found. found.items ≡ warnings.now) }
+{
+    let mut found = Vec::with_capacity(alloc, warnings.len())?;
+    for warning in warnings {
+        found.push(warning.copy())?;
+    }
+    Ok(found)
+}
+
+/// By line, and within a line by level; those that aren't about a line come first.
+pub fn in_order<'a>(alloc: Global, warnings: &[Warning<'a>]) -> Result<Vec<Warning<'a>>, AllocError>
+    ensures { IfOk result (λ found. IsPermutation warnings.now found.items) }
+{
+    let mut found = copies(alloc, warnings)?;
+    found.sort_by_key(|warning| (warning.line, warning.cause.level() as usize))?;
+    Ok(found)
+}
+
+/// The warnings without those whose lines an earlier one has.
+pub fn joined<'a>(alloc: Global, warnings: &[Warning<'a>]) -> Result<Vec<Warning<'a>>, AllocError>
     ensures { IfOk result (λ found. found.items ≡ joined warnings.now) }
 {
     let mut met = BTreeSet::new(alloc);
@@ -100,8 +124,8 @@ fn push_line_as(
     Ok(())
 }
 
-/// None if the warning isn't such a note.
-pub(crate) fn shared_lines(
+/// The lines of all that are written as this one; none if it is written alone.
+pub fn shared_lines(
     alloc: Global,
     warning: &Warning<'_>,
     warnings: &[Warning<'_>],
@@ -119,21 +143,18 @@ pub(crate) fn shared_lines(
     Ok(lines)
 }
 
-/// The lines of the notes that are written as one, as in ` (also in lines 3, 5 and 8)`: of the others than the
+/// The lines of the warnings that are written as one, as in ` (also in lines 3, 5 and 8)`: of the others than the
 /// first, three are named.
 #[derive(Clone, Copy)]
-pub(crate) struct AlsoIn<'a>(pub(crate) &'a [usize]);
+pub struct AlsoIn<'a>(pub &'a [usize]);
 
 impl<'a> fmt::Display for AlsoIn<'a> {
     fn fmt<W: fmt::Write>(&self, f: &mut fmt::Formatter<W>) -> fmt::Result {
         match self.0 {
             [] | [_] => Ok(()),
-            [_, one] => write!(f, " (also in line {one})"),
-            [_, one, two] => write!(f, " (also in lines {one} and {two})"),
-            [_, one, two, three] => write!(f, " (also in lines {one}, {two} and {three})"),
-            [_, one, two, three, more @ ..] => {
-                let more = more.len();
-                write!(f, " (also in lines {one}, {two}, {three} and {more} more)")
+            [_, others @ ..] => {
+                let others = Lines(others);
+                write!(f, " (also in {others})")
             }
         }
     }

@@ -1,7 +1,7 @@
 use Rattle.std.proofs.Common.{◌≡◌, ℕ, ◌++◌, drop, take}
 use Rattle.std.specs.{BTreeSet.contains, List.list_any, Ordering.nat_cmp}
-use Rattle.audit_text.specs.Joined.{is_first, is_joined_as, joined, placed}
-use Rattle.audit_text.proofs.joined.joined.Given as goal
+use Rattle.audit_core.specs.Joined.{is_first, is_joined_as, joined, placed}
+use Rattle.audit_core.proofs.joined.joined.Given as goal
 
 abbrev pub invariant-loop-warning : goal.invariant-loop-warning
 invariant-loop-warning l =

@@ -1,5 +1,5 @@
-use Rattle.audit_text.proofs.ListedLemmas.{lines_next}
-use Rattle.audit_text.proofs.joined.shared_lines.Goals as goal
+use Rattle.audit_core.proofs.JoinedLemmas.{lines_next}
+use Rattle.audit_core.proofs.joined.shared_lines.Goals as goal
 
 pub loop-other-preserved : goal.loop-other-preserved
 loop-other-preserved c =
