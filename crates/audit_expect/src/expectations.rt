@@ -10,6 +10,7 @@ ghost use Rattle.audit_expect.specs.Internal.Expectations.{IsReadFor, checked_va
 use crate::checks::{AtVendor, Checked, Judgment, checked_on, fails, fails_here, is_unexpected};
 use crate::entries::without_entries;
 use crate::expect::{Expectation, expectations_in};
+use crate::patterns::OnPaths;
 use audit_core::asked::asked_target;
 use audit_core::audit::{Reading, read_for};
 use audit_core::fault::{Entry, Fault};
@@ -47,17 +48,27 @@ fn reading_for<'a>(
     Ok(AgentReading { agent, reading })
 }
 
-/// `target` is what is compared here, as for the functions below.
-fn write_decision(out: &mut Line, target: &str, decision: &Decision) -> fmt::Result {
+/// `target` is what is compared here, as for the functions below, and `name` a word for it.
+fn write_decision(out: &mut Line, target: &str, name: &str, decision: &Decision) -> fmt::Result {
     match decision.line {
         Some(line) => {
             let how = if decision.allowed { "allows" } else { "denies" };
-            write!(out, "line {line} {how} it")
+            write!(out, "line {line} {how} {name}")
         }
         None if target == "/robots.txt" => out.write_str("/robots.txt is always allowed"),
-        None => out.write_str("no rule matches it"),
+        None => write!(out, "no rule matches {name}"),
     }
 }
+
+fn write_on_paths(out: &mut Line, found: &OnPaths) -> fmt::Result {
+    match found {
+        OnPaths::Hold => Ok(()),
+        OnPaths::Fail(path, decision) => write_decision(out, path, path, decision),
+        OnPaths::Undecided => out.write_str("whether they are isn't decided: there are many stars"),
+    }
+}
+
+const OTHERWISE: &str = "where an empty Disallow is no rule, as for RFC 9309 and Google, ";
 
 /// Why the decision for a crawler or a group isn't the expected one.
 fn write_judgment(
@@ -74,15 +85,20 @@ fn write_judgment(
         }
         Judgment::Decided(decision, other, normal) => {
             if is_unexpected(allowed, decision) {
-                return write_decision(out, target, decision);
+                return write_decision(out, target, "it", decision);
             }
             if is_unexpected(allowed, other) {
-                out.write_str("where an empty Disallow is no rule, as for RFC 9309 and Google, ")?;
-                return write_decision(out, target, other);
+                out.write_str(OTHERWISE)?;
+                return write_decision(out, target, "it", other);
             }
             out.write_str("by RFC 9309, which compares normal forms, ")?;
-            write_decision(out, target, normal)
+            write_decision(out, target, "it", normal)
         }
+        Judgment::OnPaths(OnPaths::Hold, other) => {
+            out.write_str(OTHERWISE)?;
+            write_on_paths(out, other)
+        }
+        Judgment::OnPaths(here, _) => write_on_paths(out, here),
     }
 }
 
@@ -107,10 +123,11 @@ fn message_of(alloc: Global, checked: &Checked<'_>) -> Result<Line, Fault>
 {
     let (agent, url) = (checked.expectation.agent, checked.expectation.url);
     let target = asked_target(alloc, url)?;
-    let demand = if checked.expectation.allowed {
-        "allowed"
-    } else {
-        "denied"
+    let demand = match (checked.expectation.allowed, checked.expectation.is_pattern) {
+        (true, false) => "allowed",
+        (true, true) => "allowed all of",
+        (false, false) => "denied",
+        (false, true) => "denied all of",
     };
     let mut message = Line::new(alloc);
     write!(message, "{agent} must be {demand} {url}, but ")?;

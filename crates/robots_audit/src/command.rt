@@ -5,8 +5,8 @@ ghost use Rattle.robots_warnings.specs.Table.{is_name};
 ghost use Rattle.audit_core.specs.Request.{IsNoCrawlerIn};
 ghost use Rattle.audit_expect.specs.UrlList.{IsUrlFault};
 ghost use Rattle.robots_audit.specs.Command.{AreAgentsOf, AreNamesOf, AreUrlsOf, Asks, HasFile, LacksUrls};
-ghost use Rattle.robots_audit.specs.Command.{file_read, IsFileFault, IsFormatOf, has_urls, is_stdin, IsUnknownIn};
-ghost use Rattle.robots_audit.specs.Command.{level_named, reads_stdin_twice, requested_format, values_of};
+ghost use Rattle.robots_audit.specs.Command.{file_read, IsFileFault, IsFormatOf, format_by_name, has_urls, is_stdin, IsUnknownIn};
+ghost use Rattle.robots_audit.specs.Command.{level_named, reads_stdin_twice, values_of};
 
 use crate::options::with_options;
 use audit_core::chosen::are_apart;
@@ -33,7 +33,7 @@ Exit status, the first that applies:
 
 Examples:
   robots_audit robots.txt
-  curl -s https://example.com/robots.txt | robots_audit --agent Googlebot - /search
+  curl -fsSL https://example.com/robots.txt | robots_audit --agent Googlebot - /search
   robots_audit --denied --urls urls.txt robots.txt
   robots_audit --compare old.txt robots.txt /search /products/tea
   robots_audit --expect expect.txt robots.txt
@@ -126,22 +126,30 @@ fn strict_level(word: Option<&str>) -> Option<Level>
     }
 }
 
-fn requested_format(is_json: bool, is_html: bool, name: Option<&str>) -> Format
-    ensures { result ≡ requested_format is_json is_html (option_map (λ name. name.now) name.entry) }
+fn format_by_name(name: Option<&str>) -> Format
+    ensures { result ≡ format_by_name (option_map (λ name. name.now) name.entry) }
 {
     match name {
-        _ if is_json => Format::Json,
-        _ if is_html => Format::Html,
         Some(name) => Format::named(name),
         None => Format::Text,
     }
 }
 
+/// The first of these that is requested, or else what `--format` says.
 pub fn format_of(matches: &ArgMatches<'_>) -> Format
     ensures { IsFormatOf matches.now result }
 {
-    let (is_json, is_html) = (matches.get_flag("json"), matches.get_flag("html"));
-    requested_format(is_json, is_html, matches.get_str("format"))
+    if matches.get_flag("json") {
+        Format::Json
+    } else if matches.get_flag("html") {
+        Format::Html
+    } else if matches.get_flag("github") {
+        Format::Github
+    } else if matches.get_flag("sarif") {
+        Format::Sarif
+    } else {
+        format_by_name(matches.get_str("format"))
+    }
 }
 
 fn values_of<'a>(
