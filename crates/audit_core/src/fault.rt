@@ -5,7 +5,7 @@ ghost use Rattle.audit_core.specs.Fault.{IsArgument, IsUnknown, near_warning, st
 use crate::answer::Outcome;
 use printable_text::report::{Named, Report};
 use robots_io::streams::{ReadFault, WriteFault};
-use robots_warnings::crawlers::is_near;
+use robots_warnings::crawlers::{crawler_name, is_near};
 use robots_warnings::rules::{before_byte, has};
 use robots_warnings::table::{Cause, causes};
 use robots_warnings::urls::begins_as_url;
@@ -24,6 +24,8 @@ pub enum Flaw {
     NotUtf8,
     /// No crawler has this name.
     Agent,
+    /// The same, but this one of the known crawlers is probably meant.
+    Meant(usize),
     /// The text is neither a path nor an http(s) URL that can be parsed.
     Url,
     /// The same, but it may be the name of a crawler.
@@ -154,8 +156,20 @@ impl From<WriteFault> for Fault {
     }
 }
 
+fn write_flaw(out: &mut Report, flaw: Flaw) -> fmt::Result {
+    out.write_str(flaw_text(flaw))?;
+    match flaw {
+        Flaw::Meant(crawler) => {
+            let name = crawler_name(crawler);
+            write!(out, "{name}?")
+        }
+        _ => Ok(()),
+    }
+}
+
 fn flaw_text(flaw: Flaw) -> &'static str {
     match flaw {
+        Flaw::Meant(_) => "no crawler has this name; did you mean ",
         Flaw::Form =>
             "write \"allow AGENT URL\" or \"deny AGENT URL\", or for a pattern allow-all or deny-all",
         Flaw::Pattern => "a pattern starts with / or *, has no #, and if it has a $ at most 4,096 bytes",
@@ -232,8 +246,8 @@ fn write_unknown(out: &mut Report, name: &str, near: Option<Cause>) -> fmt::Resu
 
 fn write_malformed(out: &mut Report, file: &str, lines: &[MalformedLine]) -> fmt::Result {
     for (line, flaw) in lines {
-        let flaw = flaw_text(*flaw);
-        write!(out, "robots_audit: {file}:{line}: {flaw}")?;
+        write!(out, "robots_audit: {file}:{line}: ")?;
+        write_flaw(out, *flaw)?;
         out.end_line()?;
     }
     Ok(())
@@ -255,8 +269,9 @@ fn write_reason(out: &mut Report, fault: &Fault) -> fmt::Result {
             write!(out, ": cannot read {name}{reason}{hint}")
         }
         Fault::Argument(text, flaw) => {
-            let (text, flaw) = (Named(text), flaw_text(*flaw));
-            write!(out, ": {text}: {flaw}")
+            let text = Named(text);
+            write!(out, ": {text}: ")?;
+            write_flaw(out, *flaw)
         }
         Fault::Empty(file, entry) => {
             let entry = entry_text(*entry);

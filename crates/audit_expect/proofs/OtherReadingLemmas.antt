@@ -9,7 +9,7 @@ use Rattle.std.proofs.lemmas.Option.{option_and_then_some, same_Some}
 use Rattle.std.proofs.lemmas.List.Elements.{All-map, Contains-append_left, Contains-get_or, Contains-push}
 use Rattle.std.proofs.lemmas.List.Elements.{Contains-push_cases}
 use Rattle.texting_robots.specs.Callers.{Allow, IsBetter, IsDecidingLine, IsDecidingRule, IsOverlong, Matches}
-use Rattle.texting_robots.specs.Callers.{IsRejected, IsVerdict, LineValue, PlacedRule, Rule, placed_rules}
+use Rattle.texting_robots.specs.Callers.{IsRejected, IsVerdict, LineValue, PlacedRule, Rule, escaped, placed_rules}
 use Rattle.texting_robots.specs.Callers.{Label, bodies_in, bodies_read, label_by_value, robots_file, unplaced}
 use Rattle.texting_robots.specs.declared.labels.{LabeledLine.LabeledLine}
 use Rattle.texting_robots.specs.{Statement.IsStatement, declared.parser.statement.Kind.TheVariants.Disallow}
@@ -25,6 +25,8 @@ use Rattle.robots_warnings.specs.FieldNames.{without_front}
 use Rattle.robots_warnings.specs.{File.lines_of, Read.IsRead, declared.read.FileRead.FileRead}
 use Rattle.audit_expect.specs.OtherReading.{IsNormalDecision, normal_rule}
 use Rattle.audit_expect.specs.OtherReading.{AreOthers, IsOtherDecision}
+use Rattle.audit_expect.specs.{Expect.ExpectationValue, Expectations.IsOnOtherPaths, Patterns.IsOnPaths}
+use Rattle.audit_expect.specs.{declared.patterns.OnPaths.OnPaths}
 use Rattle.audit_expect.specs.Internal.Expectations.{IsDecidedBy, IsPreferred, decision_with, is_empty}
 use Rattle.audit_expect.specs.Internal.Expectations.{is_empty_label, is_marked, marks_in, marks_of, others_of}
 
@@ -163,6 +165,10 @@ module _ (bodies : List (List ℕ)) (rules : List PlacedRule) (text : List ℕ) 
   pub decided_otherwise : IsDecisionOn others text decision → IsOtherDecision bodies rules text decision
   decided_otherwise is = record { others = others; are = others_are bodies rules; decided = is }
 
+  pub found_otherwise : (one : ExpectationValue) (found : OnPaths)
+      → IsOnPaths one.allowed (escaped one.url) others found → IsOnOtherPaths bodies rules one found
+  found_otherwise one found is = record { others = others; are = others_are bodies rules; found = is }
+
   pub decided_normally : IsDecisionOn (map normal_rule others) text decision
       → IsNormalDecision bodies rules text decision
   decided_normally is = record { others = others; are = others_are bodies rules; decided = is }
@@ -198,16 +204,24 @@ module _ (bodies : List (List ℕ)) (rules : List PlacedRule) (text : List ℕ) 
           let verdict = verdict_by others text placed decision.allowed alike (sym kind) differs in
           (verdict, (differs, placed, alike, at))
 
+each_accepted : (agent : List ℕ) (lines : List LineValue) → ¬ IsRejected agent lines → (placed : PlacedRule)
+    → Contains (placed_rules agent lines) placed → ¬ IsOverlong placed.rule.0
+each_accepted agent lines accepted placed (place, less, at) overlong =
+    accepted ((rejection_is_computed agent lines).1 (any_unplaced (λ (rule : Rule). IsOverlong rule.0)
+    (placed_rules agent lines) (place, placed, less, at, overlong)))
+
+pub all_accepted : (agent : List ℕ) (lines : List LineValue) → ¬ IsRejected agent lines
+    → All (λ (placed : PlacedRule). ¬ IsOverlong placed.rule.0) (placed_rules agent lines)
+all_accepted agent lines accepted k d below =
+    each_accepted agent lines accepted _ (Contains-get_or (placed_rules agent lines) k d below)
+
 pub others_accepted : (bodies : List (List ℕ)) (agent : List ℕ) (lines : List LineValue)
     → ¬ IsRejected agent lines
     → All (λ (placed : PlacedRule). ¬ IsOverlong placed.rule.0) (others_of bodies (placed_rules agent lines))
-others_accepted bodies agent lines accepted k d below overlong =
-    let rules = placed_rules agent lines in
-    let others = others_of bodies rules in
-    let ((place, less, at), _) =
-    in_filter _ rules (slice_index_or others k d) (Contains-get_or others k d below) in
-    accepted ((rejection_is_computed agent lines).1 (any_unplaced (λ (rule : Rule). IsOverlong rule.0) rules
-    (place, slice_index_or others k d, less, at, overlong)))
+others_accepted bodies agent lines accepted k d below =
+    let others = others_of bodies (placed_rules agent lines) in
+    each_accepted agent lines accepted _ (in_filter _ (placed_rules agent lines) (slice_index_or others k d)
+    (Contains-get_or others k d below)).0
 
 -- a rule in normal form isn't overlong if it wasn't before
 normal_short : (placed : PlacedRule) → ¬ IsOverlong placed.rule.0 → ¬ IsOverlong (normal_rule placed).rule.0

@@ -1,9 +1,9 @@
 -- Expectations about all paths that a pattern matches.
-use Rattle.std.proofs.Common.{◌≡◌, ◌∙◌, ℕ, zero, suc, ◌+◌, ◌<◌, ◌≤◌, ◌==◌, Bool, true, false, List, [], ◌∷◌}
+use Rattle.std.proofs.Common.{◌≡◌, ◌∙◌, ap, ℕ, zero, suc, ◌+◌, ◌<◌, ◌≤◌, ◌==◌, Bool, true, false, List, [], ◌∷◌}
 use Rattle.std.proofs.Common.{◌++◌, Contains, append_assoc, arith, codes, inl, inr, length, map, refl, subst}
 use Rattle.std.proofs.Common.{slice_index_or, sym, take}
 use Rattle.std.specs.{List.repeat}
-use Rattle.std.proofs.lemmas.Bool.{cases_Bool, Decides.Decides-eqb}
+use Rattle.std.proofs.lemmas.Bool.{cases_Bool, false≢true}
 use Rattle.std.proofs.lemmas.List.{map-append, take_more}
 use Rattle.std.proofs.lemmas.List.Elements.{Contains-append_left, Contains-push, Contains-push_cases}
 use Rattle.texting_robots.specs.Callers.{IsDenied, IsVerdict, Matches, PlacedRule, Rule, unplaced}

@@ -1,16 +1,17 @@
 -- The lines of a text, the entries in them, and the expectations in the file of `--expect`, one per line.
 use Rattle.std.specs.Prelude.{◌≡◌, ℕ, nat_eq, suc, ◌==◌, Bool, true, false, not, ◌&&◌, ◌||◌, List, [], ◌∷◌, ◌++◌}
 use Rattle.std.specs.Prelude.{Option, Some, None, Result, Ok, Err, bytes_eq, codes, filter, if◌then◌else◌}
-use Rattle.std.specs.Prelude.{length, nat_lt, string_bytes}
-use Rattle.std.specs.{List.list_any, List.starts_with, Option.option_to_list, Str.byte, Str.is_utf8}
+use Rattle.std.specs.Prelude.{is_some, length, nat_lt, option_map, string_bytes}
+use Rattle.std.specs.{List.list_any, List.starts_with, Option.option_or, Option.option_to_list, Str.byte, Str.is_utf8}
 use Rattle.texting_robots.specs.Callers.{escaped}
 use Rattle.robots_warnings.specs.Rules.{after_byte, before_byte, has}
+use Rattle.robots_warnings.specs.Crawlers.{meant, name_for, wrong_names}
 use Rattle.robots_warnings.specs.{Spellings.spelled, Targets.has_dot_segment}
 use Rattle.robots_warnings.specs.declared.spellings.Spelling.{TheVariants.Standard}
 use Rattle.robots_warnings.specs.{Facts.mark, Facts.without_start, Urls.is_absolute_url}
 use Rattle.audit_core.specs.declared.fault.{Entry.Entry, Fault.Fault, Flaw.Flaw}
 use Rattle.audit_core.specs.declared.fault.Fault.TheVariants.{Empty, Malformed, Memory}
-use Rattle.audit_core.specs.declared.fault.Flaw.TheVariants.{Agent, Form, NotUtf8, Path, Pattern, Url}
+use Rattle.audit_core.specs.declared.fault.Flaw.TheVariants.{Agent, Form, Meant, NotUtf8, Path, Pattern, Url}
 use Rattle.audit_core.specs.{Request.is_crawler_name, Request.is_word, Fault.MalformedLine}
 
 abbrev pub is_in : List ℕ → ℕ → Bool
@@ -144,6 +145,12 @@ demand_of word =
     else if bytes_eq word (codes "allow-all") then Some (true, true)
     else if bytes_eq word (codes "deny-all") then Some (false, true) else None
 
+-- a name that no crawler has, or in whose place another is probably meant
+abbrev pub name_flaw : List ℕ → Option Flaw
+name_flaw name =
+    if not (is_crawler_name name) then Some Agent
+    else if is_some (name_for name wrong_names) then option_map Meant (meant name) else None
+
 -- the entry, unless something is wrong
 abbrev pub unless_flaw : ExpectationValue → Option Flaw → LineOf ExpectationValue
 unless_flaw one None = Ok (Some one)
@@ -156,14 +163,13 @@ abbrev pub demanded : ℕ → (agent url : List ℕ) → Option (Bool × Bool) �
 demanded number agent url None = Err (number, Form)
 demanded number agent url (Some (allowed, is_pattern)) =
     if not (is_utf8 agent && is_utf8 url) then Err (number, NotUtf8)
-    else if not (is_crawler_name agent) then Err (number, Agent)
     else unless_flaw (record {
       number = number;
       allowed = allowed;
       agent = agent;
       url = url;
       is_pattern = is_pattern;
-    }) (asked_flaw is_pattern url)
+    }) (option_or (name_flaw agent) (asked_flaw is_pattern url))
 
 abbrev pub expects : ℕ → List ℕ → List ℕ → List ℕ → LineOf ExpectationValue
 expects number word agent url = demanded number agent url (demand_of word)

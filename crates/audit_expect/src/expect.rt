@@ -3,7 +3,7 @@ ghost use Rattle.std.specs.Prelude.{◌≡◌, ◌≢◌, ◌<◌, ◌∷◌, �
 ghost use Rattle.std.specs.Prelude.{if◌then◌else◌, length, map};
 ghost use Rattle.audit_expect.specs.Expect.{IsLineFault, asked_flaw, demand_of, entries_at, entries_of, expectation_in};
 ghost use Rattle.audit_expect.specs.Expect.{expectations_in, expects, is_asked_otherwise, is_comment, is_in};
-ghost use Rattle.audit_expect.specs.Expect.{is_path, is_path_or_url, is_pattern, lines, malformed_at, parts, words};
+ghost use Rattle.audit_expect.specs.Expect.{is_path, is_path_or_url, is_pattern, name_flaw, lines, malformed_at, parts, words};
 ghost use Rattle.audit_expect.specs.Expect.{words_with_name};
 ghost use Rattle.audit_core.specs.Request.{is_word};
 ghost use Rattle.audit_expect.specs.Internal.Expectations.{HasNone, IsFirstSeparator, expectation_value};
@@ -13,6 +13,7 @@ use crate::entries::{Line, check_lines};
 use crate::patterns::escaped_text;
 use audit_core::crawler::is_crawler_name;
 use audit_core::fault::{Fault, Flaw, MalformedLine};
+use robots_warnings::crawlers::{is_wrong_name, meant};
 use robots_warnings::facts::without_mark;
 use robots_warnings::rules::{after_byte, before_byte, has};
 use robots_warnings::spellings::{Spelling, spelled};
@@ -171,6 +172,19 @@ fn demand_of(word: &[u8]) -> Option<(bool, bool)>
     }
 }
 
+/// What is wrong with a crawler's name.
+fn name_flaw(alloc: Global, name: &str) -> Result<Option<Flaw>, AllocError>
+    ensures { IfOk result (λ flaw. flaw ≡ name_flaw name.now) }
+{
+    if !is_crawler_name(name) {
+        return Ok(Some(Flaw::Agent));
+    }
+    if !is_wrong_name(name.as_bytes()) {
+        return Ok(None);
+    }
+    Ok(meant(alloc, name.as_bytes())?.map(Flaw::Meant))
+}
+
 fn expects<'a>(
     alloc: Global,
     number: usize,
@@ -186,8 +200,8 @@ fn expects<'a>(
     let (Some(agent), Some(url)) = (as_text(agent), as_text(url)) else {
         return Ok(Err((number, Flaw::NotUtf8)));
     };
-    if !is_crawler_name(agent) {
-        return Ok(Err((number, Flaw::Agent)));
+    if let Some(flaw) = name_flaw(alloc, agent)? {
+        return Ok(Err((number, flaw)));
     }
     if let Some(flaw) = asked_flaw(alloc, is_pattern, url.as_bytes())? {
         return Ok(Err((number, flaw)));

@@ -58,7 +58,10 @@ fn unexpected_on(
         × (decision.allowed ≢ allowed))) }
     ensures fault { IfErr result (λ fault. fault ≡ Fault.Memory) }
 {
-    if !text.starts_with('/') || text == "/robots.txt" || !pattern.is_match(text) {
+    let [b'/', ..] = text.as_bytes() else {
+        return Ok(None);
+    };
+    if text == "/robots.txt" || !pattern.is_match(text) {
         return Ok(None);
     }
     let decision = decision_of(alloc, rules, text)?;
@@ -169,10 +172,12 @@ pub(crate) fn on_paths(
         Err(Error::Memory) => return Err(Fault::Memory),
         Err(_) => return Ok(OnPaths::Undecided),
     };
-    let front = before_byte(b'*', url);
+    let front = before_byte(b'*', text.as_bytes());
     if !has(b'$', front) {
         return on_all(alloc, allowed, &pattern, url, rules);
     }
-    let text = escaped_text(alloc, before_byte(b'$', front))?;
-    on_text(alloc, allowed, &pattern, &rules, &text, OnPaths::Hold)
+    match std::str::from_utf8(before_byte(b'$', front)) {
+        Ok(text) => on_text(alloc, allowed, &pattern, &rules, text, OnPaths::Hold),
+        Err(_) => Ok(OnPaths::Undecided),
+    }
 }

@@ -64,6 +64,9 @@ crawlers = map (λ row. (row.0.now, row.1.now)) CRAWLERS
 abbrev pub row_at : ℕ → Row
 row_at number = slice_index_or crawlers number ([], [])
 
+abbrev pub known_names : List (List ℕ)
+known_names = map (λ (row : Row). row.0) crawlers
+
 abbrev pub is_given : List (List ℕ) → List ℕ → Bool
 is_given agents name = list_any (λ agent. str_eq_ignore_ascii_case name agent) agents
 

@@ -1,9 +1,9 @@
 //! Known crawlers: which group the vendor of each applies to it, and which one a similar name may mean.
-ghost use Rattle.std.specs.Prelude.{◌≡◌, ◌++◌, [], IfOk, OnOk, map, option_map, slice_index_or};
+ghost use Rattle.std.specs.Prelude.{◌≡◌, ◌++◌, [], IfOk, OnOk, is_some, map, option_map, slice_index_or};
 ghost use Rattle.std.specs.{List.list_any, List.position_from, Str.str_eq_ignore_ascii_case};
 ghost use Rattle.texting_robots.specs.Callers.{by_value, file_lines, label_by_value};
 ghost use Rattle.robots_warnings.specs.Crawlers.{crawlers, first_at_vendor, gets_other, group_at_vendor};
-ghost use Rattle.robots_warnings.specs.Crawlers.{is_given, is_known, is_meant, is_near, is_row_of, meant};
+ghost use Rattle.robots_warnings.specs.Crawlers.{is_given, is_known, is_meant, is_near, is_row_of, known_names, meant};
 ghost use Rattle.robots_warnings.specs.Crawlers.{meant_in, most_edits, name_at_vendor, name_for, other_group};
 ghost use Rattle.robots_warnings.specs.Crawlers.{row_at, value_at_vendor, wrong_names};
 ghost use Rattle.robots_warnings.specs.Internal.{Adds, row_value};
@@ -146,6 +146,24 @@ pub(crate) fn row_at(number: usize) -> Crawler
     row_in(crawlers(), number)
 }
 
+/// The name of the known crawler with this index.
+pub fn crawler_name(number: usize) -> &'static str
+    ensures { result.now ≡ (row_at number).0 }
+{
+    row_at(number).0
+}
+
+/// The names of all known crawlers, and `*`.
+pub fn known_names(alloc: Global) -> Result<Vec<&'static str>, AllocError>
+    ensures { IfOk result (λ names. map (λ name. name.now) names.items ≡ known_names) }
+{
+    let mut names = Vec::new(alloc);
+    for row in crawlers() {
+        names.push(row.0)?;
+    }
+    Ok(names)
+}
+
 pub(crate) fn is_given(agents: &[&str], name: &str) -> bool
     ensures { result ≡ is_given (map (λ agent. agent.now) agents.now) name.now }
 {
@@ -286,6 +304,13 @@ fn has_name(rows: &[Crawler], name: &[u8]) -> bool
         .any(|row| name.eq_ignore_ascii_case(row.0.as_bytes()))
 }
 
+/// Whether no crawler has this name, but another one is probably meant.
+pub fn is_wrong_name(name: &[u8]) -> bool
+    ensures { result ≡ is_some (name_for name.now wrong_names) }
+{
+    name_for(wrong_names(), name).is_some()
+}
+
 fn is_known(name: &[u8]) -> bool
     ensures { result ≡ is_known name.now }
 {
@@ -311,7 +336,7 @@ fn first_meant(
 
 /// The index of the crawler that is probably meant, if neither the value nor its start is the name of a known
 /// one.
-pub(crate) fn meant(alloc: Global, value: &[u8]) -> Result<Option<usize>, AllocError>
+pub fn meant(alloc: Global, value: &[u8]) -> Result<Option<usize>, AllocError>
     ensures { IfOk result (λ found. found ≡ meant value.now) }
 {
     if is_known(value) || is_known(token_front(value)) {
