@@ -11,7 +11,7 @@ use Rattle.texting_robots.specs.{Decision.IsDecisionOn, declared.decision.Decisi
 use Rattle.texting_robots.proofs.Shared.{answers_computed, read_robot, each_append}
 use Rattle.audit_core.specs.Findings.{Found}
 use Rattle.audit_expect.specs.{declared.expect.Expectation.Expectation}
-use Rattle.audit_expect.specs.Expectations.{AreFailuresOn, CheckedValue, IsChecked, failures}
+use Rattle.audit_expect.specs.Expectations.{AreFindingsOn, CheckedValue, IsChecked, failures}
 
 no_length : (text : List ℕ) → length text ≡ 0 → text ≡ []
 no_length [] e = refl
@@ -65,10 +65,10 @@ robot_found agent file target robot decision of by =
 
 pub failures_next : (file : List ℕ) (old new : List Found) (items : List Expectation) (place : ℕ)
     (d : Expectation) (next : CheckedValue) → place < length items
-    → AreFailuresOn file (map expectation_value (take place items)) old
+    → AreFindingsOn file (map expectation_value (take place items)) old
     → next.expectation ≡ expectation_value (slice_index_or items place d) → IsChecked file next
     → new ≡ old ++ failures (next ∷ [])
-    → AreFailuresOn file (map expectation_value (take (place + 1) items)) new
+    → AreFindingsOn file (map expectation_value (take (place + 1) items)) new
 failures_next file old new items place d next below are same is added =
     let one = slice_index_or items place d in
     record {

@@ -4,7 +4,7 @@ ghost use Rattle.audit_core.specs.{Findings.Adds, Findings.found_of, Internal.Is
 ghost use Rattle.audit_core.specs.declared.fault.Entry.TheVariants as entry;
 ghost use Rattle.robots_warnings.specs.Read.{IsRead};
 ghost use Rattle.audit_expect.specs.Expect.{IsEntryFault, expectations_in as specified_in};
-ghost use Rattle.audit_expect.specs.Expectations.{AreFailuresOf, AreFailuresOn, failures};
+ghost use Rattle.audit_expect.specs.Expectations.{AreFindingsOf, AreFindingsOn, all_hold, doubts, failing};
 ghost use Rattle.audit_expect.specs.Internal.Expectations.{IsReadFor, checked_value, expectation_value};
 
 use crate::checks::{AtVendor, Checked, Judgment, checked_on, fails, fails_here, is_unexpected};
@@ -17,6 +17,7 @@ use audit_core::fault::{Entry, Fault};
 use audit_core::findings::{Finding, Findings, add};
 use printable_text::level::Level;
 use printable_text::report::{Line, Report};
+use robots_warnings::crawlers::crawler_name;
 use robots_warnings::read::FileRead;
 use std::alloc::Global;
 use std::fmt;
@@ -94,11 +95,11 @@ fn write_judgment(
             out.write_str("by RFC 9309, which compares normal forms, ")?;
             write_decision(out, target, "it", normal)
         }
-        Judgment::OnPaths(OnPaths::Hold, other) => {
+        Judgment::Everywhere(OnPaths::Hold, other) => {
             out.write_str(OTHERWISE)?;
             write_on_paths(out, other)
         }
-        Judgment::OnPaths(here, _) => write_on_paths(out, here),
+        Judgment::Everywhere(here, _) => write_on_paths(out, here),
     }
 }
 
@@ -136,8 +137,7 @@ fn message_of(alloc: Global, checked: &Checked<'_>) -> Result<Line, Fault>
 }
 
 fn add_if_failing(alloc: Global, found: &mut Findings, checked: &Checked<'_>) -> Result<(), Fault>
-    ensures ok { OnOk result (Adds found.old.items found.new.items
-        (failures (checked_value checked.now ∷ []))) }
+    ensures ok { OnOk result (Adds found.old.items found.new.items (failing (checked_value checked.now))) }
     ensures fault { IfErr result (λ fault. fault ≡ Fault.Memory) }
 {
     if !fails(checked) {
@@ -148,13 +148,27 @@ fn add_if_failing(alloc: Global, found: &mut Findings, checked: &Checked<'_>) ->
     Ok(add(alloc, found, Level::Error, line, "expectation", &message)?)
 }
 
-fn failures<'a>(
+fn add_doubt(alloc: Global, found: &mut Findings, checked: &Checked<'_>) -> Result<(), Fault>
+    ensures ok { OnOk result (Adds found.old.items found.new.items (doubts (checked_value checked.now))) }
+    ensures fault { IfErr result (λ fault. fault ≡ Fault.Memory) }
+{
+    let Some(crawler) = checked.meant else {
+        return Ok(());
+    };
+    let (agent, name) = (checked.expectation.agent, crawler_name(crawler));
+    let mut message = Line::new(alloc);
+    write!(message, "no known crawler and no group is called {agent}; did you mean {name}?")?;
+    let line = Some(checked.expectation.number);
+    Ok(add(alloc, found, Level::Note, line, "misspelled-name", &message)?)
+}
+
+fn findings<'a>(
     alloc: Global,
     expectations: &[Expectation<'a>],
     read: &'a FileRead<'_>,
 ) -> Result<Findings, Fault>
     requires { IsRead read.now }
-    ensures ok { IfOk result (λ found. AreFailuresOn read.now.bytes.now (map expectation_value expectations.now)
+    ensures ok { IfOk result (λ found. AreFindingsOn read.now.bytes.now (map expectation_value expectations.now)
         (map found_of found.items)) }
     ensures fault { IfErr result (λ fault. fault ≡ Fault.Memory) }
 {
@@ -167,6 +181,7 @@ fn failures<'a>(
     for expectation in expectations {
         latest = reading_for(alloc, latest, expectation.agent, read)?;
         let checked = checked_on(alloc, expectation, &latest.reading, read)?;
+        add_doubt(alloc, &mut found, &checked)?;
         add_if_failing(alloc, &mut found, &checked)?;
     }
     Ok(found)
@@ -187,8 +202,19 @@ fn write_failure(out: &mut Report, name: &str, finding: &Finding) -> fmt::Result
         write!(out, ":{line}")?;
     }
     let message = finding.message.as_str();
-    write!(out, ": {message}")?;
+    let label = match finding.level {
+        Level::Note => "note: ",
+        _ => "",
+    };
+    write!(out, ": {label}{message}")?;
     out.end_line()
+}
+
+/// Whether all expectations hold, if these are the findings.
+pub fn all_hold(found: &[Finding]) -> bool
+    ensures { result ≡ all_hold found.now }
+{
+    !found.iter().any(|one| one.level.reaches(Level::Error))
 }
 
 /// The number is that of all expectations.
@@ -199,7 +225,7 @@ fn report_on(
     found: &[Finding],
 ) -> Result<Report, fmt::Error> {
     let mut out = Report::new(alloc);
-    if found.is_empty() {
+    if all_hold(found) {
         write_holding(&mut out, number)?;
     }
     for finding in found {
@@ -235,12 +261,12 @@ pub fn check(
     text: &[u8],
     file: &[u8],
 ) -> Result<(Report, Findings), Fault>
-    ensures ok { IfOk result (λ checked. AreFailuresOf text.now file.now (map found_of checked.1.items)) }
+    ensures ok { IfOk result (λ checked. AreFindingsOf text.now file.now (map found_of checked.1.items)) }
     ensures fault { IfErr result (IsEntryFault name.now entry.Expectation (specified_in text.now)) }
 {
     let expectations = parsed(alloc, name, text)?;
     let read = FileRead::new(alloc, "*", file)?;
-    let found = failures(alloc, &expectations, &read)?;
+    let found = findings(alloc, &expectations, &read)?;
     let report = report_on(alloc, name, expectations.len(), &found)?;
     Ok((report, found))
 }

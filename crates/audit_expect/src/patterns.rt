@@ -114,7 +114,7 @@ fn on_text(
 ) -> Result<OnPaths, Fault>
     requires rules { All (λ (placed : PlacedRule). ¬ IsOverlong placed.rule.0) rules.now }
     requires otherwise { (IsPathOf pattern.now text.now → IsVerdict (unplaced rules.now) text.now allowed)
-        → IsOnPaths allowed pattern.now rules.now otherwise.entry }
+        → IsOnPaths allowed pattern.now rules.now otherwise }
     ensures ok { IfOk result (IsOnPaths allowed pattern.now rules.now) }
     ensures fault { IfErr result (λ fault. fault ≡ Fault.Memory) }
 {
@@ -133,8 +133,8 @@ fn on_all(
     rules: Vec<Rule>,
 ) -> Result<OnPaths, Fault>
     requires pattern { pattern.now ≡ escaped url.now }
-    requires rules { All (λ (placed : PlacedRule). ¬ IsOverlong placed.rule.0) rules.entry.items }
-    ensures ok { IfOk result (IsOnPaths allowed pattern.now rules.entry.items) }
+    requires rules { All (λ (placed : PlacedRule). ¬ IsOverlong placed.rule.0) rules.items }
+    ensures ok { IfOk result (IsOnPaths allowed pattern.now rules.items) }
     ensures fault { IfErr result (λ fault. fault ≡ Fault.Memory) }
 {
     let count = rules.len();
@@ -161,8 +161,8 @@ pub(crate) fn on_paths(
     url: &str,
     rules: Vec<Rule>,
 ) -> Result<OnPaths, Fault>
-    requires { All (λ (placed : PlacedRule). ¬ IsOverlong placed.rule.0) rules.entry.items }
-    ensures ok { IfOk result (IsOnPaths allowed (escaped url.now) rules.entry.items) }
+    requires { All (λ (placed : PlacedRule). ¬ IsOverlong placed.rule.0) rules.items }
+    ensures ok { IfOk result (IsOnPaths allowed (escaped url.now) rules.items) }
     ensures fault { IfErr result (λ fault. fault ≡ Fault.Memory) }
 {
     let url = url.as_bytes();

@@ -11,7 +11,7 @@ use Rattle.audit_core.specs.declared.request.Format.TheVariants.{Github, Html, J
 use Rattle.audit_core.specs.declared.fault.Fault.{Fault}
 use Rattle.audit_core.specs.declared.fault.Fault.TheVariants.{Memory, NoUrl, StdinTwice, Usage}
 use Rattle.printable_text.specs.declared.level.{Level.Level}
-use Rattle.robots_warnings.specs.{Table.is_name}
+use Rattle.robots_warnings.specs.{Crawlers.known_names, Table.is_name}
 use Rattle.audit_core.specs.{Chosen.IsInBoth, Chosen.share_a_name, Fault.IsUnknown}
 use Rattle.audit_expect.specs.UrlList.{IsUrlFault, first_malformed}
 use Rattle.printable_text.specs.declared.level.Level.TheVariants as level
@@ -87,10 +87,20 @@ IsFileFault matches fault =
     ⊎ (((reads_stdin_twice matches ≡ true) × (fault ≡ StdinTwice))
     ⊎ (LacksUrls matches true × (fault ≡ NoUrl)))
 
+-- with `--known`, all crawlers that are known
+pub record AreGiven (matches : ArgMatches) (agents : List (List ℕ)) : Type 0 where
+  pub is_known : Bool
+  pub known : IsOn matches (codes "known") is_known
+  pub all : agents ≡ (if is_known then known_names else values_of matches (codes "agent"))
+
 -- crawlers have such names
 pub record AreAgentsOf (matches : ArgMatches) (agents : List (List ℕ)) : Type 0 where
-  pub all : agents ≡ values_of matches (codes "agent")
+  pub given : AreGiven matches agents
   pub named : IsTrue (list_all is_crawler_name agents)
+
+-- the error if one of the given names is none
+abbrev pub IsNoCrawlerOf : ArgMatches → Fault → Type 0
+IsNoCrawlerOf matches fault = (agents : List (List ℕ)) × AreGiven matches agents × IsNoCrawlerIn agents fault
 
 -- the arguments after FILE, which are paths or URLs, as they are asked for
 pub record AreUrlsOf (matches : ArgMatches) (urls : List (List ℕ)) : Type 0 where
@@ -134,7 +144,7 @@ abbrev pub Asks : (by_default : Bool) → ArgMatches → Result Request Fault �
 Asks by_default matches (Ok request) = IsRequestOf by_default matches request
 Asks by_default matches (Err fault) =
     IsFileFault matches fault
-    ⊎ (IsNoCrawlerIn (values_of matches (codes "agent")) fault
+    ⊎ (IsNoCrawlerOf matches fault
     ⊎ (IsUrlFault (values_of matches (codes "url")) fault
     ⊎ (IsUnknownIn (values_of matches (codes "only")) fault
     ⊎ (IsUnknownIn (values_of matches (codes "ignore")) fault

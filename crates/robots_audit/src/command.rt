@@ -2,9 +2,8 @@
 ghost use Rattle.std.specs.Prelude.{◌≡◌, IfErr, IfOk, IsTrue, OnOk, codes, is_some, map, option_map, ◌||◌};
 ghost use Rattle.std.specs.List.{list_all};
 ghost use Rattle.robots_warnings.specs.Table.{is_name};
-ghost use Rattle.audit_core.specs.Request.{IsNoCrawlerIn};
 ghost use Rattle.audit_expect.specs.UrlList.{IsUrlFault};
-ghost use Rattle.robots_audit.specs.Command.{AreAgentsOf, AreNamesOf, AreUrlsOf, Asks, HasFile, LacksUrls};
+ghost use Rattle.robots_audit.specs.Command.{AreAgentsOf, AreGiven, AreNamesOf, IsNoCrawlerOf, AreUrlsOf, Asks, HasFile, LacksUrls};
 ghost use Rattle.robots_audit.specs.Command.{file_read, IsFileFault, IsFormatOf, format_by_name, has_urls, is_stdin, IsUnknownIn};
 ghost use Rattle.robots_audit.specs.Command.{level_named, reads_stdin_twice, values_of};
 
@@ -18,11 +17,12 @@ use audit_core::version::VERSION_AND_TOOLCHAIN;
 use audit_expect::url_list::are_paths_or_urls;
 use clap::{ArgMatches, Command};
 use printable_text::level::Level;
+use robots_warnings::crawlers::known_names;
 use robots_warnings::table::is_name;
 use std::alloc::{AllocError, Global};
 
 const AFTER_HELP: &str = "\
-With --expect, give only FILE; with --compare only FILE, URLs, --urls, --agent and --verdicts; with either also
+With --expect, give only FILE; with --compare only FILE, URLs, --urls, --agent, --known and --verdicts; with either also
 --json or --format; with --list-warnings or --explain nothing else. With --denied, give URLs or --urls.
 
 Exit status, the first that applies:
@@ -189,12 +189,24 @@ fn names_of<'a>(alloc: Global, matches: &ArgMatches<'a>, id: &str) -> Result<Vec
     Ok(names)
 }
 
+fn agents_given<'a>(
+    alloc: Global,
+    matches: &ArgMatches<'a>,
+) -> Result<Vec<&'a str>, AllocError>
+    ensures { IfOk result (λ agents. AreGiven matches.now (map (λ agent. agent.now) agents.items)) }
+{
+    if matches.get_flag("known") {
+        return known_names(alloc);
+    }
+    values_of(alloc, matches, "agent")
+}
+
 /// Fails with the first name that no crawler has.
 fn agents_of<'a>(alloc: Global, matches: &ArgMatches<'a>) -> Result<Vec<&'a str>, Fault>
     ensures ok { IfOk result (λ agents. AreAgentsOf matches.now (map (λ agent. agent.now) agents.items)) }
-    ensures fault { IfErr result (IsNoCrawlerIn (values_of matches.now (codes "agent"))) }
+    ensures fault { IfErr result (IsNoCrawlerOf matches.now) }
 {
-    let agents = values_of(alloc, matches, "agent")?;
+    let agents = agents_given(alloc, matches)?;
     are_crawlers(alloc, &agents)?;
     Ok(agents)
 }

@@ -37,7 +37,7 @@ struct Parameter {
     excludes: &'static [&'static [&'static str]],
 }
 
-const OF_QUERIES: &[&str] = &["url", "agent", "urls"];
+const OF_QUERIES: &[&str] = &["url", "agent", "known", "urls"];
 
 /// The options of an audit that are about warnings and the form of the report.
 const OF_AUDITS: &[&str] = &[
@@ -88,6 +88,14 @@ const PARAMETERS: &[Parameter] = &[
         value: Value::RepeatedAs("NAME", "user-agent"),
         help: "Report on this crawler; may be repeated (default: * and every crawler that FILE names)",
         excludes: &[],
+    },
+    Parameter {
+        id: "known",
+        short: None,
+        long: Some("known"),
+        value: Value::Absent,
+        help: "Report on * and all crawlers that this program knows, such as Googlebot and GPTBot",
+        excludes: &[&["agent"]],
     },
     Parameter {
         id: "quiet",

@@ -7,7 +7,7 @@ use Rattle.robots_needless.proofs.TogetherLemmas.{denied_same, of_map, to_map, v
 use Rattle.robots_warnings.specs.Targets.{normal_target, written_target}
 use Rattle.audit_expect.specs.OtherReading.{AreOthers, IsNormalDecision, normal_rule}
 use Rattle.audit_expect.specs.declared.checks.Judgment.{Judgment, TheVariants.Decided, TheVariants.Rejected}
-use Rattle.audit_expect.specs.declared.checks.Judgment.{TheVariants.OnPaths, TheVariants.Rewritten}
+use Rattle.audit_expect.specs.declared.checks.Judgment.{TheVariants.Everywhere, TheVariants.Rewritten}
 use Rattle.audit_expect.specs.{Expect.ExpectationValue}
 use Rattle.audit_expect.specs.Expectations.{IsJudgmentOn, fails_at, fails_here, is_unexpected}
 use Rattle.audit_expect.proofs.laws.no_opposite_expectations_hold.Goals as goal
@@ -47,10 +47,10 @@ module _ (file agent : List ℕ) (this other : ExpectationValue) (plain : this.i
       → allowed ≡ too
   agree allowed too (Rejected line) two is also holds all = cc
   agree allowed too Rewritten two is also holds all = cc
-  agree allowed too (OnPaths here others) two is also holds all = absurd (false≢true (sym plain ∙ is.3))
+  agree allowed too (Everywhere here others) two is also holds all = absurd (false≢true (sym plain ∙ is.3))
   agree allowed too one (Rejected line) is also holds all = cc
   agree allowed too one Rewritten is also holds all = cc
-  agree allowed too one (OnPaths here others) is also holds all = absurd (false≢true (sym both ∙ also.3))
+  agree allowed too one (Everywhere here others) is also holds all = absurd (false≢true (sym both ∙ also.3))
   agree allowed too (Decided one first normal) (Decided two second also_normal) is also holds all =
       let rules = placed_rules agent (lines_read file) in
       let decided = subst (λ target. IsNormalDecision (bodies_read file) rules target also_normal) (sym same)

@@ -2,7 +2,7 @@ use Rattle.std.proofs.Common.{ap, subst}
 use Rattle.audit_core.specs.Internal.{IsReading}
 use Rattle.audit_expect.specs.Internal.Expectations.{expectation_value, checked_value}
 use Rattle.audit_expect.proofs.ExpectationsLemmas.{failures_next}
-use Rattle.audit_expect.proofs.expectations.failures.Goals as goal
+use Rattle.audit_expect.proofs.expectations.findings.Goals as goal
 
 pub loop-expectation-preserved : goal.loop-expectation-preserved
 loop-expectation-preserved c =
