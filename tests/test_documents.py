@@ -234,7 +234,11 @@ def test_readme_shows_what_its_first_command_prints():
     assert (ended.returncode, [*ended.stdout.splitlines(), *warnings]) == (1, shown(report.split("`+` marks")[0]).splitlines())
 
 
-@pytest.mark.parametrize("command", [line for line in (shown(README) + shown(PROGRAMS)).splitlines() if re.match("(robots_audit|curl) ", line)])
+COMMANDS = [line for line in (shown(README) + shown(PROGRAMS)).splitlines() if re.match("(robots_audit|curl) ", line)]
+COMMANDS += [re.match(r"`(.*?)`", row[1])[1] for row in tables(PROGRAMS) if row[1].startswith("`robots_audit ")]
+
+
+@pytest.mark.parametrize("command", COMMANDS)
 def test_command_runs(command, tmp_path):
     """In a folder with the files that it names; curl is a script here that fetches nothing."""
     files = {"robots.txt": "User-agent: *\nDisallow: /search\n", "old.txt": "User-agent: *\nAllow: /\n", "urls.txt": "/search/tea\n", "expect.txt": "deny B /search\n"}
@@ -282,7 +286,7 @@ def test_documented_warnings_are_those_of_the_table():
 
 LONG_RULE = b"Disallow: /b\nAllow: $" + b"a" * 4096
 USAGE = "usage: robots_audit [OPTIONS] FILE [URL].."
-CURL = "curl -s https://example.com/robots.txt | robots_audit -"
+CURL = "curl -fsSL https://example.com/robots.txt | robots_audit -"
 AUDIT_ERRORS = {
     "missing FILE; " + USAGE: {},
     "arguments must be valid UTF-8; " + USAGE: {"args": [b"\xff"]},
@@ -295,12 +299,14 @@ AUDIT_ERRORS = {
     "--denied needs URLs, as arguments or by --urls FILE; " + USAGE: {"args": ["--denied", "-"]},
     "host-line: --only and --ignore both name this warning": {"args": ["--only", "host-line", "--ignore", "host-line", "-"]},
     "A,B: a comma in a crawler's name; repeat --agent for each crawler": {"args": ["--agent", "A,B", "-"]},
-    "cannot read NAME": {"args": ["NAME"]},
-    "cannot read example.com; for a host, try: " + CURL: {"args": ["example.com"]},
-    "cannot read error; for a level, write --strict=LEVEL": {"args": ["--strict", "error"]},
-    "cannot read /no/tea; before a path to check, write FILE, or - for standard input": {"args": ["/no/tea"]},
-    "cannot read https://example.com; a URL isn't a file, try: " + CURL: {"args": ["https://example.com"]},
+    "cannot read NAME: no such file": {"args": ["NAME"]},
+    "cannot read example.com: no such file; for a host, try: " + CURL: {"args": ["example.com"]},
+    "cannot read error: no such file; for a level, write --strict=LEVEL": {"args": ["--strict", "error"]},
+    "cannot read /no/tea: no such file; before a path to check, write FILE, or - for standard input": {"args": ["/no/tea"]},
+    "cannot read https://example.com: no such file; a URL isn't a file, try: " + CURL: {"args": ["https://example.com"]},
+    "cannot read /: it is a folder; before a path to check, write FILE, or - for standard input": {"args": ["/"]},
     "cannot read standard input": {"args": ["-"], "stdin": "/"},
+    "standard input is empty; did the download fail? To audit an empty file, give its name": {"args": ["-"]},
     "cannot write the report": {"args": ["-"], "stdout": "/dev/full"},
     "out of memory": {"args": ["-"], "text": LONG_RULE, "fails": True},
 }

@@ -5,7 +5,7 @@ ghost use Rattle.audit_core.specs.Fault.{IsArgument, IsUnknown, near_warning, st
 use crate::answer::Outcome;
 use printable_text::report::{Named, Report};
 use robots_io::streams::{ReadFault, WriteFault};
-use robots_warnings::crawlers::{crawler_name, is_near};
+use robots_warnings::crawlers::{is_near, row_at};
 use robots_warnings::rules::{before_byte, has};
 use robots_warnings::table::{Cause, causes};
 use robots_warnings::urls::begins_as_url;
@@ -160,7 +160,7 @@ fn write_flaw(out: &mut Report, flaw: Flaw) -> fmt::Result {
     out.write_str(flaw_text(flaw))?;
     match flaw {
         Flaw::Meant(crawler) => {
-            let name = crawler_name(crawler);
+            let name = row_at(crawler).0;
             write!(out, "{name}?")
         }
         _ => Ok(()),

@@ -1,11 +1,11 @@
 -- The lines of a text, the entries in them, and the expectations in the file of `--expect`, one per line.
 use Rattle.std.specs.Prelude.{◌≡◌, ℕ, nat_eq, suc, ◌==◌, Bool, true, false, not, ◌&&◌, ◌||◌, List, [], ◌∷◌, ◌++◌}
 use Rattle.std.specs.Prelude.{Option, Some, None, Result, Ok, Err, bytes_eq, codes, filter, if◌then◌else◌}
-use Rattle.std.specs.Prelude.{is_some, length, nat_lt, option_map, string_bytes}
+use Rattle.std.specs.Prelude.{length, nat_lt, option_map, string_bytes}
 use Rattle.std.specs.{List.list_any, List.starts_with, Option.option_or, Option.option_to_list, Str.byte, Str.is_utf8}
 use Rattle.texting_robots.specs.Callers.{escaped}
 use Rattle.robots_warnings.specs.Rules.{after_byte, before_byte, has}
-use Rattle.robots_warnings.specs.Crawlers.{meant, name_for, wrong_names}
+use Rattle.robots_warnings.specs.Crawlers.{is_wrong, meant}
 use Rattle.robots_warnings.specs.{Spellings.spelled, Targets.has_dot_segment}
 use Rattle.robots_warnings.specs.declared.spellings.Spelling.{TheVariants.Standard}
 use Rattle.robots_warnings.specs.{Facts.mark, Facts.without_start, Urls.is_absolute_url}
@@ -149,7 +149,7 @@ demand_of word =
 abbrev pub name_flaw : List ℕ → Option Flaw
 name_flaw name =
     if not (is_crawler_name name) then Some Agent
-    else if is_some (name_for name wrong_names) then option_map Meant (meant name) else None
+    else if is_wrong name then option_map Meant (meant name) else None
 
 -- the entry, unless something is wrong
 abbrev pub unless_flaw : ExpectationValue → Option Flaw → LineOf ExpectationValue

@@ -13,7 +13,7 @@ use crate::entries::{Line, check_lines};
 use crate::patterns::escaped_text;
 use audit_core::crawler::is_crawler_name;
 use audit_core::fault::{Fault, Flaw, MalformedLine};
-use robots_warnings::crawlers::{is_wrong_name, meant};
+use robots_warnings::crawlers::{is_wrong, meant};
 use robots_warnings::facts::without_mark;
 use robots_warnings::rules::{after_byte, before_byte, has};
 use robots_warnings::spellings::{Spelling, spelled};
@@ -179,7 +179,7 @@ fn name_flaw(alloc: Global, name: &str) -> Result<Option<Flaw>, AllocError>
     if !is_crawler_name(name) {
         return Ok(Some(Flaw::Agent));
     }
-    if !is_wrong_name(name.as_bytes()) {
+    if !is_wrong(name.as_bytes()) {
         return Ok(None);
     }
     Ok(meant(alloc, name.as_bytes())?.map(Flaw::Meant))

@@ -17,7 +17,7 @@ use audit_core::fault::{Entry, Fault};
 use audit_core::findings::{Finding, Findings, add};
 use printable_text::level::Level;
 use printable_text::report::{Line, Report};
-use robots_warnings::crawlers::crawler_name;
+use robots_warnings::crawlers::row_at;
 use robots_warnings::read::FileRead;
 use std::alloc::Global;
 use std::fmt;
@@ -155,7 +155,7 @@ fn add_doubt(alloc: Global, found: &mut Findings, checked: &Checked<'_>) -> Resu
     let Some(crawler) = checked.meant else {
         return Ok(());
     };
-    let (agent, name) = (checked.expectation.agent, crawler_name(crawler));
+    let (agent, name) = (checked.expectation.agent, row_at(crawler).0);
     let mut message = Line::new(alloc);
     write!(message, "no known crawler and no group is called {agent}; did you mean {name}?")?;
     let line = Some(checked.expectation.number);

@@ -11,7 +11,7 @@ use Rattle.audit_core.specs.declared.request.Format.TheVariants.{Github, Html, J
 use Rattle.audit_core.specs.declared.fault.Fault.{Fault}
 use Rattle.audit_core.specs.declared.fault.Fault.TheVariants.{Memory, NoUrl, StdinTwice, Usage}
 use Rattle.printable_text.specs.declared.level.{Level.Level}
-use Rattle.robots_warnings.specs.{Crawlers.known_names, Table.is_name}
+use Rattle.robots_warnings.specs.{Crawlers.Row, Crawlers.crawlers, Table.is_name}
 use Rattle.audit_core.specs.{Chosen.IsInBoth, Chosen.share_a_name, Fault.IsUnknown}
 use Rattle.audit_expect.specs.UrlList.{IsUrlFault, first_malformed}
 use Rattle.printable_text.specs.declared.level.Level.TheVariants as level
@@ -86,6 +86,9 @@ IsFileFault matches fault =
     ((value_of matches (codes "file") ≡ None) × (fault ≡ Usage))
     ⊎ (((reads_stdin_twice matches ≡ true) × (fault ≡ StdinTwice))
     ⊎ (LacksUrls matches true × (fault ≡ NoUrl)))
+
+abbrev pub known_names : List (List ℕ)
+known_names = map (λ (row : Row). row.0) crawlers
 
 -- with `--known`, all crawlers that are known
 pub record AreGiven (matches : ArgMatches) (agents : List (List ℕ)) : Type 0 where

@@ -4,7 +4,7 @@ ghost use Rattle.std.specs.List.{list_all};
 ghost use Rattle.robots_warnings.specs.Table.{is_name};
 ghost use Rattle.audit_expect.specs.UrlList.{IsUrlFault};
 ghost use Rattle.robots_audit.specs.Command.{AreAgentsOf, AreGiven, AreNamesOf, IsNoCrawlerOf, AreUrlsOf, Asks, HasFile, LacksUrls};
-ghost use Rattle.robots_audit.specs.Command.{file_read, IsFileFault, IsFormatOf, format_by_name, has_urls, is_stdin, IsUnknownIn};
+ghost use Rattle.robots_audit.specs.Command.{file_read, IsFileFault, IsFormatOf, format_by_name, has_urls, is_stdin, IsUnknownIn, known_names};
 ghost use Rattle.robots_audit.specs.Command.{level_named, reads_stdin_twice, values_of};
 
 use crate::options::with_options;
@@ -17,13 +17,14 @@ use audit_core::version::VERSION_AND_TOOLCHAIN;
 use audit_expect::url_list::are_paths_or_urls;
 use clap::{ArgMatches, Command};
 use printable_text::level::Level;
-use robots_warnings::crawlers::known_names;
+use robots_warnings::crawlers::crawlers;
 use robots_warnings::table::is_name;
 use std::alloc::{AllocError, Global};
 
 const AFTER_HELP: &str = "\
-With --expect, give only FILE; with --compare only FILE, URLs, --urls, --agent, --known and --verdicts; with either also
---json or --format; with --list-warnings or --explain nothing else. With --denied, give URLs or --urls.
+With --expect, give only FILE; with --compare only FILE, URLs, --urls, --agent, --known and --verdicts; with
+either also --json, --github or --format; with --list-warnings or --explain nothing else. With --denied, give
+URLs or --urls.
 
 Exit status, the first that applies:
   2  if the program couldn't do its work, or the file is rejected for a crawler
@@ -186,6 +187,17 @@ fn names_of<'a>(alloc: Global, matches: &ArgMatches<'a>, id: &str) -> Result<Vec
 {
     let names = values_of(alloc, matches, id)?;
     known(alloc, &names)?;
+    Ok(names)
+}
+
+/// The names of the known crawlers, and `*`.
+fn known_names(alloc: Global) -> Result<Vec<&'static str>, AllocError>
+    ensures { IfOk result (λ names. map (λ name. name.now) names.items ≡ known_names) }
+{
+    let mut names = Vec::new(alloc);
+    for row in crawlers() {
+        names.push(row.0)?;
+    }
     Ok(names)
 }
 

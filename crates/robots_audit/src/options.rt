@@ -199,7 +199,8 @@ const PARAMETERS: &[Parameter] = &[
         short: None,
         long: Some("expect"),
         value: Value::Text("FILE"),
-        help: "Check instead the lines \"allow AGENT URL\" and \"deny AGENT URL\" of this file (-: standard input)",
+        help: "Check instead the lines \"allow AGENT URL\", \"deny AGENT URL\", \"allow-all AGENT PATTERN\" and \
+            \"deny-all AGENT PATTERN\" of this file (-: standard input)",
         excludes: &[OF_QUERIES, OF_AUDITS],
     },
     Parameter {

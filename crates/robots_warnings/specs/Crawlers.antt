@@ -64,9 +64,6 @@ crawlers = map (λ row. (row.0.now, row.1.now)) CRAWLERS
 abbrev pub row_at : ℕ → Row
 row_at number = slice_index_or crawlers number ([], [])
 
-abbrev pub known_names : List (List ℕ)
-known_names = map (λ (row : Row). row.0) crawlers
-
 abbrev pub is_given : List (List ℕ) → List ℕ → Bool
 is_given agents name = list_any (λ agent. str_eq_ignore_ascii_case name agent) agents
 
@@ -122,6 +119,9 @@ other_group lines agent =
 -- names that no crawler has, each with that of the known crawler that is probably meant
 unfoldable pub wrong_names : List Row
 wrong_names = map (λ row. (row.0.now, row.1.now)) WRONG_NAMES
+
+abbrev pub is_wrong : List ℕ → Bool
+is_wrong name = is_some (name_for name wrong_names)
 
 -- after how many edits a name is still recognized
 abbrev pub most_edits : List ℕ → ℕ

@@ -1,9 +1,9 @@
 //! Known crawlers: which group the vendor of each applies to it, and which one a similar name may mean.
-ghost use Rattle.std.specs.Prelude.{◌≡◌, ◌++◌, [], IfOk, OnOk, is_some, map, option_map, slice_index_or};
+ghost use Rattle.std.specs.Prelude.{◌≡◌, ◌++◌, [], IfOk, OnOk, map, option_map, slice_index_or};
 ghost use Rattle.std.specs.{List.list_any, List.position_from, Str.str_eq_ignore_ascii_case};
 ghost use Rattle.texting_robots.specs.Callers.{by_value, file_lines, label_by_value};
 ghost use Rattle.robots_warnings.specs.Crawlers.{crawlers, first_at_vendor, gets_other, group_at_vendor};
-ghost use Rattle.robots_warnings.specs.Crawlers.{is_given, is_known, is_meant, is_near, is_row_of, known_names, meant};
+ghost use Rattle.robots_warnings.specs.Crawlers.{is_given, is_known, is_meant, is_near, is_row_of, is_wrong, meant};
 ghost use Rattle.robots_warnings.specs.Crawlers.{meant_in, most_edits, name_at_vendor, name_for, other_group};
 ghost use Rattle.robots_warnings.specs.Crawlers.{row_at, value_at_vendor, wrong_names};
 ghost use Rattle.robots_warnings.specs.Internal.{Adds, row_value};
@@ -24,7 +24,7 @@ use texting_robots::site::Site;
 /// A crawler's name, and that of the group that its vendor applies to it if a file has none of its own: that
 /// of `*`, that of another crawler (and if there is none either, that of `*`), or, for an empty name, no
 /// group.
-pub(crate) type Crawler = (&'static str, &'static str);
+pub type Crawler = (&'static str, &'static str);
 
 /// The known crawlers. Above each block is where its vendor, or those of its crawlers, say so; where none says which
 /// group it applies, the standard does.
@@ -123,9 +123,10 @@ static WRONG_NAMES: [(&str, &str); 25] = [
     ("CommonCrawl", "CCBot"),
 ];
 
-/// No other function names the long table, since each that does takes long to prove.
+/// The known crawlers; the first is `*`. No other function names the long table, since each that does takes
+/// long to prove.
 #[tactic(auto, unfolding(crate::specs::Crawlers::crawlers))]
-pub(crate) fn crawlers() -> &'static [Crawler]
+pub fn crawlers() -> &'static [Crawler]
     ensures { map row_value result.now ≡ crawlers }
 {
     &CRAWLERS
@@ -140,28 +141,11 @@ fn row_in(rows: &'static [Crawler], number: usize) -> Crawler
     }
 }
 
-pub(crate) fn row_at(number: usize) -> Crawler
+/// The crawler with this index.
+pub fn row_at(number: usize) -> Crawler
     ensures { row_value result ≡ row_at number }
 {
     row_in(crawlers(), number)
-}
-
-/// The name of the known crawler with this index.
-pub fn crawler_name(number: usize) -> &'static str
-    ensures { result.now ≡ (row_at number).0 }
-{
-    row_at(number).0
-}
-
-/// The names of all known crawlers, and `*`.
-pub fn known_names(alloc: Global) -> Result<Vec<&'static str>, AllocError>
-    ensures { IfOk result (λ names. map (λ name. name.now) names.items ≡ known_names) }
-{
-    let mut names = Vec::new(alloc);
-    for row in crawlers() {
-        names.push(row.0)?;
-    }
-    Ok(names)
 }
 
 pub(crate) fn is_given(agents: &[&str], name: &str) -> bool
@@ -304,13 +288,6 @@ fn has_name(rows: &[Crawler], name: &[u8]) -> bool
         .any(|row| name.eq_ignore_ascii_case(row.0.as_bytes()))
 }
 
-/// Whether no crawler has this name, but another one is probably meant.
-pub fn is_wrong_name(name: &[u8]) -> bool
-    ensures { result ≡ is_some (name_for name.now wrong_names) }
-{
-    name_for(wrong_names(), name).is_some()
-}
-
 fn is_known(name: &[u8]) -> bool
     ensures { result ≡ is_known name.now }
 {
@@ -344,6 +321,13 @@ pub fn meant(alloc: Global, value: &[u8]) -> Result<Option<usize>, AllocError>
     }
     let other = name_for(wrong_names(), value).unwrap_or("");
     first_meant(alloc, crawlers(), value, other)
+}
+
+/// Whether no crawler has the name, and it is known which one is meant.
+pub fn is_wrong(name: &[u8]) -> bool
+    ensures { result ≡ is_wrong name.now }
+{
+    name_for(wrong_names(), name).is_some()
 }
 
 pub(crate) fn meant_in(alloc: Global, line: Line<'_>) -> Result<Option<usize>, AllocError>

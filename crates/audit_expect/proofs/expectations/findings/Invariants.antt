@@ -6,6 +6,6 @@ use Rattle.audit_expect.proofs.expectations.findings.Given as goal
 abbrev pub invariant-loop-expectation : goal.invariant-loop-expectation
 invariant-loop-expectation l = record {
   latest : IsReading l.latest.agent.now l.read.bytes.now l.latest.reading;
-  failures : AreFindingsOn l.read.bytes.now (map expectation_value (take l.expectation-index l.expectations))
+  findings : AreFindingsOn l.read.bytes.now (map expectation_value (take l.expectation-index l.expectations))
       (map found_of l.found.items);
 }
