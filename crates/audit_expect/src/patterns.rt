@@ -1,5 +1,5 @@
 //! Expectations about all paths that a pattern matches.
-ghost use Rattle.std.specs.Prelude.{◌≡◌, ◌≢◌, All, IfErr, IfOk, MatchOption, string_bytes};
+ghost use Rattle.std.specs.Prelude.{◌≡◌, ◌≢◌, ◌≤◌, All, IfErr, IfOk, MatchOption, string_bytes};
 ghost use Rattle.texting_robots.specs.Callers.{IsOverlong, IsVerdict, PlacedRule, escaped, unplaced};
 ghost use Rattle.texting_robots.specs.Decision.{IsDecisionOn};
 ghost use Rattle.audit_expect.specs.Patterns.{AreWithin, IsLonger, IsOnPaths, IsPathOf, holds};
@@ -71,13 +71,20 @@ fn unexpected_on(
     Ok(Some(decision))
 }
 
+fn larger(one: usize, other: usize) -> usize
+    ensures one { one ≤ result }
+    ensures other { other ≤ result }
+{
+    if one < other { other } else { one }
+}
+
 /// As long as the longest of the patterns.
 fn longest(rules: &[Rule]) -> usize
     ensures { AreWithin rules.now result }
 {
     let mut most = 0;
     for rule in rules {
-        most = most.max(rule.pattern.len());
+        most = larger(most, rule.pattern.len());
     }
     most
 }
@@ -94,7 +101,8 @@ fn longer_rule(
 {
     let front = before_byte(b'*', pattern);
     let mut longer = escaped_text(alloc, front)?;
-    longer.push_str(&"*".repeat(alloc, longest(rules) + 1)?)?;
+    longer.push_str("*")?;
+    longer.push_str(&"*".repeat(alloc, longest(rules))?)?;
     push_escaped_bytes(&mut longer, &pattern[front.len()..])?;
     Ok(Rule {
         pattern: longer,

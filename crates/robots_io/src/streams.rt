@@ -31,7 +31,8 @@ pub enum WriteFault {
 }
 
 fn read_fault(error: Error) -> ReadFault
-    ensures { result ≢ ReadFault.Memory }
+    ensures folder { (result ≡ ReadFault.Folder) ↔ (error_kind error ≡ ErrorKind.IsADirectory) }
+    ensures other { result ≢ ReadFault.Memory }
 {
     match error.kind() {
         ErrorKind::IsADirectory => ReadFault::Folder,
