@@ -172,7 +172,8 @@ fn flaw_text(flaw: Flaw) -> &'static str {
         Flaw::Meant(_) => "no crawler has this name; did you mean ",
         Flaw::Form =>
             "write \"allow AGENT URL\" or \"deny AGENT URL\", or for a pattern allow-all or deny-all",
-        Flaw::Pattern => "a pattern starts with / or *, has no #, and if it has a $ at most 4,096 bytes",
+        Flaw::Pattern =>
+            "a pattern starts with / or *, has no #, and if it has a $ at most 4,096 bytes",
         Flaw::NotUtf8 => "the line isn't valid UTF-8",
         Flaw::Agent => "a crawler's name is a product token without a version, such as Googlebot",
         Flaw::Url =>

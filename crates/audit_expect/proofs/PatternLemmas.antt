@@ -42,10 +42,10 @@ is_longer pattern longer rules most are within =
     let back = drop (length front) pattern in
     let stars = repeat (suc most) (codes "*") in
     let whole : longer ≡ escaped front ++ (stars ++ escaped back) =
-        are ∙ ap (λ (text : List ℕ). text ++ escaped back) (append_assoc (escaped front) (codes "*") (repeat most (codes "*")))
-        ∙ append_assoc (escaped front) stars (escaped back) in
+    are ∙ ap (λ (text : List ℕ). text ++ escaped back) (append_assoc (escaped front) (codes "*") (repeat most (codes "*")))
+    ∙ append_assoc (escaped front) stars (escaped back) in
     let parts : escaped pattern ≡ escaped front ++ escaped back =
-        sym (ap escaped (rejoined _ pattern)) ∙ flat_map-append escape_byte front back in
+    sym (ap escaped (rejoined _ pattern)) ∙ flat_map-append escape_byte front back in
     record {
       matches = λ text is. rw whole (more_stars (suc most) (escaped front) (escaped back) text (rw parts at is));
       most = most;
@@ -74,8 +74,8 @@ only (b ∷ pattern) text ends (rest, consumed, is) = elim (cases_Bool (b == sta
         | inr other ↦
             let first : text ≡ b ∷ rest = rw (plain, other) at consumed in
             let later : has dollar (before_byte star pattern) ≡ true =
-                sym (ap (λ (v : Bool). v || has dollar (before_byte star pattern)) other)
-                ∙ sym (ap (has dollar) front) ∙ ends in
+            sym (ap (λ (v : Bool). v || has dollar (before_byte star pattern)) other)
+            ∙ sym (ap (has dollar) front) ∙ ends in
             first ∙ ap (λ (rest : List ℕ). b ∷ rest) (only pattern rest later is)
             ∙ sym (ap (before_byte dollar) front
             ∙ before_next b dollar (before_byte star pattern) other)
@@ -124,8 +124,8 @@ pub longest_next : (rules : List PlacedRule) (at : ℕ) (d : PlacedRule) (most l
 longest_next rules at d most larger below are more this rule listed =
     let one = slice_index_or rules at d in
     let next : unplaced (take (at + 1) rules) ≡ unplaced (take at rules) ++ one.rule ∷ [] =
-        ap unplaced (take_more rules at d below)
-        ∙ map-append (λ (placed : PlacedRule). placed.rule) (take at rules) (one ∷ []) in
+    ap unplaced (take_more rules at d below)
+    ∙ map-append (λ (placed : PlacedRule). placed.rule) (take at rules) (one ∷ []) in
     elim (Contains-push_cases (unplaced (take at rules)) one.rule rule
     (subst (λ (rules : List Rule). Contains rules rule) next listed)) [
       | inl before ↦ omega (arith, are rule before, more)

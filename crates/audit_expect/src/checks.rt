@@ -115,7 +115,12 @@ fn judgment_on(
 {
     match reading {
         Reading::Rejected(line) => Ok(Judgment::Rejected(*line)),
-        Reading::Accepted(_) if expectation.is_pattern => on_pattern(alloc, agent, expectation, read),
+        Reading::Accepted(_) if expectation.is_pattern => on_pattern(
+            alloc,
+            agent,
+            expectation,
+            read,
+        ),
         Reading::Accepted(robot) => decided_on(alloc, agent, expectation, robot, read),
     }
 }

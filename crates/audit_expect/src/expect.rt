@@ -141,7 +141,11 @@ fn is_pattern(alloc: Global, word: &[u8]) -> Result<bool, AllocError>
     ensures { IfOk result (λ answer. answer ≡ is_pattern word.now) }
 {
     let is_long = escaped_text(alloc, word)?.len() > 4096;
-    Ok((is_path(word) || word.starts_with(b"*")) && !has(b'#', word) && !(is_long && has(b'$', word)))
+    Ok(
+        (is_path(word) || word.starts_with(b"*"))
+            && !has(b'#', word)
+            && !(is_long && has(b'$', word)),
+    )
 }
 
 /// What is wrong with a pattern or a URL.

@@ -157,7 +157,10 @@ fn add_doubt(alloc: Global, found: &mut Findings, checked: &Checked<'_>) -> Resu
     };
     let (agent, name) = (checked.expectation.agent, row_at(crawler).0);
     let mut message = Line::new(alloc);
-    write!(message, "no known crawler and no group is called {agent}; did you mean {name}?")?;
+    write!(
+        message,
+        "no known crawler and no group is called {agent}; did you mean {name}?"
+    )?;
     let line = Some(checked.expectation.number);
     Ok(add(alloc, found, Level::Note, line, "misspelled-name", &message)?)
 }

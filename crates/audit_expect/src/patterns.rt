@@ -10,10 +10,9 @@ use robots_same::compare::{Comparison, compare};
 use robots_same::rule::Rule;
 use robots_warnings::rules::{before_byte, has};
 use std::alloc::{AllocError, Global};
-use texting_robots::Error;
 use texting_robots::minregex::MinRegex;
-use texting_robots::push_escaped_bytes;
 use texting_robots::robot::Decision;
+use texting_robots::{Error, push_escaped_bytes};
 
 /// Bounds how long is looked for a path that isn't decided as expected.
 const BUDGET: usize = 10_000_000;
@@ -156,7 +155,14 @@ fn on_all(
         Comparison::Undecided => return Ok(OnPaths::Undecided),
     };
     match std::str::from_utf8(&text) {
-        Ok(text) => on_text(alloc, allowed, pattern, &all[..count], text, OnPaths::Undecided),
+        Ok(text) => on_text(
+            alloc,
+            allowed,
+            pattern,
+            &all[..count],
+            text,
+            OnPaths::Undecided,
+        ),
         Err(_) => Ok(OnPaths::Undecided),
     }
 }

@@ -201,10 +201,7 @@ fn known_names(alloc: Global) -> Result<Vec<&'static str>, AllocError>
     Ok(names)
 }
 
-fn agents_given<'a>(
-    alloc: Global,
-    matches: &ArgMatches<'a>,
-) -> Result<Vec<&'a str>, AllocError>
+fn agents_given<'a>(alloc: Global, matches: &ArgMatches<'a>) -> Result<Vec<&'a str>, AllocError>
     ensures { IfOk result (λ agents. AreGiven matches.now (map (λ agent. agent.now) agents.items)) }
 {
     if matches.get_flag("known") {
