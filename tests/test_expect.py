@@ -1,7 +1,5 @@
 """`robots_audit --expect`: a line for each expectation that fails, in order, or how many hold if none fails."""
 
-import json
-
 import pytest
 from support import run
 
@@ -192,13 +190,12 @@ PATTERNS = {
     "an escape": (b"Disallow: /t%C3%A9", b"deny-all B /t\xc3\xa9e", None),
     "lowercase digits, which are compared as they are": (b"Disallow: /t%c3%a9", b"deny-all B /t\xc3\xa9", "B must be denied all of /t%C3%A9, but no rule matches /t%C3%A9"),
     "an empty Disallow": (b"Disallow: /\nDisallow:", b"deny-all B /a$", "B must be denied all of /a$, but line 3 allows /a"),
-    "which is no rule": (b"Disallow: /\nDisallow:", b"allow-all B /a$", f"B must be allowed all of /a$, but {OTHERWISE} 2 denies /a"),
-    "which is no rule for all": (b"Disallow: /b\nDisallow:", b"allow-all B /a", None),
+    "which is an Allow": (b"Disallow: /\nDisallow:", b"allow-all B /a", None),
     "the group of Googlebot": (b"Disallow: /b\n\nUser-agent: Googlebot\nDisallow: /a", b"allow-all Googlebot-News /a", f"Googlebot-News must be allowed all of /a, {GOOGLEBOT}, and line 5 denies /a"),
     "no group": (b"Disallow: /", b"deny-all AdsBot-Google /a", f"AdsBot-Google must be denied all of /a, {NOBODY}"),
     "a rejected file": (b"Disallow: /" + b"x" * 4096 + b"$", b"deny-all B /", "B must be denied all of /, but the file is rejected for B: line 2"),
     "a pattern of 4,096 bytes": (b"Disallow: /a", b"deny-all B /" + b"a" * 4_094 + b"$", None),
-    "many stars": (b"".join(b"Disallow: /%s\n" % b"".join(b"*%c" % (97 + (i * j) % 7) for j in range(1, 20)) for i in range(1, 500)), b"deny-all B /*a*b*c*d", "B must be denied all of /*a*b*c*d, but whether they are isn't decided: there are many stars"),
+    "many stars": (b"".join(b"Disallow: /%s\n" % b"".join(b"*%c" % (97 + (i * j) % 7) for j in range(1, 20)) for i in range(1, 500)), b"deny-all B /*a*b*c*d", "B must be denied all of /*a*b*c*d, but that isn't decided, since there are many stars"),
 }
 
 # a name, and which one it probably means
@@ -329,8 +326,6 @@ def test_misspelled_name(tmp_path, name, meant):
     text = f"allow {name} /tea".encode()
     assert outcome(check(tmp_path, text)) == (0, note + "1 expectation holds\n", "")
     assert outcome(check(tmp_path, text, robots=f"User-agent: {name}\nDisallow: /b\n".encode())) == (0, "1 expectation holds\n", "")
-    found = run("robots_audit", ["--expect", "expect.txt", "--json", "-"], ROBOTS, cwd=tmp_path)
-    assert (found.status, [(it["level"], it["name"]) for it in json.loads(found.out)["findings"]]) == (0, [("note", "misspelled-name")])
 
 
 @pytest.mark.parametrize("char", "-._~:/?[]@!&'()+,;=")

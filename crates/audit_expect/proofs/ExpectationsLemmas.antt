@@ -1,17 +1,17 @@
 -- Expectations: how they are found and checked.
-use Rattle.std.proofs.{Common.◌≡◌, Common.append_assoc, lemmas.Bool.cond-false, lemmas.Bool.cond-true}
+use Rattle.std.proofs.{Common.◌≡◌, lemmas.Bool.cond-false, lemmas.Bool.cond-true}
 use Rattle.std.proofs.Common.{◌≢◌, ℕ, zero, suc, ◌+◌, List, [], ◌∷◌, ◌++◌, arith, drop, length, refl}
 use Rattle.std.proofs.Common.{take, ◌<◌, map, slice_index_or}
 use Rattle.audit_expect.specs.Expect.{parts}
 use Rattle.audit_expect.specs.Internal.Expectations.{HasNone, IsFirstSeparator, expectation_value}
-use Rattle.std.proofs.lemmas.List.{append-nil, map-append, take_more, Concat.flat_map-append}
+use Rattle.std.proofs.lemmas.List.{map-append, take_more, Elements.filter-append}
 use Rattle.texting_robots.specs.Callers.{IsRejected, IsRobotWithoutSitemaps, RobotValue, file_limit, lines_read}
 use Rattle.texting_robots.specs.Callers.{placed_rules}
 use Rattle.texting_robots.specs.{Decision.IsDecisionOn, declared.decision.Decision.Decision}
 use Rattle.texting_robots.proofs.Shared.{answers_computed, read_robot, each_append}
 use Rattle.audit_core.specs.Findings.{Found}
 use Rattle.audit_expect.specs.{declared.expect.Expectation.Expectation}
-use Rattle.audit_expect.specs.Expectations.{AreFindingsOn, CheckedValue, IsChecked, doubts, failing}
+use Rattle.audit_expect.specs.Expectations.{AreFailuresOn, CheckedValue, IsChecked, failures}
 
 no_length : (text : List ℕ) → length text ≡ 0 → text ≡ []
 no_length [] e = refl
@@ -63,13 +63,13 @@ robot_found agent file target robot decision of by =
       alike.deciding,
     )
 
-pub findings_next : (file : List ℕ) (old mid new : List Found) (items : List Expectation) (place : ℕ)
+pub failures_next : (file : List ℕ) (old new : List Found) (items : List Expectation) (place : ℕ)
     (d : Expectation) (next : CheckedValue) → place < length items
-    → AreFindingsOn file (map expectation_value (take place items)) old
+    → AreFailuresOn file (map expectation_value (take place items)) old
     → next.expectation ≡ expectation_value (slice_index_or items place d) → IsChecked file next
-    → mid ≡ old ++ doubts next → new ≡ mid ++ failing next
-    → AreFindingsOn file (map expectation_value (take (place + 1) items)) new
-findings_next file old mid new items place d next below are same is doubted added =
+    → new ≡ old ++ failures (next ∷ [])
+    → AreFailuresOn file (map expectation_value (take (place + 1) items)) new
+failures_next file old new items place d next below are same is added =
     let one = slice_index_or items place d in
     record {
       checked = are.checked ++ next ∷ [];
@@ -81,5 +81,5 @@ findings_next file old mid new items place d next below are same is doubted adde
           );
       judged = grind (arith, each_append);
       whole =
-          grind (arith, append-nil, append_assoc, flat_map-append);
+          grind (arith, filter-append, map-append);
     }

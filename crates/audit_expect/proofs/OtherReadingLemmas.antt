@@ -9,7 +9,7 @@ use Rattle.std.proofs.lemmas.Option.{option_and_then_some, same_Some}
 use Rattle.std.proofs.lemmas.List.Elements.{All-map, Contains-append_left, Contains-get_or, Contains-push}
 use Rattle.std.proofs.lemmas.List.Elements.{Contains-push_cases}
 use Rattle.texting_robots.specs.Callers.{Allow, IsBetter, IsDecidingLine, IsDecidingRule, IsOverlong, Matches}
-use Rattle.texting_robots.specs.Callers.{IsRejected, IsVerdict, LineValue, PlacedRule, Rule, escaped, placed_rules}
+use Rattle.texting_robots.specs.Callers.{IsRejected, IsVerdict, LineValue, PlacedRule, Rule, placed_rules}
 use Rattle.texting_robots.specs.Callers.{Label, bodies_in, bodies_read, label_by_value, robots_file, unplaced}
 use Rattle.texting_robots.specs.declared.labels.{LabeledLine.LabeledLine}
 use Rattle.texting_robots.specs.{Statement.IsStatement, declared.parser.statement.Kind.TheVariants.Disallow}
@@ -25,8 +25,6 @@ use Rattle.robots_warnings.specs.FieldNames.{without_front}
 use Rattle.robots_warnings.specs.{File.lines_of, Read.IsRead, declared.read.FileRead.FileRead}
 use Rattle.audit_expect.specs.OtherReading.{IsNormalDecision, normal_rule}
 use Rattle.audit_expect.specs.OtherReading.{AreOthers, IsOtherDecision}
-use Rattle.audit_expect.specs.{Expect.ExpectationValue, Expectations.IsOnOtherPaths, Patterns.IsOnPaths}
-use Rattle.audit_expect.specs.{declared.patterns.OnPaths.OnPaths}
 use Rattle.audit_expect.specs.Internal.Expectations.{IsDecidedBy, IsPreferred, decision_with, is_empty}
 use Rattle.audit_expect.specs.Internal.Expectations.{is_empty_label, is_marked, marks_in, marks_of, others_of}
 
@@ -164,10 +162,6 @@ module _ (bodies : List (List ℕ)) (rules : List PlacedRule) (text : List ℕ) 
 
   pub decided_otherwise : IsDecisionOn others text decision → IsOtherDecision bodies rules text decision
   decided_otherwise is = record { others = others; are = others_are bodies rules; decided = is }
-
-  pub found_otherwise : (one : ExpectationValue) (found : OnPaths)
-      → IsOnPaths one.allowed (escaped one.url) others found → IsOnOtherPaths bodies rules one found
-  found_otherwise one found is = record { others = others; are = others_are bodies rules; found = is }
 
   pub decided_normally : IsDecisionOn (map normal_rule others) text decision
       → IsNormalDecision bodies rules text decision

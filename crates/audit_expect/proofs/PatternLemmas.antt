@@ -1,17 +1,18 @@
 -- Expectations about all paths that a pattern matches.
-use Rattle.std.proofs.Common.{◌≡◌, ◌∙◌, ◌||◌, ap, ℕ, zero, suc, ◌+◌, ◌<◌, ◌≤◌, ◌==◌, Bool, true, false, List, [], ◌∷◌}
-use Rattle.std.proofs.Common.{◌++◌, Contains, append_assoc, arith, codes, drop, inl, inr, length, length-append}
-use Rattle.std.proofs.Common.{one-add, refl, slice_index_or, subst, sym, take}
-use Rattle.std.specs.{List.repeat}
-use Rattle.std.proofs.lemmas.Bool.{cases_Bool, false≢true}
-use Rattle.std.proofs.lemmas.List.{map-append, take_more, Concat.flat_map-append}
+use Rattle.std.proofs.Common.{◌≡◌, ◌∙◌, ◌||◌, ap, ℕ, zero, suc, ◌<◌, ◌==◌, Bool, true, false, List, [], ◌∷◌}
+use Rattle.std.proofs.Common.{◌++◌, Contains, append_assoc, arith, codes, drop, inl, inr, length, one-add}
+use Rattle.std.proofs.Common.{refl, subst, sym, take}
+use Rattle.std.specs.{List.list_all, List.repeat, Prelude.nat_lt}
+use Rattle.std.proofs.lemmas.Bool.{cases_Bool, false≢true, Decides.nat_tests}
+use Rattle.std.proofs.lemmas.List.{map-append, Concat.flat_map-append, Sums.AllPass-from_list_all}
 use Rattle.std.proofs.lemmas.List.Elements.{Contains-push, Contains-push_cases}
 use Rattle.texting_robots.specs.Callers.{IsVerdict, Matches, PlacedRule, Rule, escaped, unplaced}
 use Rattle.texting_robots.specs.{Escape.escape_byte}
 use Rattle.texting_robots.specs.Pattern.{MatchesWith, dollar, star}
 use Rattle.robots_same.specs.Same.{HaveSameVerdicts}
+use Rattle.robots_needless.proofs.TogetherLemmas.{of_map}
 use Rattle.robots_warnings.specs.Rules.{before_byte, has}
-use Rattle.audit_expect.specs.Patterns.{AreWithin, IsLonger, IsPathOf}
+use Rattle.audit_expect.specs.Patterns.{IsPathOf}
 
 starred : (front back text : List ℕ) → Matches (front ++ back) text → Matches (front ++ star ∷ back) text
 unfolding MatchesWith
@@ -24,110 +25,111 @@ more_stars zero front back text is = is
 more_stars (suc number) front back text is =
     starred front (repeat number (codes "*") ++ back) text (more_stars number front back text is)
 
-stars_long : (number : ℕ) → length (repeat number (codes "*")) ≡ number
-stars_long zero = refl
-stars_long (suc number) = ap suc (stars_long number)
-
 rejoined : (k : ℕ) (text : List ℕ) → take k text ++ drop (length (take k text)) text ≡ text
 rejoined zero text = refl
 rejoined (suc k) [] = refl
 rejoined (suc k) (b ∷ text) = ap (λ (text : List ℕ). b ∷ text) (rejoined k text)
 
-pub is_longer : (pattern longer : List ℕ) (rules : List PlacedRule) (most : ℕ)
+pub longer_matches : (number : ℕ) (pattern longer : List ℕ)
     → (let front = before_byte star pattern in longer ≡ ((escaped front ++ codes "*")
-    ++ repeat most (codes "*")) ++ escaped (drop (length front) pattern))
-    → AreWithin rules most → IsLonger (escaped pattern) rules longer
-is_longer pattern longer rules most are within =
+    ++ repeat number (codes "*")) ++ escaped (drop (length front) pattern))
+    → (text : List ℕ) → Matches (escaped pattern) text → Matches longer text
+longer_matches number pattern longer are text is =
     let front = before_byte star pattern in
-    let back = drop (length front) pattern in
-    let stars = repeat (suc most) (codes "*") in
-    let whole : longer ≡ escaped front ++ (stars ++ escaped back) =
-    are ∙ ap (λ (text : List ℕ). text ++ escaped back) (append_assoc (escaped front) (codes "*") (repeat most (codes "*")))
-    ∙ append_assoc (escaped front) stars (escaped back) in
-    let parts : escaped pattern ≡ escaped front ++ escaped back =
-    sym (ap escaped (rejoined _ pattern)) ∙ flat_map-append escape_byte front back in
-    record {
-      matches = λ text is. rw whole (more_stars (suc most) (escaped front) (escaped back) text (rw parts at is));
-      most = most;
-      within = within;
-      longest = rw (whole, length-append, length-append) (omega (arith, stars_long (suc most)));
-    }
-
-before_here : (b c : ℕ) (text : List ℕ) → (b == c) ≡ true → before_byte c (b ∷ text) ≡ []
-before_here b c text here = rw here refl
+    let back = escaped (drop (length front) pattern) in
+    let stars = repeat (suc number) (codes "*") in
+    let whole : longer ≡ escaped front ++ (stars ++ back) =
+    are
+    ∙ ap (λ (t : List ℕ). t ++ back) (append_assoc (escaped front) (codes "*") (repeat number (codes "*")))
+    ∙ append_assoc (escaped front) stars back in
+    let parts : escaped pattern ≡ escaped front ++ back =
+    sym (ap escaped (rejoined _ pattern)) ∙ flat_map-append escape_byte front (drop (length front) pattern)
+    in
+    rw whole (more_stars (suc number) (escaped front) back text (rw parts at is))
 
 before_next : (b c : ℕ) (text : List ℕ) → (b == c) ≡ false → before_byte c (b ∷ text) ≡ b ∷ before_byte c text
 before_next b c text other = rw (other, one-add) refl
 
 -- a pattern with a dollar that no star precedes matches a single text
-pub only : (pattern text : List ℕ) → has dollar (before_byte star pattern) ≡ true → Matches pattern text
+only : (pattern text : List ℕ) → has dollar (before_byte star pattern) ≡ true → Matches pattern text
     → text ≡ before_byte dollar (before_byte star pattern)
 unfolding MatchesWith
 only [] text ends is = cc
 only (b ∷ pattern) text ends (rest, consumed, is) = elim (cases_Bool (b == star)) [
-  | inl wild ↦ absurd (false≢true (sym (ap (has dollar) (before_here b star pattern wild)) ∙ ends))
+  | inl wild ↦
+      let none : before_byte star (b ∷ pattern) ≡ [] = rw wild refl in
+      absurd (false≢true (sym (ap (has dollar) none) ∙ ends))
   | inr plain ↦
       let front = before_next b star pattern plain in
+      let later = before_byte star pattern in
       elim (cases_Bool (b == dollar)) [
-        | inl end ↦ (rw (plain, end) at consumed).0
-            ∙ sym (ap (before_byte dollar) front ∙ before_here b dollar (before_byte star pattern) end)
+        | inl end ↦
+            let none : before_byte dollar (b ∷ later) ≡ [] = rw end refl in
+            (rw (plain, end) at consumed).0 ∙ sym (ap (before_byte dollar) front ∙ none)
         | inr other ↦
             let first : text ≡ b ∷ rest = rw (plain, other) at consumed in
-            let later : has dollar (before_byte star pattern) ≡ true =
-            sym (ap (λ (v : Bool). v || has dollar (before_byte star pattern)) other)
+            let still : has dollar later ≡ true = sym (ap (λ (v : Bool). v || has dollar later) other)
             ∙ sym (ap (has dollar) front) ∙ ends in
-            first ∙ ap (λ (rest : List ℕ). b ∷ rest) (only pattern rest later is)
-            ∙ sym (ap (before_byte dollar) front
-            ∙ before_next b dollar (before_byte star pattern) other)
+            first ∙ ap (λ (t : List ℕ). b ∷ t) (only pattern rest still is)
+            ∙ sym (ap (before_byte dollar) front ∙ before_next b dollar later other)
       ]
 ]
 
-module _ (rules : List PlacedRule) (longer : PlacedRule) where
-  abbrev with_longer : List Rule
-  with_longer = unplaced rules ++ longer.rule ∷ []
+pub single_holds : (allowed : Bool) (pattern text : List ℕ) (rules : List PlacedRule)
+    → has dollar (before_byte star pattern) ≡ true → text ≡ before_byte dollar (before_byte star pattern)
+    → (IsPathOf pattern text → IsVerdict (unplaced rules) text allowed) → (other : List ℕ)
+    → IsPathOf pattern other → IsVerdict (unplaced rules) other allowed
+single_holds allowed pattern text rules ends is holds other path =
+    let same = sym (only pattern other ends path.matches ∙ sym is) in
+    subst (λ (t : List ℕ). IsVerdict (unplaced rules) t allowed) same
+    (holds (subst (IsPathOf pattern) (sym same) path))
 
-  all_with : unplaced (rules ++ longer ∷ []) ≡ with_longer
-  all_with = map-append (λ (placed : PlacedRule). placed.rule) rules (longer ∷ [])
+module _ (rules : List PlacedRule) (longer : PlacedRule) (pattern : List ℕ) (allowed : Bool)
+    (more : (text : List ℕ) → Matches pattern text → Matches longer.rule.0 text)
+    (shorter : list_all (λ (placed : PlacedRule). nat_lt (length placed.rule.0) (length longer.rule.0)) rules
+    ≡ true) (kind : longer.rule.1 ≡ allowed) where
+  abbrev all : List Rule
+  all = unplaced rules ++ longer.rule ∷ []
 
-  added : (allowed : Bool) (pattern text : List ℕ) → IsLonger pattern rules longer.rule.0
-      → longer.rule ≡ (longer.rule.0, allowed) → IsPathOf pattern text → IsVerdict with_longer text allowed
-  added true pattern text is kind path = λ denied.
-      let (other, denying, within, matches, longest) = denied in
-      let own = subst (Contains with_longer) kind (Contains-push (unplaced rules) longer.rule) in
-      let shorter = longest longer.rule.0 own (is.matches text path.matches) in
-      elim (Contains-push_cases (unplaced rules) longer.rule (denying, false) within) [
-        | inl listed ↦ absurd (omega (arith, shorter, is.longest, is.within (denying, false) listed))
-        | inr same ↦ absurd (false≢true (ap (λ (rule : Rule). rule.1) (same ∙ kind)))
-      ]
-  added false pattern text is kind path = (
+  below : (rule : Rule) → Contains (unplaced rules) rule → length rule.0 < length longer.rule.0
+  below rule listed =
+      let (placed, (k, within, at), is) = of_map (λ (placed : PlacedRule). placed.rule) rules rule listed in
+      let passes = AllPass-from_list_all
+      (λ (placed : PlacedRule). nat_lt (length placed.rule.0) (length longer.rule.0)) rules shorter k placed
+      within in
+      grind (arith, nat_tests)
+
+  own : (kind : Bool) → longer.rule.1 ≡ kind → Contains all (longer.rule.0, kind)
+  own kind is = subst (λ (kind : Bool). Contains all (longer.rule.0, kind)) is
+      (Contains-push (unplaced rules) longer.rule)
+
+  -- each other rule is shorter
+  among : (rule : Rule) → Contains all rule → (rule.1 ≡ allowed → ⊥) → length rule.0 < length longer.rule.0
+  among rule listed differs = elim (Contains-push_cases (unplaced rules) longer.rule rule listed) [
+    | inl before ↦ below rule before
+    | inr same ↦ absurd (differs (ap (λ (rule : Rule). rule.1) same ∙ kind))
+  ]
+
+  added : (verdict : Bool) → allowed ≡ verdict → (text : List ℕ) → IsPathOf pattern text
+      → IsVerdict all text verdict
+  added true is text path = λ denied.
+      let (other, p, listed, matches, longest) = denied in
+      absurd (omega (
+        arith,
+        longest longer.rule.0 (own true (kind ∙ is)) (more text path.matches),
+        among (p, false) listed (λ same. false≢true (same ∙ is)),
+      ))
+  added false is text path = (
     path.other,
     longer.rule.0,
-    subst (Contains with_longer) kind (Contains-push (unplaced rules) longer.rule),
-    is.matches text path.matches,
-    λ allowing within matches. elim (Contains-push_cases (unplaced rules) longer.rule (allowing, true) within) [
-      | inl listed ↦ omega (arith, is.longest, is.within (allowing, true) listed)
-      | inr same ↦ absurd (false≢true (sym (ap (λ (rule : Rule). rule.1) (same ∙ kind))))
-    ],
+    own false (kind ∙ is),
+    more text path.matches,
+    λ q listed matches. among (q, true) listed (λ same. false≢true (sym (same ∙ is))),
   )
 
-  pub all_hold : (allowed : Bool) (pattern : List ℕ) → IsLonger pattern rules longer.rule.0
-      → longer.rule.1 ≡ allowed
-      → HaveSameVerdicts (codes "/") (unplaced rules) (unplaced (rules ++ longer ∷ []))
+  pub all_hold : HaveSameVerdicts (codes "/") (unplaced rules) (unplaced (rules ++ longer ∷ []))
       → (text : List ℕ) → IsPathOf pattern text → IsVerdict (unplaced rules) text allowed
-  all_hold allowed pattern is kind same text path =
-      let verdict = added allowed pattern text is (ap (λ (allowed : Bool). (longer.rule.0, allowed)) kind) path in
-      rw path.begins ((same path.rest allowed).1 (rw (all_with, ← path.begins) verdict))
-
-pub longest_next : (rules : List PlacedRule) (at : ℕ) (d : PlacedRule) (most larger : ℕ) → at < length rules
-    → AreWithin (take at rules) most → most ≤ larger → length (slice_index_or rules at d).rule.0 ≤ larger
-    → AreWithin (take (at + 1) rules) larger
-longest_next rules at d most larger below are more this rule listed =
-    let one = slice_index_or rules at d in
-    let next : unplaced (take (at + 1) rules) ≡ unplaced (take at rules) ++ one.rule ∷ [] =
-    ap unplaced (take_more rules at d below)
-    ∙ map-append (λ (placed : PlacedRule). placed.rule) (take at rules) (one ∷ []) in
-    elim (Contains-push_cases (unplaced (take at rules)) one.rule rule
-    (subst (λ (rules : List Rule). Contains rules rule) next listed)) [
-      | inl before ↦ omega (arith, are rule before, more)
-      | inr same ↦ subst (λ (rule : Rule). length rule.0 ≤ larger) (sym same) this
-    ]
+  all_hold same text path =
+      let joined : unplaced (rules ++ longer ∷ []) ≡ all =
+      map-append (λ (placed : PlacedRule). placed.rule) rules (longer ∷ []) in
+      rw path.begins ((same path.rest allowed).1 (rw (joined, ← path.begins) (added allowed refl text path)))

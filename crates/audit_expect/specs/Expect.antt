@@ -159,7 +159,7 @@ unless_flaw one (Some flaw) = Err (one.number, flaw)
 -- the first word is one of four; what no crawler calls itself or asks for, such as a name with a
 -- version or a path without a slash at its start, could be allowed whatever the file says about the crawler
 -- or the page that is meant
-abbrev pub demanded : ℕ → (agent url : List ℕ) → Option (Bool × Bool) → LineOf ExpectationValue
+unfoldable pub demanded : ℕ → (agent url : List ℕ) → Option (Bool × Bool) → LineOf ExpectationValue
 demanded number agent url None = Err (number, Form)
 demanded number agent url (Some (allowed, is_pattern)) =
     if not (is_utf8 agent && is_utf8 url) then Err (number, NotUtf8)

@@ -1,37 +1,30 @@
 -- Expectations checked against a robots.txt file, and those that fail.
-use Rattle.std.specs.Prelude.{◌≡◌, ℕ, ◌==◌, Bool, true, false, not, ◌&&◌, ◌||◌, ◌++◌, ◌∷◌, List, Some, None}
-use Rattle.std.specs.Prelude.{Ok, Option, [], codes, flat_map, if◌then◌else◌, is_some, length, map}
-use Rattle.std.specs.{List.AllByRecursion as Each, List.list_any}
-use Rattle.texting_robots.specs.Callers.{IsFirstOverlong, IsRejected, LineValue, PlacedRule, bodies_read, escaped}
-use Rattle.texting_robots.specs.Callers.{is_named, lines_read, placed_rules}
+use Rattle.std.specs.Prelude.{◌≡◌, ℕ, ◌==◌, Bool, true, false, not, ◌||◌, List, Some, None, Ok, []}
+use Rattle.std.specs.Prelude.{codes, filter, if◌then◌else◌, length, map}
+use Rattle.std.specs.{List.AllByRecursion as Each}
+use Rattle.texting_robots.specs.Callers.{IsFirstOverlong, IsRejected, bodies_read, escaped}
+use Rattle.texting_robots.specs.Callers.{lines_read, placed_rules}
 use Rattle.texting_robots.specs.{Decision.IsDecisionOn, declared.decision.Decision.Decision}
-use Rattle.printable_text.specs.declared.level.Level.TheVariants.{Error, Note}
-use Rattle.printable_text.specs.{Text.reaches}
-use Rattle.robots_warnings.specs.{Crawlers.meant, Crawlers.other_group, Targets.normal_target, Targets.written_target}
+use Rattle.printable_text.specs.declared.level.Level.TheVariants.{Error}
+use Rattle.robots_warnings.specs.{Crawlers.other_group, Targets.normal_target, Targets.written_target}
 use Rattle.audit_expect.specs.declared.checks.AtVendor.{AtVendor}
 use Rattle.audit_expect.specs.declared.checks.Judgment.{Judgment, TheVariants.Decided, TheVariants.Rejected}
 use Rattle.audit_expect.specs.declared.checks.Judgment.{TheVariants.Everywhere, TheVariants.Rewritten}
 use Rattle.audit_expect.specs.declared.checks.AtVendor.TheVariants.{Group, Nobody, Same}
-use Rattle.audit_core.specs.{Asked.asked_target, Findings.Found, declared.findings.Finding.Finding}
+use Rattle.audit_core.specs.{Asked.asked_target, Findings.Found}
 use Rattle.audit_expect.specs.Expect.{ExpectationValue, expectations_in}
-use Rattle.audit_expect.specs.OtherReading.{AreOthers, IsNormalDecision, IsOtherDecision}
-use Rattle.audit_expect.specs.{Patterns.IsOnPaths, Patterns.holds, declared.patterns.OnPaths.OnPaths}
+use Rattle.audit_expect.specs.OtherReading.{IsNormalDecision, IsOtherDecision}
+use Rattle.audit_expect.specs.{Patterns.IsOnPaths, Patterns.holds}
 
 -- What is written and what is compared here have the same normal form. They don't if `url` changes what RFC
 -- 9309 compares, such as dot segments, a backslash, or an apostrophe in a query.
 abbrev pub IsAskedAsWritten : List ℕ → Type 0
 IsAskedAsWritten url = normal_target (asked_target url) ≡ normal_target (written_target url)
 
--- the same for the paths that a pattern matches, where an empty Disallow is no rule
-pub record IsOnOtherPaths (bodies : List (List ℕ)) (rules : List PlacedRule) (one : ExpectationValue)
-    (found : OnPaths) : Type 0 where
-  pub others : List PlacedRule
-  pub are : AreOthers bodies rules others
-  pub found : IsOnPaths one.allowed (escaped one.url) others found
-
 -- the file is rejected for the crawler, and this is the line of its first overlong rule; or `url` changes the
 -- URL; or these are the decisions: on what is compared here, where an empty Disallow is an Allow of `/`, as
--- here, and where it is no rule; and on what is written, where it is no rule and normal forms are compared
+-- here, and where it is no rule; and on what is written, where it is no rule and normal forms are compared; or
+-- it is a pattern, and this is found of the paths that it matches
 abbrev pub IsJudgmentOn : List ℕ → List ℕ → ExpectationValue → Judgment → Type 0
 IsJudgmentOn file agent one (Rejected line) = IsFirstOverlong (placed_rules agent (lines_read file)) line
 IsJudgmentOn file agent one Rewritten =
@@ -42,10 +35,10 @@ IsJudgmentOn file agent one (Decided decision other normal) =
     × IsOtherDecision (bodies_read file) rules (asked_target one.url) other
     × IsNormalDecision (bodies_read file) rules (normal_target (written_target one.url)) normal
     × IsAskedAsWritten one.url × (one.is_pattern ≡ false)
-IsJudgmentOn file agent one (Everywhere here other) =
-    let rules = placed_rules agent (lines_read file) in
-    (¬ IsRejected agent (lines_read file)) × IsOnPaths one.allowed (escaped one.url) rules here
-    × IsOnOtherPaths (bodies_read file) rules one other × (one.is_pattern ≡ true)
+IsJudgmentOn file agent one (Everywhere found) =
+    (¬ IsRejected agent (lines_read file))
+    × IsOnPaths one.allowed (escaped one.url) (placed_rules agent (lines_read file)) found
+    × (one.is_pattern ≡ true)
 
 -- the vendor of the crawler applies the group that applies here; or the one with this name, for which this is
 -- the judgment, as names are compared here; or none, so everything is allowed
@@ -56,21 +49,15 @@ IsAtVendor file one (Group name judgment) =
     × IsJudgmentOn file name.now one judgment
 IsAtVendor file one Nobody = other_group (lines_read file) one.agent ≡ Some []
 
--- the known crawler that is probably meant, if these lines don't have the name
-abbrev pub unnamed : List LineValue → List ℕ → Option ℕ
-unnamed lines agent = if is_named agent lines then None else meant agent
-
 -- an expectation and what the file says, here and at the vendor of its crawler
 pub record CheckedValue : Type 0 where
   pub expectation : ExpectationValue
   pub judgment : Judgment
   pub vendor : AtVendor
-  pub meant : Option ℕ
 
 pub record IsChecked (file : List ℕ) (checked : CheckedValue) : Type 0 where
   pub here : IsJudgmentOn file checked.expectation.agent checked.expectation checked.judgment
   pub at_vendor : IsAtVendor file checked.expectation checked.vendor
-  pub meant : checked.meant ≡ unnamed (lines_read file) checked.expectation.agent
 
 abbrev pub is_unexpected : Bool → Decision → Bool
 is_unexpected allowed decision = if allowed then not decision.allowed else decision.allowed
@@ -82,7 +69,7 @@ fails_at allowed (Rejected line) = true
 fails_at allowed Rewritten = true
 fails_at allowed (Decided decision other normal) =
     is_unexpected allowed decision || (is_unexpected allowed other || is_unexpected allowed normal)
-fails_at allowed (Everywhere here other) = not (holds here && holds other)
+fails_at allowed (Everywhere found) = not (holds found)
 
 abbrev pub fails_here : CheckedValue → Bool
 fails_here checked = fails_at checked.expectation.allowed checked.judgment
@@ -101,35 +88,20 @@ abbrev pub failure : CheckedValue → Found
 failure checked =
     record { level = Error; line = Some checked.expectation.number; name = codes "expectation" }
 
--- a name that is probably misspelled is a note
-abbrev pub doubt : CheckedValue → Found
-doubt checked =
-    record { level = Note; line = Some checked.expectation.number; name = codes "misspelled-name" }
+abbrev pub failures : List CheckedValue → List Found
+failures checked = map failure (filter fails checked)
 
-abbrev pub doubts : CheckedValue → List Found
-doubts checked = if is_some checked.meant then doubt checked ∷ [] else []
-
-abbrev pub failing : CheckedValue → List Found
-failing checked = if fails checked then failure checked ∷ [] else []
-
-abbrev pub findings : List CheckedValue → List Found
-findings checked = flat_map (λ one. doubts one ++ failing one) checked
-
--- all expectations hold
-abbrev pub all_hold : List Finding → Bool
-all_hold found = not (list_any (λ (one : Finding). reaches one.level Error) found)
-
--- what is found about the expectations on the file
-pub record AreFindingsOn (file : List ℕ) (expectations : List ExpectationValue) (found : List Found)
+-- those of the expectations that fail on the file
+pub record AreFailuresOn (file : List ℕ) (expectations : List ExpectationValue) (found : List Found)
     : Type 0 where
   pub checked : List CheckedValue
   pub all : map (λ (one : CheckedValue). one.expectation) checked ≡ expectations
   pub judged : Each (IsChecked file) checked
-  pub whole : found ≡ findings checked
+  pub whole : found ≡ failures checked
 
 -- those of the expectations in the text, of which there are some
-pub record AreFindingsOf (text file : List ℕ) (found : List Found) : Type 0 where
+pub record AreFailuresOf (text file : List ℕ) (found : List Found) : Type 0 where
   pub expectations : List ExpectationValue
   pub all : expectations_in text ≡ Ok expectations
   pub some : (length expectations == 0) ≡ false
-  pub found : AreFindingsOn file expectations found
+  pub failures : AreFailuresOn file expectations found

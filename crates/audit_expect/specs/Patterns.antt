@@ -1,7 +1,7 @@
 -- Expectations about all paths that a pattern matches.
-use Rattle.std.specs.Prelude.{◌≢◌, ◌≡◌, ◌<◌, ◌≤◌, ℕ, Bool, Contains, true, false, List, ◌++◌, codes, length}
+use Rattle.std.specs.Prelude.{◌≢◌, ◌≡◌, ℕ, Bool, true, false, List, ◌++◌, codes}
 use Rattle.std.specs.Prelude.{string_bytes}
-use Rattle.texting_robots.specs.Callers.{IsVerdict, Matches, PlacedRule, Rule, robots_file, unplaced}
+use Rattle.texting_robots.specs.Callers.{IsVerdict, Matches, PlacedRule, robots_file, unplaced}
 use Rattle.texting_robots.specs.{Decision.IsDecisionOn}
 use Rattle.audit_expect.specs.declared.patterns.{OnPaths.OnPaths, OnPaths.TheVariants.Fail}
 use Rattle.audit_expect.specs.declared.patterns.OnPaths.TheVariants.{Hold, Undecided}
@@ -25,14 +25,3 @@ IsOnPaths allowed pattern rules Undecided = Unit {0}
 abbrev pub holds : OnPaths → Bool
 holds Hold = true
 holds found = false
-
--- no pattern of these rules is longer
-abbrev pub AreWithin : List PlacedRule → ℕ → Type 0
-AreWithin rules most = (rule : Rule) → Contains (unplaced rules) rule → length rule.0 ≤ most
-
--- it matches whatever the pattern matches, and is longer than those of the rules
-pub record IsLonger (pattern : List ℕ) (rules : List PlacedRule) (longer : List ℕ) : Type 0 where
-  pub matches : (text : List ℕ) → Matches pattern text → Matches longer text
-  pub most : ℕ
-  pub within : AreWithin rules most
-  pub longest : most < length longer

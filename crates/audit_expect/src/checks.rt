@@ -1,7 +1,7 @@
 //! What a robots.txt file says about an expectation, here and at the crawler's vendor, and whether it fails.
 ghost use Rattle.std.specs.Prelude.{◌≡◌, IfErr, IfOk, false, take, true};
 ghost use Rattle.texting_robots.specs.Callers.{IsRejected, IsRobotWithoutSitemaps, file_limit, lines_read};
-ghost use Rattle.audit_expect.specs.Expectations.{IsAtVendor, IsChecked, IsJudgmentOn, fails, fails_at, unnamed};
+ghost use Rattle.audit_expect.specs.Expectations.{IsAtVendor, IsChecked, IsJudgmentOn, fails, fails_at};
 ghost use Rattle.audit_expect.specs.Expectations.{fails_at_vendor, fails_here, is_unexpected};
 ghost use Rattle.audit_core.specs.Internal.{IsReading};
 ghost use Rattle.robots_warnings.specs.Read.{IsRead};
@@ -9,13 +9,13 @@ ghost use Rattle.audit_expect.specs.Internal.Expectations.{checked_value, expect
 
 use crate::expect::Expectation;
 use crate::normal_form::written_form;
-use crate::other_reading::{normal_decision, other_decision, other_rules};
+use crate::other_reading::{normal_decision, other_decision};
 use crate::patterns::{OnPaths, holds, on_paths};
 use audit_core::asked::decision_on;
 use audit_core::audit::{Reading, read_for};
 use audit_core::fault::Fault;
 use robots_same::rule::rules_of;
-use robots_warnings::crawlers::{meant, other_group};
+use robots_warnings::crawlers::other_group;
 use robots_warnings::read::FileRead;
 use std::alloc::Global;
 use texting_robots::Robot;
@@ -30,8 +30,8 @@ pub(crate) enum Judgment {
     Rewritten,
     /// The decision, the one where an empty Disallow is no rule, and the same of normal forms.
     Decided(Decision, Decision, Decision),
-    /// The same of the first two for all paths that `url` matches.
-    Everywhere(OnPaths, OnPaths),
+    /// The first of these for all paths that `url` matches.
+    Everywhere(OnPaths),
 }
 
 /// Which group the vendor of a crawler applies.
@@ -51,8 +51,6 @@ pub(crate) struct Checked<'a> {
     pub(crate) expectation: Expectation<'a>,
     pub(crate) judgment: Judgment,
     pub(crate) vendor: AtVendor<'a>,
-    /// The known crawler whose name is probably meant.
-    pub(crate) meant: Option<usize>,
 }
 
 fn decided_on(
@@ -79,7 +77,6 @@ fn decided_on(
     Ok(Judgment::Decided(decision, other, normal))
 }
 
-/// The same of a pattern. An empty Disallow is no rule in the second reading.
 fn on_pattern(
     alloc: Global,
     agent: &str,
@@ -92,12 +89,10 @@ fn on_pattern(
     ensures ok { IfOk result (IsJudgmentOn read.now.bytes.now agent.now (expectation_value expectation.now)) }
     ensures fault { IfErr result (λ fault. fault ≡ Fault.Memory) }
 {
-    let (allowed, url) = (expectation.allowed, expectation.url);
     let rules = rules_of(alloc, &read.site, agent)?;
-    let here = on_paths(alloc, allowed, url, rules)?;
-    let others = other_rules(alloc, agent, read)?;
-    let other = on_paths(alloc, allowed, url, others)?;
-    Ok(Judgment::Everywhere(here, other))
+    let copy = rules_of(alloc, &read.site, agent)?;
+    let found = on_paths(alloc, expectation.allowed, expectation.url, &rules, copy)?;
+    Ok(Judgment::Everywhere(found))
 }
 
 /// `reading` is how the file is read for the crawler.
@@ -145,18 +140,6 @@ fn at_vendor<'a>(
     Ok(AtVendor::Group(group, judgment))
 }
 
-/// `None` also if the file has the name.
-fn unnamed(alloc: Global, agent: &str, read: &FileRead<'_>) -> Result<Option<usize>, Fault>
-    requires { IsRead read.now }
-    ensures ok { IfOk result (λ found. found ≡ unnamed (lines_read read.now.bytes.now) agent.now) }
-    ensures fault { IfErr result (λ fault. fault ≡ Fault.Memory) }
-{
-    if read.site.is_named(agent) {
-        return Ok(None);
-    }
-    Ok(meant(alloc, agent.as_bytes())?)
-}
-
 /// The same about an expectation.
 pub(crate) fn checked_on<'a>(
     alloc: Global,
@@ -176,7 +159,6 @@ pub(crate) fn checked_on<'a>(
         expectation: *expectation,
         judgment,
         vendor,
-        meant: unnamed(alloc, expectation.agent, read)?,
     })
 }
 
@@ -196,7 +178,7 @@ fn fails_at(allowed: bool, judgment: &Judgment) -> bool
                 || is_unexpected(allowed, other)
                 || is_unexpected(allowed, normal)
         }
-        Judgment::Everywhere(here, other) => !(holds(here) && holds(other)),
+        Judgment::Everywhere(found) => !holds(found),
     }
 }
 

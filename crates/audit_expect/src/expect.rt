@@ -167,12 +167,16 @@ fn asked_flaw(alloc: Global, expects_pattern: bool, word: &[u8]) -> Result<Optio
 fn demand_of(word: &[u8]) -> Option<(bool, bool)>
     ensures { result ≡ demand_of word.now }
 {
-    match word {
-        b"allow" => Some((true, false)),
-        b"deny" => Some((false, false)),
-        b"allow-all" => Some((true, true)),
-        b"deny-all" => Some((false, true)),
-        _ => None,
+    if word == b"allow".as_slice() {
+        Some((true, false))
+    } else if word == b"deny".as_slice() {
+        Some((false, false))
+    } else if word == b"allow-all".as_slice() {
+        Some((true, true))
+    } else if word == b"deny-all".as_slice() {
+        Some((false, true))
+    } else {
+        None
     }
 }
 
@@ -189,6 +193,7 @@ fn name_flaw(alloc: Global, name: &str) -> Result<Option<Flaw>, AllocError>
     Ok(meant(alloc, name.as_bytes())?.map(Flaw::Meant))
 }
 
+#[tactic(auto, unfolding(crate::specs::Expect::demanded))]
 fn expects<'a>(
     alloc: Global,
     number: usize,

@@ -4,7 +4,7 @@ ghost use Rattle.audit_core.specs.{Findings.Adds, Findings.found_of, Internal.Is
 ghost use Rattle.audit_core.specs.declared.fault.Entry.TheVariants as entry;
 ghost use Rattle.robots_warnings.specs.Read.{IsRead};
 ghost use Rattle.audit_expect.specs.Expect.{IsEntryFault, expectations_in as specified_in};
-ghost use Rattle.audit_expect.specs.Expectations.{AreFindingsOf, AreFindingsOn, all_hold, doubts, failing};
+ghost use Rattle.audit_expect.specs.Expectations.{AreFailuresOf, AreFailuresOn, failures};
 ghost use Rattle.audit_expect.specs.Internal.Expectations.{IsReadFor, checked_value, expectation_value};
 
 use crate::checks::{AtVendor, Checked, Judgment, checked_on, fails, fails_here, is_unexpected};
@@ -17,12 +17,13 @@ use audit_core::fault::{Entry, Fault};
 use audit_core::findings::{Finding, Findings, add};
 use printable_text::level::Level;
 use printable_text::report::{Line, Report};
-use robots_warnings::crawlers::row_at;
+use robots_warnings::crawlers::{meant, row_at};
 use robots_warnings::read::FileRead;
 use std::alloc::Global;
 use std::fmt;
 use std::fmt::Write;
 use texting_robots::robot::Decision;
+use texting_robots::site::Site;
 
 #[derive(Drop)]
 struct AgentReading<'a> {
@@ -65,11 +66,9 @@ fn write_on_paths(out: &mut Line, found: &OnPaths) -> fmt::Result {
     match found {
         OnPaths::Hold => Ok(()),
         OnPaths::Fail(path, decision) => write_decision(out, path, path, decision),
-        OnPaths::Undecided => out.write_str("whether they are isn't decided: there are many stars"),
+        OnPaths::Undecided => out.write_str("that isn't decided, since there are many stars"),
     }
 }
-
-const OTHERWISE: &str = "where an empty Disallow is no rule, as for RFC 9309 and Google, ";
 
 /// Why the decision for a crawler or a group isn't the expected one.
 fn write_judgment(
@@ -89,17 +88,13 @@ fn write_judgment(
                 return write_decision(out, target, "it", decision);
             }
             if is_unexpected(allowed, other) {
-                out.write_str(OTHERWISE)?;
+                out.write_str("where an empty Disallow is no rule, as for RFC 9309 and Google, ")?;
                 return write_decision(out, target, "it", other);
             }
             out.write_str("by RFC 9309, which compares normal forms, ")?;
             write_decision(out, target, "it", normal)
         }
-        Judgment::Everywhere(OnPaths::Hold, other) => {
-            out.write_str(OTHERWISE)?;
-            write_on_paths(out, other)
-        }
-        Judgment::Everywhere(here, _) => write_on_paths(out, here),
+        Judgment::Everywhere(found) => write_on_paths(out, found),
     }
 }
 
@@ -137,7 +132,8 @@ fn message_of(alloc: Global, checked: &Checked<'_>) -> Result<Line, Fault>
 }
 
 fn add_if_failing(alloc: Global, found: &mut Findings, checked: &Checked<'_>) -> Result<(), Fault>
-    ensures ok { OnOk result (Adds found.old.items found.new.items (failing (checked_value checked.now))) }
+    ensures ok { OnOk result (Adds found.old.items found.new.items
+        (failures (checked_value checked.now ∷ []))) }
     ensures fault { IfErr result (λ fault. fault ≡ Fault.Memory) }
 {
     if !fails(checked) {
@@ -148,30 +144,13 @@ fn add_if_failing(alloc: Global, found: &mut Findings, checked: &Checked<'_>) ->
     Ok(add(alloc, found, Level::Error, line, "expectation", &message)?)
 }
 
-fn add_doubt(alloc: Global, found: &mut Findings, checked: &Checked<'_>) -> Result<(), Fault>
-    ensures ok { OnOk result (Adds found.old.items found.new.items (doubts (checked_value checked.now))) }
-    ensures fault { IfErr result (λ fault. fault ≡ Fault.Memory) }
-{
-    let Some(crawler) = checked.meant else {
-        return Ok(());
-    };
-    let (agent, name) = (checked.expectation.agent, row_at(crawler).0);
-    let mut message = Line::new(alloc);
-    write!(
-        message,
-        "no known crawler and no group is called {agent}; did you mean {name}?"
-    )?;
-    let line = Some(checked.expectation.number);
-    Ok(add(alloc, found, Level::Note, line, "misspelled-name", &message)?)
-}
-
-fn findings<'a>(
+fn failures<'a>(
     alloc: Global,
     expectations: &[Expectation<'a>],
     read: &'a FileRead<'_>,
 ) -> Result<Findings, Fault>
     requires { IsRead read.now }
-    ensures ok { IfOk result (λ found. AreFindingsOn read.now.bytes.now (map expectation_value expectations.now)
+    ensures ok { IfOk result (λ found. AreFailuresOn read.now.bytes.now (map expectation_value expectations.now)
         (map found_of found.items)) }
     ensures fault { IfErr result (λ fault. fault ≡ Fault.Memory) }
 {
@@ -184,7 +163,6 @@ fn findings<'a>(
     for expectation in expectations {
         latest = reading_for(alloc, latest, expectation.agent, read)?;
         let checked = checked_on(alloc, expectation, &latest.reading, read)?;
-        add_doubt(alloc, &mut found, &checked)?;
         add_if_failing(alloc, &mut found, &checked)?;
     }
     Ok(found)
@@ -205,31 +183,46 @@ fn write_failure(out: &mut Report, name: &str, finding: &Finding) -> fmt::Result
         write!(out, ":{line}")?;
     }
     let message = finding.message.as_str();
-    let label = match finding.level {
-        Level::Note => "note: ",
-        _ => "",
-    };
-    write!(out, ": {label}{message}")?;
+    write!(out, ": {message}")?;
     out.end_line()
 }
 
-/// Whether all expectations hold, if these are the findings.
-pub fn all_hold(found: &[Finding]) -> bool
-    ensures { result ≡ all_hold found.now }
-{
-    !found.iter().any(|one| one.level.reaches(Level::Error))
+/// Writes a note for a name that is like that of a known crawler, if the file doesn't have it.
+fn write_note(
+    alloc: Global,
+    out: &mut Report,
+    name: &str,
+    expectation: &Expectation<'_>,
+    site: &Site,
+) -> fmt::Result {
+    let (line, agent) = (expectation.number, expectation.agent);
+    if site.is_named(agent) {
+        return Ok(());
+    }
+    if let Some(crawler) = meant(alloc, agent.as_bytes())? {
+        let meant = row_at(crawler).0;
+        write!(
+            out,
+            "{name}:{line}: note: no known crawler and no group is called {agent}; did you mean {meant}?"
+        )?;
+        out.end_line()?;
+    }
+    Ok(())
 }
 
-/// The number is that of all expectations.
 fn report_on(
     alloc: Global,
     name: &str,
-    number: usize,
+    expectations: &[Expectation<'_>],
+    site: &Site,
     found: &[Finding],
 ) -> Result<Report, fmt::Error> {
     let mut out = Report::new(alloc);
-    if all_hold(found) {
-        write_holding(&mut out, number)?;
+    for expectation in expectations {
+        write_note(alloc, &mut out, name, expectation, site)?;
+    }
+    if found.is_empty() {
+        write_holding(&mut out, expectations.len())?;
     }
     for finding in found {
         write_failure(&mut out, name, finding)?;
@@ -264,12 +257,12 @@ pub fn check(
     text: &[u8],
     file: &[u8],
 ) -> Result<(Report, Findings), Fault>
-    ensures ok { IfOk result (λ checked. AreFindingsOf text.now file.now (map found_of checked.1.items)) }
+    ensures ok { IfOk result (λ checked. AreFailuresOf text.now file.now (map found_of checked.1.items)) }
     ensures fault { IfErr result (IsEntryFault name.now entry.Expectation (specified_in text.now)) }
 {
     let expectations = parsed(alloc, name, text)?;
     let read = FileRead::new(alloc, "*", file)?;
-    let found = findings(alloc, &expectations, &read)?;
-    let report = report_on(alloc, name, expectations.len(), &found)?;
+    let found = failures(alloc, &expectations, &read)?;
+    let report = report_on(alloc, name, &expectations, &read.site, &found)?;
     Ok((report, found))
 }

@@ -36,11 +36,7 @@ fn is_marked(labels: &[LabeledLine<'_>], number: usize) -> bool
     }
 }
 
-pub(crate) fn other_rules(
-    alloc: Global,
-    agent: &str,
-    read: &FileRead<'_>,
-) -> Result<Vec<Rule>, AllocError>
+fn other_rules(alloc: Global, agent: &str, read: &FileRead<'_>) -> Result<Vec<Rule>, AllocError>
     requires { IsRead read.now }
     ensures { IfOk result (λ rules. rules.items ≡ others_of (bodies_read read.now.bytes.now)
         (placed_rules agent.now (lines_read read.now.bytes.now))) }

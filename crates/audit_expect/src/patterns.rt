@@ -1,8 +1,8 @@
 //! Expectations about all paths that a pattern matches.
-ghost use Rattle.std.specs.Prelude.{◌≡◌, ◌≢◌, ◌≤◌, All, IfErr, IfOk, MatchOption, string_bytes};
-ghost use Rattle.texting_robots.specs.Callers.{IsOverlong, IsVerdict, PlacedRule, escaped, unplaced};
-ghost use Rattle.texting_robots.specs.Decision.{IsDecisionOn};
-ghost use Rattle.audit_expect.specs.Patterns.{AreWithin, IsLonger, IsOnPaths, IsPathOf, holds};
+ghost use Rattle.std.specs.Prelude.{◌≡◌, All, IfErr, IfOk, MatchOption, nat_lt, length, string_bytes};
+ghost use Rattle.std.specs.List.{list_all};
+ghost use Rattle.texting_robots.specs.Callers.{IsOverlong, IsVerdict, Matches, PlacedRule, escaped, unplaced};
+ghost use Rattle.audit_expect.specs.Patterns.{IsOnPaths, IsPathOf, holds};
 
 use crate::other_reading::decision_of;
 use audit_core::fault::Fault;
@@ -42,19 +42,18 @@ pub(crate) fn escaped_text(alloc: Global, bytes: &[u8]) -> Result<String, AllocE
     Ok(text)
 }
 
-/// The decision on a text, if the pattern matches it as a path, and it isn't the expected one.
-fn unexpected_on(
+/// The failure, if the pattern matches the text as a path, and it isn't decided as expected.
+fn failure_on(
     alloc: Global,
     allowed: bool,
     pattern: &MinRegex,
     rules: &[Rule],
     text: &str,
-) -> Result<Option<Decision>, Fault>
+) -> Result<Option<OnPaths>, Fault>
     requires { All (λ (placed : PlacedRule). ¬ IsOverlong placed.rule.0) rules.now }
     ensures ok { IfOk result (λ found. MatchOption found
         (IsPathOf pattern.now text.now → IsVerdict (unplaced rules.now) text.now allowed)
-        (λ decision. IsPathOf pattern.now text.now × IsDecisionOn rules.now text.now decision
-        × (decision.allowed ≢ allowed))) }
+        (IsOnPaths allowed pattern.now rules.now)) }
     ensures fault { IfErr result (λ fault. fault ≡ Fault.Memory) }
 {
     let [b'/', ..] = text.as_bytes() else {
@@ -67,120 +66,91 @@ fn unexpected_on(
     if decision.allowed == allowed {
         return Ok(None);
     }
-    Ok(Some(decision))
+    Ok(Some(OnPaths::Fail(String::from_str(alloc, text)?, decision)))
 }
 
-fn larger(one: usize, other: usize) -> usize
-    ensures one { one ≤ result }
-    ensures other { other ≤ result }
-{
-    if one < other { other } else { one }
-}
-
-/// As long as the longest of the patterns.
-fn longest(rules: &[Rule]) -> usize
-    ensures { AreWithin rules.now result }
-{
+fn longest(rules: &[Rule]) -> usize {
     let mut most = 0;
     for rule in rules {
-        most = larger(most, rule.pattern.len());
+        if most < rule.pattern.len() {
+            most = rule.pattern.len();
+        }
     }
     most
 }
 
-/// A rule that matches whatever the pattern matches, and is longer than these, by more stars before the first
-/// star of the pattern or at its end.
-fn longer_rule(
-    alloc: Global,
-    allowed: bool,
-    pattern: &[u8],
-    rules: &[Rule],
-) -> Result<Rule, AllocError>
-    ensures { IfOk result (λ rule. IsLonger (escaped pattern.now) rules.now rule.rule.0 × (rule.rule.1 ≡ allowed)) }
+fn are_shorter(rules: &[Rule], than: usize) -> bool
+    ensures { result ≡ list_all (λ (placed : PlacedRule). nat_lt (length placed.rule.0) than) rules.now }
+{
+    rules.iter().all(|rule| rule.pattern.len() < than)
+}
+
+/// It matches what the pattern does, and is longer than the rules, by stars before its first one or at its end.
+fn longer_pattern(alloc: Global, pattern: &[u8], rules: &[Rule]) -> Result<String, AllocError>
+    ensures { IfOk result (λ longer. (text : List ℕ) → Matches (escaped pattern.now) text
+        → Matches (string_bytes longer) text) }
 {
     let front = before_byte(b'*', pattern);
     let mut longer = escaped_text(alloc, front)?;
     longer.push_str("*")?;
     longer.push_str(&"*".repeat(alloc, longest(rules))?)?;
     push_escaped_bytes(&mut longer, &pattern[front.len()..])?;
-    Ok(Rule {
-        pattern: longer,
-        is_allow: allowed,
-        line: 0,
-    })
+    Ok(longer)
 }
 
-/// The first if this text is a path that isn't decided as expected, and else the second.
-fn on_text(
-    alloc: Global,
-    allowed: bool,
-    pattern: &MinRegex,
-    rules: &[Rule],
-    text: &str,
-    otherwise: OnPaths,
-) -> Result<OnPaths, Fault>
-    requires rules { All (λ (placed : PlacedRule). ¬ IsOverlong placed.rule.0) rules.now }
-    requires otherwise { (IsPathOf pattern.now text.now → IsVerdict (unplaced rules.now) text.now allowed)
-        → IsOnPaths allowed pattern.now rules.now otherwise }
-    ensures ok { IfOk result (IsOnPaths allowed pattern.now rules.now) }
-    ensures fault { IfErr result (λ fault. fault ≡ Fault.Memory) }
-{
-    match unexpected_on(alloc, allowed, pattern, rules, text)? {
-        Some(decision) => Ok(OnPaths::Fail(String::from_str(alloc, text)?, decision)),
-        None => Ok(otherwise),
-    }
-}
-
-/// Where the rules with such a rule have the same verdicts as those without it, theirs are as expected.
-fn on_all(
+/// If a rule that is longer than the others changes no verdict, all paths are decided as it demands.
+fn on_many(
     alloc: Global,
     allowed: bool,
     pattern: &MinRegex,
     url: &[u8],
-    rules: Vec<Rule>,
+    rules: &[Rule],
+    copy: Vec<Rule>,
 ) -> Result<OnPaths, Fault>
     requires pattern { pattern.now ≡ escaped url.now }
-    requires rules { All (λ (placed : PlacedRule). ¬ IsOverlong placed.rule.0) rules.items }
-    ensures ok { IfOk result (IsOnPaths allowed pattern.now rules.items) }
+    requires rules { All (λ (placed : PlacedRule). ¬ IsOverlong placed.rule.0) rules.now }
+    requires copy { copy.items ≡ rules.now }
+    ensures ok { IfOk result (IsOnPaths allowed pattern.now rules.now) }
     ensures fault { IfErr result (λ fault. fault ≡ Fault.Memory) }
 {
-    let count = rules.len();
-    let rule = longer_rule(alloc, allowed, url, &rules)?;
-    let mut all = rules;
-    all.push(rule)?;
-    let mut left = BUDGET;
-    let text = match compare(alloc, b"/", &all[..count], &all, &mut left)? {
+    let longer = longer_pattern(alloc, url, rules)?;
+    if !are_shorter(rules, longer.len()) {
+        return Ok(OnPaths::Undecided);
+    }
+    let (mut all, mut left) = (copy, BUDGET);
+    all.push(Rule {
+        pattern: longer,
+        is_allow: allowed,
+        line: 0,
+    })?;
+    let text = match compare(alloc, b"/", rules, &all, &mut left)? {
         Comparison::Same => return Ok(OnPaths::Hold),
         Comparison::Differ(text) => text,
         Comparison::Undecided => return Ok(OnPaths::Undecided),
     };
-    match std::str::from_utf8(&text) {
-        Ok(text) => on_text(
-            alloc,
-            allowed,
-            pattern,
-            &all[..count],
-            text,
-            OnPaths::Undecided,
-        ),
-        Err(_) => Ok(OnPaths::Undecided),
+    let Ok(text) = std::str::from_utf8(&text) else {
+        return Ok(OnPaths::Undecided);
+    };
+    match failure_on(alloc, allowed, pattern, rules, text)? {
+        Some(failure) => Ok(failure),
+        None => Ok(OnPaths::Undecided),
     }
 }
 
-/// What the rules say of the paths that the pattern matches. With a `$` that no star precedes it matches a
-/// single text.
+/// With a `$` that no star precedes, a pattern matches a single text.
 pub(crate) fn on_paths(
     alloc: Global,
     allowed: bool,
     url: &str,
-    rules: Vec<Rule>,
+    rules: &[Rule],
+    copy: Vec<Rule>,
 ) -> Result<OnPaths, Fault>
-    requires { All (λ (placed : PlacedRule). ¬ IsOverlong placed.rule.0) rules.items }
-    ensures ok { IfOk result (IsOnPaths allowed (escaped url.now) rules.items) }
+    requires rules { All (λ (placed : PlacedRule). ¬ IsOverlong placed.rule.0) rules.now }
+    requires copy { copy.items ≡ rules.now }
+    ensures ok { IfOk result (IsOnPaths allowed (escaped url.now) rules.now) }
     ensures fault { IfErr result (λ fault. fault ≡ Fault.Memory) }
 {
-    let url = url.as_bytes();
-    let text = escaped_text(alloc, url)?;
+    let text = escaped_text(alloc, url.as_bytes())?;
     let pattern = match MinRegex::new(alloc, &text) {
         Ok(pattern) => pattern,
         Err(Error::Memory) => return Err(Fault::Memory),
@@ -188,10 +158,13 @@ pub(crate) fn on_paths(
     };
     let front = before_byte(b'*', text.as_bytes());
     if !has(b'$', front) {
-        return on_all(alloc, allowed, &pattern, url, rules);
+        return on_many(alloc, allowed, &pattern, url.as_bytes(), rules, copy);
     }
-    match std::str::from_utf8(before_byte(b'$', front)) {
-        Ok(text) => on_text(alloc, allowed, &pattern, &rules, text, OnPaths::Hold),
-        Err(_) => Ok(OnPaths::Undecided),
+    let Ok(text) = std::str::from_utf8(before_byte(b'$', front)) else {
+        return Ok(OnPaths::Undecided);
+    };
+    match failure_on(alloc, allowed, &pattern, rules, text)? {
+        Some(failure) => Ok(failure),
+        None => Ok(OnPaths::Hold),
     }
 }

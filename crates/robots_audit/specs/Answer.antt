@@ -20,7 +20,7 @@ use Rattle.robots_audit.specs.Command.{HasFile, IsFormatOf, IsOn, IsRequestOf, v
 use Rattle.audit_compare.specs.Compare.{ComparisonValue, IsComparison, all_differences, differs_nowhere}
 use Rattle.audit_compare.specs.Compare.{keeps_verdicts}
 use Rattle.audit_compare.specs.Compare.{rejects_some as rejects_one}
-use Rattle.audit_expect.specs.{Expectations.AreFindingsOf, Expectations.all_hold, UrlList.HasUrlsIn}
+use Rattle.audit_expect.specs.{Expectations.AreFailuresOf, UrlList.HasUrlsIn}
 use Rattle.audit_text.specs.{Github.github_text}
 use Rattle.audit_json.specs.{Json.IsJson, Json.findings_text, Sarif.IsLog}
 
@@ -117,8 +117,8 @@ pub record IsCompared (verdicts_only : Bool) (requested : RequestValue)
 -- a rejected file is a failure
 pub record IsExpected (format : Format) (name text file : List ℕ) (answer : Answer) : Type 0 where
   pub found : List Finding
-  pub of : AreFindingsOf text file (map found_of found)
-  pub listed : IsListed format name [] found false (all_hold found) answer
+  pub of : AreFailuresOf text file (map found_of found)
+  pub listed : IsListed format name [] found false (length found == 0) answer
 
 abbrev pub given_name : Option (List ℕ) → List ℕ
 given_name None = codes "-"

@@ -17,7 +17,7 @@ use audit_core::audit::{Audit, all_allowed, audit_of, rejects_some};
 use audit_core::fault::Fault;
 use audit_core::findings::{Findings, findings_of};
 use audit_core::request::{Format, Request};
-use audit_expect::expectations::{all_hold, check};
+use audit_expect::expectations::check;
 use audit_json::json::{findings_text, json_text};
 use audit_json::sarif::sarif_text;
 use audit_page::page::page_text;
@@ -210,7 +210,7 @@ pub fn expectations(
         ⊎ IsEntryFault name.now Expectation (expectations_in text.now) fault) }
 {
     let found = check(alloc, name, text, file)?;
-    let has_passed = all_hold(&found.1);
+    let has_passed = found.1.is_empty();
     Ok(listed(alloc, format, name, "", found, false, has_passed)?)
 }
 

@@ -52,7 +52,6 @@ checked_value checked = record {
   expectation = expectation_value checked.expectation;
   judgment = checked.judgment;
   vendor = checked.vendor;
-  meant = checked.meant;
 }
 
 -- how the file is read for this crawler

@@ -47,10 +47,10 @@ module _ (file agent : List ℕ) (this other : ExpectationValue) (plain : this.i
       → allowed ≡ too
   agree allowed too (Rejected line) two is also holds all = cc
   agree allowed too Rewritten two is also holds all = cc
-  agree allowed too (Everywhere here others) two is also holds all = absurd (false≢true (sym plain ∙ is.3))
+  agree allowed too (Everywhere found) two is also holds all = absurd (false≢true (sym plain ∙ is.2))
   agree allowed too one (Rejected line) is also holds all = cc
   agree allowed too one Rewritten is also holds all = cc
-  agree allowed too one (Everywhere here others) is also holds all = absurd (false≢true (sym both ∙ also.3))
+  agree allowed too one (Everywhere found) is also holds all = absurd (false≢true (sym both ∙ also.2))
   agree allowed too (Decided one first normal) (Decided two second also_normal) is also holds all =
       let rules = placed_rules agent (lines_read file) in
       let decided = subst (λ target. IsNormalDecision (bodies_read file) rules target also_normal) (sym same)
