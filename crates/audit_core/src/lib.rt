@@ -18,7 +18,6 @@ pub mod group;
 mod needless;
 pub mod request;
 pub mod rows;
-pub mod rules;
 pub mod sitemaps;
 pub mod syntax;
 pub mod texts;
