@@ -54,16 +54,17 @@ level_named word =
     if bytes_eq word (codes "error") then level.Error
     else if bytes_eq word (codes "note") then level.Note else level.Warning
 
-abbrev pub format_by_name : Option (List ℕ) → Format
-format_by_name name = option_map_or format_named name Text
+-- what `--json`, `--html`, `--github` and `--sarif`, if they are given, and the value of `--format` request
+abbrev pub requested_format : (is_json is_html is_github is_sarif : Bool) → Option (List ℕ) → Format
+requested_format is_json is_html is_github is_sarif name =
+    if is_json then Json else if is_html then Html else if is_github then Github else if is_sarif then Sarif
+    else option_map_or format_named name Text
 
--- the first of these that is given, or what the value of `--format` requests
 abbrev pub IsFormatOf : ArgMatches → Format → Type 0
 IsFormatOf matches format = (is_json is_html is_github is_sarif : Bool)
     × IsOn matches (codes "json") is_json × IsOn matches (codes "html") is_html
     × IsOn matches (codes "github") is_github × IsOn matches (codes "sarif") is_sarif
-    × (format ≡ (if is_json then Json else if is_html then Html else if is_github then Github
-    else if is_sarif then Sarif else format_by_name (value_of matches (codes "format"))))
+    × (format ≡ requested_format is_json is_html is_github is_sarif (value_of matches (codes "format")))
 
 abbrev pub has_urls : ArgMatches → Bool
 has_urls matches = is_some (value_of matches (codes "url")) || is_some (value_of matches (codes "urls"))

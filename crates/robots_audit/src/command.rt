@@ -4,7 +4,7 @@ ghost use Rattle.std.specs.List.{list_all};
 ghost use Rattle.robots_warnings.specs.Table.{is_name};
 ghost use Rattle.audit_expect.specs.UrlList.{IsUrlFault};
 ghost use Rattle.robots_audit.specs.Command.{AreAgentsOf, AreGiven, AreNamesOf, IsNoCrawlerOf, AreUrlsOf, Asks, HasFile, LacksUrls};
-ghost use Rattle.robots_audit.specs.Command.{file_read, IsFileFault, IsFormatOf, format_by_name, has_urls, is_stdin, IsUnknownIn, known_names};
+ghost use Rattle.robots_audit.specs.Command.{file_read, IsFileFault, IsFormatOf, requested_format, has_urls, is_stdin, IsUnknownIn, known_names};
 ghost use Rattle.robots_audit.specs.Command.{level_named, reads_stdin_twice, values_of};
 
 use crate::options::with_options;
@@ -127,30 +127,33 @@ fn strict_level(word: Option<&str>) -> Option<Level>
     }
 }
 
-fn format_by_name(name: Option<&str>) -> Format
-    ensures { result ≡ format_by_name (option_map (λ name. name.now) name.entry) }
+fn requested_format(
+    is_json: bool,
+    is_html: bool,
+    is_github: bool,
+    is_sarif: bool,
+    name: Option<&str>,
+) -> Format
+    ensures { result ≡ requested_format is_json is_html is_github is_sarif
+        (option_map (λ name. name.now) name.entry) }
 {
     match name {
+        _ if is_json => Format::Json,
+        _ if is_html => Format::Html,
+        _ if is_github => Format::Github,
+        _ if is_sarif => Format::Sarif,
         Some(name) => Format::named(name),
         None => Format::Text,
     }
 }
 
-/// The first of these that is requested, or else what `--format` says.
 pub fn format_of(matches: &ArgMatches<'_>) -> Format
     ensures { IsFormatOf matches.now result }
 {
-    if matches.get_flag("json") {
-        Format::Json
-    } else if matches.get_flag("html") {
-        Format::Html
-    } else if matches.get_flag("github") {
-        Format::Github
-    } else if matches.get_flag("sarif") {
-        Format::Sarif
-    } else {
-        format_by_name(matches.get_str("format"))
-    }
+    let (is_json, is_html) = (matches.get_flag("json"), matches.get_flag("html"));
+    let (is_github, is_sarif) = (matches.get_flag("github"), matches.get_flag("sarif"));
+    let name = matches.get_str("format");
+    requested_format(is_json, is_html, is_github, is_sarif, name)
 }
 
 fn values_of<'a>(
