@@ -1,17 +1,17 @@
 -- Expectations about all paths that a pattern matches.
-use Rattle.std.proofs.Common.{◌≡◌, ◌∙◌, ◌||◌, ap, ℕ, zero, suc, ◌<◌, ◌==◌, Bool, true, false, List, [], ◌∷◌}
-use Rattle.std.proofs.Common.{◌++◌, Contains, append_assoc, arith, codes, drop, inl, inr, length, one-add}
-use Rattle.std.proofs.Common.{refl, subst, sym, take}
+use Rattle.std.proofs.Common.{◌≡◌, ◌∙◌, ap, ℕ, zero, suc, ◌<◌, Bool, true, false, List, [], ◌∷◌, ◌++◌}
+use Rattle.std.proofs.Common.{Contains, append_assoc, arith, codes, drop, inl, inr, length, refl, subst}
+use Rattle.std.proofs.Common.{sym, take}
 use Rattle.std.specs.{List.list_all, List.repeat, Prelude.nat_lt}
-use Rattle.std.proofs.lemmas.Bool.{cases_Bool, false≢true, Decides.nat_tests}
+use Rattle.std.proofs.lemmas.Bool.{false≢true, Decides.nat_tests}
 use Rattle.std.proofs.lemmas.List.{map-append, Concat.flat_map-append, Sums.AllPass-from_list_all}
 use Rattle.std.proofs.lemmas.List.Elements.{Contains-push, Contains-push_cases}
 use Rattle.texting_robots.specs.Callers.{IsVerdict, Matches, PlacedRule, Rule, escaped, unplaced}
 use Rattle.texting_robots.specs.{Escape.escape_byte}
-use Rattle.texting_robots.specs.Pattern.{MatchesWith, dollar, star}
+use Rattle.texting_robots.specs.Pattern.{MatchesWith, star}
 use Rattle.robots_same.specs.Same.{HaveSameVerdicts}
 use Rattle.robots_needless.proofs.TogetherLemmas.{of_map}
-use Rattle.robots_warnings.specs.Rules.{before_byte, has}
+use Rattle.robots_warnings.specs.Rules.{before_byte}
 use Rattle.audit_expect.specs.Patterns.{IsPathOf}
 
 starred : (front back text : List ℕ) → Matches (front ++ back) text → Matches (front ++ star ∷ back) text
@@ -46,43 +46,6 @@ longer_matches number pattern longer are text is =
     sym (ap escaped (rejoined _ pattern)) ∙ flat_map-append escape_byte front (drop (length front) pattern)
     in
     rw whole (more_stars (suc number) (escaped front) back text (rw parts at is))
-
-before_next : (b c : ℕ) (text : List ℕ) → (b == c) ≡ false → before_byte c (b ∷ text) ≡ b ∷ before_byte c text
-before_next b c text other = rw (other, one-add) refl
-
--- a pattern with a dollar that no star precedes matches a single text
-only : (pattern text : List ℕ) → has dollar (before_byte star pattern) ≡ true → Matches pattern text
-    → text ≡ before_byte dollar (before_byte star pattern)
-unfolding MatchesWith
-only [] text ends is = cc
-only (b ∷ pattern) text ends (rest, consumed, is) = elim (cases_Bool (b == star)) [
-  | inl wild ↦
-      let none : before_byte star (b ∷ pattern) ≡ [] = rw wild refl in
-      absurd (false≢true (sym (ap (has dollar) none) ∙ ends))
-  | inr plain ↦
-      let front = before_next b star pattern plain in
-      let later = before_byte star pattern in
-      elim (cases_Bool (b == dollar)) [
-        | inl end ↦
-            let none : before_byte dollar (b ∷ later) ≡ [] = rw end refl in
-            (rw (plain, end) at consumed).0 ∙ sym (ap (before_byte dollar) front ∙ none)
-        | inr other ↦
-            let first : text ≡ b ∷ rest = rw (plain, other) at consumed in
-            let still : has dollar later ≡ true = sym (ap (λ (v : Bool). v || has dollar later) other)
-            ∙ sym (ap (has dollar) front) ∙ ends in
-            first ∙ ap (λ (t : List ℕ). b ∷ t) (only pattern rest still is)
-            ∙ sym (ap (before_byte dollar) front ∙ before_next b dollar later other)
-      ]
-]
-
-pub single_holds : (allowed : Bool) (pattern text : List ℕ) (rules : List PlacedRule)
-    → has dollar (before_byte star pattern) ≡ true → text ≡ before_byte dollar (before_byte star pattern)
-    → (IsPathOf pattern text → IsVerdict (unplaced rules) text allowed) → (other : List ℕ)
-    → IsPathOf pattern other → IsVerdict (unplaced rules) other allowed
-single_holds allowed pattern text rules ends is holds other path =
-    let same = sym (only pattern other ends path.matches ∙ sym is) in
-    subst (λ (t : List ℕ). IsVerdict (unplaced rules) t allowed) same
-    (holds (subst (IsPathOf pattern) (sym same) path))
 
 module _ (rules : List PlacedRule) (longer : PlacedRule) (pattern : List ℕ) (allowed : Bool)
     (more : (text : List ℕ) → Matches pattern text → Matches longer.rule.0 text)

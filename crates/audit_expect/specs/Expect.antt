@@ -1,8 +1,8 @@
 -- The lines of a text, the entries in them, and the expectations in the file of `--expect`, one per line.
 use Rattle.std.specs.Prelude.{◌≡◌, ℕ, nat_eq, suc, ◌==◌, Bool, true, false, not, ◌&&◌, ◌||◌, List, [], ◌∷◌, ◌++◌}
 use Rattle.std.specs.Prelude.{Option, Some, None, Result, Ok, Err, bytes_eq, codes, filter, if◌then◌else◌}
-use Rattle.std.specs.Prelude.{length, nat_lt, option_map, string_bytes}
-use Rattle.std.specs.{List.list_any, List.starts_with, Option.option_or, Option.option_to_list, Str.byte, Str.is_utf8}
+use Rattle.std.specs.Prelude.{◌-◌, length, nat_lt, option_map, string_bytes, take}
+use Rattle.std.specs.{List.ends_with, List.list_any, List.starts_with, Option.option_or, Option.option_to_list, Str.byte, Str.is_utf8}
 use Rattle.texting_robots.specs.Callers.{escaped}
 use Rattle.robots_warnings.specs.Rules.{after_byte, before_byte, has}
 use Rattle.robots_warnings.specs.Crawlers.{is_wrong, meant}
@@ -137,7 +137,13 @@ asked_flaw expects_pattern word =
     else if not expects_pattern && not (is_path_or_url word) then Some Url
     else if is_asked_otherwise word then Some Path else None
 
--- whether a URL or a pattern is to be allowed, and whether it is a pattern
+-- whether it is a pattern, and it or the only path that it matches
+abbrev pub asked : (expects_all : Bool) → List ℕ → Bool × List ℕ
+asked expects_all word =
+    if expects_all && (ends_with nat_eq word (codes "$") && not (has (byte "*") word))
+    then (false, take (length word - 1) word) else (expects_all, word)
+
+-- whether it is to be allowed, and whether all paths of a pattern are meant
 abbrev pub demand_of : List ℕ → Option (Bool × Bool)
 demand_of word =
     if bytes_eq word (codes "allow") then Some (true, false)
@@ -161,15 +167,16 @@ unless_flaw one (Some flaw) = Err (one.number, flaw)
 -- or the page that is meant
 unfoldable pub demanded : ℕ → (agent url : List ℕ) → Option (Bool × Bool) → LineOf ExpectationValue
 demanded number agent url None = Err (number, Form)
-demanded number agent url (Some (allowed, is_pattern)) =
-    if not (is_utf8 agent && is_utf8 url) then Err (number, NotUtf8)
+demanded number agent url (Some (allowed, expects_all)) =
+    let (is_pattern, text) = asked expects_all url in
+    if not (is_utf8 agent && is_utf8 text) then Err (number, NotUtf8)
     else unless_flaw (record {
       number = number;
       allowed = allowed;
       agent = agent;
-      url = url;
+      url = text;
       is_pattern = is_pattern;
-    }) (option_or (name_flaw agent) (asked_flaw is_pattern url))
+    }) (option_or (name_flaw agent) (asked_flaw is_pattern text))
 
 abbrev pub expects : ℕ → List ℕ → List ℕ → List ℕ → LineOf ExpectationValue
 expects number word agent url = demanded number agent url (demand_of word)

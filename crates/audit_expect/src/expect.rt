@@ -1,7 +1,7 @@
 //! The expectations in the file of `--expect`, one per line, and how a text is cut into parts.
 ghost use Rattle.std.specs.Prelude.{◌≡◌, ◌≢◌, ◌<◌, ◌∷◌, ◌++◌, [], IfErr, IfOk, MatchOption, Ok, OnOk};
 ghost use Rattle.std.specs.Prelude.{if◌then◌else◌, length, map};
-ghost use Rattle.audit_expect.specs.Expect.{IsLineFault, asked_flaw, demand_of, entries_at, entries_of, expectation_in};
+ghost use Rattle.audit_expect.specs.Expect.{IsLineFault, asked, asked_flaw, demand_of, entries_at, entries_of, expectation_in};
 ghost use Rattle.audit_expect.specs.Expect.{expectations_in, expects, is_asked_otherwise, is_comment, is_in};
 ghost use Rattle.audit_expect.specs.Expect.{is_path, is_path_or_url, is_pattern, name_flaw, lines, malformed_at, parts, words};
 ghost use Rattle.audit_expect.specs.Expect.{words_with_name};
@@ -163,7 +163,7 @@ fn asked_flaw(alloc: Global, expects_pattern: bool, word: &[u8]) -> Result<Optio
     }
 }
 
-/// Whether the URL is to be allowed, and whether it is a pattern.
+/// Whether it is to be allowed, and whether all paths of a pattern are meant.
 fn demand_of(word: &[u8]) -> Option<(bool, bool)>
     ensures { result ≡ demand_of word.now }
 {
@@ -177,6 +177,16 @@ fn demand_of(word: &[u8]) -> Option<(bool, bool)>
         Some((false, true))
     } else {
         None
+    }
+}
+
+/// Whether it is a pattern, and it or the only path that it matches.
+fn asked(expects_all: bool, word: &[u8]) -> (bool, &[u8])
+    ensures { (result.0, result.1.now) ≡ asked expects_all word.now }
+{
+    match word {
+        [path @ .., b'$'] if expects_all && !has(b'*', word) => (false, path),
+        _ => (expects_all, word),
     }
 }
 
@@ -203,9 +213,10 @@ fn expects<'a>(
 ) -> Result<Line<Expectation<'a>>, AllocError>
     ensures { IfOk result (λ found. line_by expectation_value found ≡ expects number word.now agent.now url.now) }
 {
-    let Some((allowed, is_pattern)) = demand_of(word) else {
+    let Some((allowed, expects_all)) = demand_of(word) else {
         return Ok(Err((number, Flaw::Form)));
     };
+    let (is_pattern, url) = asked(expects_all, url);
     let (Some(agent), Some(url)) = (as_text(agent), as_text(url)) else {
         return Ok(Err((number, Flaw::NotUtf8)));
     };

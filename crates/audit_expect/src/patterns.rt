@@ -1,14 +1,14 @@
 //! Expectations about all paths that a pattern matches.
-ghost use Rattle.std.specs.Prelude.{◌≡◌, All, IfErr, IfOk, MatchOption, nat_lt, length, string_bytes};
+ghost use Rattle.std.specs.Prelude.{◌≡◌, ℕ, All, IfErr, IfOk, List, length, nat_lt, string_bytes};
 ghost use Rattle.std.specs.List.{list_all};
-ghost use Rattle.texting_robots.specs.Callers.{IsOverlong, IsVerdict, Matches, PlacedRule, escaped, unplaced};
-ghost use Rattle.audit_expect.specs.Patterns.{IsOnPaths, IsPathOf, holds};
+ghost use Rattle.texting_robots.specs.Callers.{IsOverlong, Matches, PlacedRule, escaped};
+ghost use Rattle.audit_expect.specs.Patterns.{IsOnPaths, holds};
 
 use crate::other_reading::decision_of;
 use audit_core::fault::Fault;
 use robots_same::compare::{Comparison, compare};
 use robots_same::rule::Rule;
-use robots_warnings::rules::{before_byte, has};
+use robots_warnings::rules::before_byte;
 use std::alloc::{AllocError, Global};
 use texting_robots::minregex::MinRegex;
 use texting_robots::robot::Decision;
@@ -46,27 +46,30 @@ pub(crate) fn escaped_text(alloc: Global, bytes: &[u8]) -> Result<String, AllocE
 fn failure_on(
     alloc: Global,
     allowed: bool,
-    pattern: &MinRegex,
+    pattern: &str,
     rules: &[Rule],
     text: &str,
-) -> Result<Option<OnPaths>, Fault>
+) -> Result<OnPaths, Fault>
     requires { All (λ (placed : PlacedRule). ¬ IsOverlong placed.rule.0) rules.now }
-    ensures ok { IfOk result (λ found. MatchOption found
-        (IsPathOf pattern.now text.now → IsVerdict (unplaced rules.now) text.now allowed)
-        (IsOnPaths allowed pattern.now rules.now)) }
+    ensures ok { IfOk result (IsOnPaths allowed pattern.now rules.now) }
     ensures fault { IfErr result (λ fault. fault ≡ Fault.Memory) }
 {
-    let [b'/', ..] = text.as_bytes() else {
-        return Ok(None);
+    let regex = match MinRegex::new(alloc, pattern) {
+        Ok(regex) => regex,
+        Err(Error::Memory) => return Err(Fault::Memory),
+        Err(_) => return Ok(OnPaths::Undecided),
     };
-    if text == "/robots.txt" || !pattern.is_match(text) {
-        return Ok(None);
+    let [b'/', ..] = text.as_bytes() else {
+        return Ok(OnPaths::Undecided);
+    };
+    if text == "/robots.txt" || !regex.is_match(text) {
+        return Ok(OnPaths::Undecided);
     }
     let decision = decision_of(alloc, rules, text)?;
     if decision.allowed == allowed {
-        return Ok(None);
+        return Ok(OnPaths::Undecided);
     }
-    Ok(Some(OnPaths::Fail(String::from_str(alloc, text)?, decision)))
+    Ok(OnPaths::Fail(String::from_str(alloc, text)?, decision))
 }
 
 fn longest(rules: &[Rule]) -> usize {
@@ -99,21 +102,19 @@ fn longer_pattern(alloc: Global, pattern: &[u8], rules: &[Rule]) -> Result<Strin
 }
 
 /// If a rule that is longer than the others changes no verdict, all paths are decided as it demands.
-fn on_many(
+pub(crate) fn on_paths(
     alloc: Global,
     allowed: bool,
-    pattern: &MinRegex,
-    url: &[u8],
+    url: &str,
     rules: &[Rule],
     copy: Vec<Rule>,
 ) -> Result<OnPaths, Fault>
-    requires pattern { pattern.now ≡ escaped url.now }
     requires rules { All (λ (placed : PlacedRule). ¬ IsOverlong placed.rule.0) rules.now }
     requires copy { copy.items ≡ rules.now }
-    ensures ok { IfOk result (IsOnPaths allowed pattern.now rules.now) }
+    ensures ok { IfOk result (IsOnPaths allowed (escaped url.now) rules.now) }
     ensures fault { IfErr result (λ fault. fault ≡ Fault.Memory) }
 {
-    let longer = longer_pattern(alloc, url, rules)?;
+    let longer = longer_pattern(alloc, url.as_bytes(), rules)?;
     if !are_shorter(rules, longer.len()) {
         return Ok(OnPaths::Undecided);
     }
@@ -131,40 +132,6 @@ fn on_many(
     let Ok(text) = std::str::from_utf8(&text) else {
         return Ok(OnPaths::Undecided);
     };
-    match failure_on(alloc, allowed, pattern, rules, text)? {
-        Some(failure) => Ok(failure),
-        None => Ok(OnPaths::Undecided),
-    }
-}
-
-/// With a `$` that no star precedes, a pattern matches a single text.
-pub(crate) fn on_paths(
-    alloc: Global,
-    allowed: bool,
-    url: &str,
-    rules: &[Rule],
-    copy: Vec<Rule>,
-) -> Result<OnPaths, Fault>
-    requires rules { All (λ (placed : PlacedRule). ¬ IsOverlong placed.rule.0) rules.now }
-    requires copy { copy.items ≡ rules.now }
-    ensures ok { IfOk result (IsOnPaths allowed (escaped url.now) rules.now) }
-    ensures fault { IfErr result (λ fault. fault ≡ Fault.Memory) }
-{
-    let text = escaped_text(alloc, url.as_bytes())?;
-    let pattern = match MinRegex::new(alloc, &text) {
-        Ok(pattern) => pattern,
-        Err(Error::Memory) => return Err(Fault::Memory),
-        Err(_) => return Ok(OnPaths::Undecided),
-    };
-    let front = before_byte(b'*', text.as_bytes());
-    if !has(b'$', front) {
-        return on_many(alloc, allowed, &pattern, url.as_bytes(), rules, copy);
-    }
-    let Ok(text) = std::str::from_utf8(before_byte(b'$', front)) else {
-        return Ok(OnPaths::Undecided);
-    };
-    match failure_on(alloc, allowed, &pattern, rules, text)? {
-        Some(failure) => Ok(failure),
-        None => Ok(OnPaths::Hold),
-    }
+    let pattern = escaped_text(alloc, url.as_bytes())?;
+    failure_on(alloc, allowed, &pattern, rules, text)
 }

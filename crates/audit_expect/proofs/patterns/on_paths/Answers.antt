@@ -1,7 +1,9 @@
-use Rattle.texting_robots.specs.Callers.{escaped}
-use Rattle.audit_expect.proofs.PatternLemmas.{single_holds}
+use Rattle.std.proofs.Common.{refl}
+use Rattle.audit_expect.proofs.PatternLemmas.{all_hold}
 use Rattle.audit_expect.proofs.patterns.on_paths.Goals as goal
 
-pub returns-in-None-clause-ok : goal.returns-in-None-clause-ok
-returns-in-None-clause-ok c =
-    single_holds c.args.allowed (escaped c.args.url.now) c.in-Ok-from_utf8.text.now c.args.rules.now (cc) (cc) ?
+pub returns-in-Same-clause-ok : goal.returns-in-Same-clause-ok
+returns-in-Same-clause-ok c =
+    all_hold c.args.rules.now _ _ c.args.allowed c.in_ok-longer.ensures (cc) refl
+    (rw (c.in-Same.is, c.deref.ensures.value, c.in_ok-push.ensures.items, c.requires.copy)
+    at c.in_ok-compare.ensures)
