@@ -168,7 +168,7 @@ def test_documents_name_functions_and_lemmas_that_exist(name):
 def test_documents_name_warnings_and_options_that_exist(name):
     """Names with a hyphen are warnings, field names or Debian's packages. Some options are those of pytest and of bench/compare.py."""
     names = set(re.findall(r"`(?!python3-)([a-z0-9]+(?:-[a-z0-9]+)+)`", DOCUMENTS[name]))
-    assert names <= {*WARNINGS, *FINDINGS, "crawl-delay", "site-map", "user-agent"}
+    assert names <= {*WARNINGS, *FINDINGS, "allow-all", "crawl-delay", "deny-all", "site-map", "user-agent"}
     options = set(re.findall(r"`(?:robots_audit )?(--[a-z-]+)", DOCUMENTS[name])) - {"--lf", "--google", "--results"}
     assert options <= set(re.findall(r"`(--[a-z-]+)", "".join(row[0] for row in tables(PROGRAMS))))
 
