@@ -9,7 +9,7 @@ use Rattle.texting_robots.specs.{Rules.Rule}
 use Rattle.robots_same.specs.declared.pool.Entry.{Entry}
 use Rattle.robots_same.specs.declared.compare.Comparison.{Comparison}
 use Rattle.robots_same.specs.declared.compare.Comparison.TheVariants.{Differ, Same, Undecided}
-use Rattle.robots_same.specs.Internal.{IsAnswer, chosen, is_in, is_shared, last_kind}
+use Rattle.robots_same.specs.Internal.{IsAnswer, Leads, chosen, is_in, is_shared, last_kind}
 use Rattle.robots_same.proofs.SideLemmas.{last_kind_append}
 
 pub chosen_append : (all new : Bool) (pool more : List Entry)
@@ -43,23 +43,23 @@ side_more all new start pool i entry t made more below at kept is =
     start t)
     ∙ ap (λ (l : List Rule). last_kind start l t) (sym (chosen_more all new pool i entry below))
 
-same_entry : (new : Bool) (one other : Entry) → one.item ≡ other.item → one.old ≡ other.old
-    → one.new ≡ other.new
-    → chosen true new (one ∷ []) ≡ chosen true new (other ∷ [])
-same_entry true one other item old is = rw (item, is) refl
-same_entry false one other item old is = rw (item, old) refl
+-- one more entry of two lists of entries
+pub extended : (x y : Bool) (made more : List Entry) (one : Entry) (other others : List Entry) (two : Entry)
+    → more ≡ made ++ one ∷ [] → others ≡ other ++ two ∷ [] → one.item ≡ two.item
+    → is_in x one ≡ is_in y two → chosen true x made ≡ chosen true y other
+    → chosen true x more ≡ chosen true y others
+extended x y made more one other others two added added_too item flag kept =
+    let same : chosen true x (one ∷ []) ≡ chosen true y (two ∷ []) = rw (item, flag) refl in
+    cc (chosen_append true x made (one ∷ []), chosen_append true y other (two ∷ []))
 
 -- one more entry of a loop that copies them
 pub copy_more : (new : Bool) (pool made more : List Entry) (i : ℕ) (entry copy : Entry) → i < length pool
-    → entry ≡ get_or pool i entry → copy.item ≡ entry.item → copy.old ≡ entry.old → copy.new ≡ entry.new
+    → entry ≡ get_or pool i entry → copy.item ≡ entry.item → is_in new copy ≡ is_in new entry
     → more ≡ made ++ copy ∷ [] → chosen true new made ≡ chosen true new (take i pool)
     → chosen true new more ≡ chosen true new (take (i + 1) pool)
-copy_more new pool made more i entry copy below at item old is added kept =
-    ap (λ (l : List Entry). chosen true new l) added ∙ chosen_append true new made (copy ∷ [])
-    ∙ ap (λ (l : List Rule). l ++ chosen true new (copy ∷ [])) kept
-    ∙ ap (λ (l : List Rule). chosen true new (take i pool) ++ l) (same_entry new copy entry item old is
-    ∙ ap (λ (e : Entry). chosen true new (e ∷ [])) at)
-    ∙ sym (chosen_more true new pool i entry below)
+copy_more new pool made more i entry copy below at item flag added kept =
+    extended new new made more copy (take i pool) (take (i + 1) pool) entry added
+    (rw (take_more pool i entry below, ← at) refl) item flag kept
 
 -- one more entry of a loop that merges two lists
 module _ (new : Bool) (pool more : List Entry) (entry : Entry) (added : more ≡ pool ++ entry ∷ []) where
@@ -76,21 +76,17 @@ module _ (new : Bool) (pool more : List Entry) (entry : Entry) (added : more ≡
     | inr isnt ↦ rw isnt (rw add-zero (appended ∙ rw isnt (append-nil (chosen true new pool) ∙ kept)))
   ]
 
--- an answer about other entries with the same rules
-pub same_answer : (front : List ℕ) (one other : List Entry) → chosen true false one ≡ chosen true false
-    other
-    → chosen true true one ≡ chosen true true other → (answer : Comparison) → IsAnswer front one answer
-    → IsAnswer front other answer
-same_answer front one other old new Same is = λ t.
-    ap (λ (l : List Rule). last_kind true l (front ++ t)) (sym old) ∙ is t
-    ∙ ap (λ (l : List Rule). last_kind true l (front ++ t)) new
-same_answer front one other old new (Differ text) (rest, begins, differ) = (
-  rest,
+-- a step that changes no verdict
+pub step_leads : (front : List ℕ) (pool step rest : List Entry)
+    → chosen true false step ≡ chosen true false pool → chosen true true step ≡ chosen true false rest
+    → chosen true true rest ≡ chosen true true pool → IsAnswer front step Same → Leads front rest pool
+step_leads front pool step rest old between new is Same = λ agree t. cc (is t, agree t)
+step_leads front pool step rest old between new is (Differ text) = λ (t, begins, differ). (
+  t,
   begins,
-  λ same. differ (ap (λ (l : List Rule). last_kind true l text.items) old ∙ same
-      ∙ ap (λ (l : List Rule). last_kind true l text.items) (sym new)),
+  λ same. differ (cc (is t)),
 )
-same_answer front one other old new Undecided is = tt
+step_leads front pool step rest old between new is Undecided = λ _. tt
 
 pub one_room : (b : Bool) (i n : ℕ) → i ≤ n → (b ≡ true → i < n) → i + (if b then 1 else 0) ≤ n
 one_room true i n most less = let below : i < n = less refl in omega arith
