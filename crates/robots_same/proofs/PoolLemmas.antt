@@ -15,33 +15,22 @@ use Rattle.robots_same.proofs.SideLemmas.{last_kind_append}
 pub chosen_append : (all new : Bool) (pool more : List Entry)
     → chosen all new (pool ++ more) ≡ chosen all new pool ++ chosen all new more
 chosen_append all new [] more = refl
-chosen_append all new (entry ∷ pool) more =
-    elim (cases_Bool ((all || not (is_shared entry)) && is_in new entry)) [
-      | inl is ↦ rw is (ap (λ (l : List Rule). entry.item ∷ l) (chosen_append all new pool more))
-      | inr isnt ↦ rw isnt (chosen_append all new pool more)
-    ]
+chosen_append all new (entry ∷ pool) more = grind (arith, cases_Bool, chosen_append all new pool more)
 
-chosen_more : (all new : Bool) (pool : List Entry) (i : ℕ) (d : Entry) → i < length pool
-    → chosen all new (take (i + 1) pool) ≡ chosen all new (take i pool) ++ chosen all new (get_or pool i d
-    ∷ [])
-chosen_more all new pool i d below =
-    ap (λ (l : List Entry). chosen all new l) (take_more pool i d below)
-    ∙ chosen_append all new (take i pool) (get_or pool i d ∷ [])
+chosen_more : (all new : Bool) (pool : List Entry) (i : ℕ) (entry : Entry) → i < length pool
+    → entry ≡ get_or pool i entry
+    → chosen all new (take (i + 1) pool) ≡ chosen all new (take i pool) ++ chosen all new (entry ∷ [])
+chosen_more all new pool i entry below at =
+    rw (take_more pool i entry below, ← at) (chosen_append all new (take i pool) (entry ∷ []))
 
 -- one more entry of a loop that makes a side
-pub side_more : (all new start : Bool) (pool : List Entry) (i : ℕ) (entry : Entry) (t : List ℕ) (made more
-    : Bool)
-    → i < length pool → entry ≡ get_or pool i entry → made ≡ last_kind start (chosen all new (take i pool))
-    t
+pub side_more : (all new start : Bool) (pool : List Entry) (i : ℕ) (entry : Entry) (t : List ℕ)
+    (made more : Bool) → i < length pool → entry ≡ get_or pool i entry
+    → made ≡ last_kind start (chosen all new (take i pool)) t
     → more ≡ last_kind made (chosen all new (entry ∷ [])) t
     → more ≡ last_kind start (chosen all new (take (i + 1) pool)) t
 side_more all new start pool i entry t made more below at kept is =
-    is ∙ ap (λ (v : Bool). last_kind v (chosen all new (entry ∷ [])) t) kept
-    ∙ ap (λ (e : Entry). last_kind (last_kind start (chosen all new (take i pool)) t) (chosen all new (e ∷
-    [])) t) at
-    ∙ sym (last_kind_append (chosen all new (take i pool)) (chosen all new (get_or pool i entry ∷ []))
-    start t)
-    ∙ ap (λ (l : List Rule). last_kind start l t) (sym (chosen_more all new pool i entry below))
+    rw (chosen_more all new pool i entry below at, last_kind_append, ← kept) is
 
 -- one more entry of two lists of entries
 pub extended : (x y : Bool) (made more : List Entry) (one : Entry) (other others : List Entry) (two : Entry)
@@ -64,17 +53,13 @@ copy_more new pool made more i entry copy below at item flag added kept =
 -- one more entry of a loop that merges two lists
 module _ (new : Bool) (pool more : List Entry) (entry : Entry) (added : more ≡ pool ++ entry ∷ []) where
   pub appended : chosen true new more ≡ chosen true new pool ++ chosen true new (entry ∷ [])
-  appended = ap (λ (l : List Entry). chosen true new l) added ∙ chosen_append true new pool (entry ∷ [])
+  appended = grind (arith, chosen_append)
 
   pub one_taken : (list : List Rule) (i : ℕ)
       → (is_in new entry ≡ true → (i < length list) × (entry.item ≡ get_or list i entry.item))
       → chosen true new pool ≡ take i list
       → chosen true new more ≡ take (i + (if is_in new entry then 1 else 0)) list
-  one_taken list i at kept = elim (cases_Bool (is_in new entry)) [
-    | inl is ↦ rw is (appended ∙ rw is (ap (λ (l : List Rule). l ++ entry.item ∷ []) kept
-        ∙ ap (λ (r : Rule). take i list ++ r ∷ []) (at is).1 ∙ sym (take_more list i entry.item (at is).0)))
-    | inr isnt ↦ rw isnt (rw add-zero (appended ∙ rw isnt (append-nil (chosen true new pool) ∙ kept)))
-  ]
+  one_taken list i at kept = grind (arith, append-nil, appended, cases_Bool, take_more)
 
 -- a step that changes no verdict
 pub step_leads : (front : List ℕ) (pool step rest : List Entry)
@@ -89,8 +74,7 @@ step_leads front pool step rest old between new is (Differ text) = λ (t, begins
 step_leads front pool step rest old between new is Undecided = λ _. tt
 
 pub one_room : (b : Bool) (i n : ℕ) → i ≤ n → (b ≡ true → i < n) → i + (if b then 1 else 0) ≤ n
-one_room true i n most less = let below : i < n = less refl in omega arith
-one_room false i n most less = rw add-zero most
+one_room b i n h h2 = grind arith
 
 -- the last entry of a pool
 pub last_added : (new : Bool) (pool more : List Entry) (last : Entry) → more ≡ pool ++ last ∷ []

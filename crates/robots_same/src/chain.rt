@@ -83,7 +83,11 @@ fn steps<'a>(
     let share = *budget / 8 / (to / size.max(1) + 1);
     while to > 0 {
         let from = to - size.clamp(1, to);
-        if differences(&pool[from..to]) > 0 {
+        let differs = match pool.get(from..to) {
+            Some(block) => differences(block) > 0,
+            None => false,
+        };
+        if differs {
             let mut left = share;
             let answer = step(alloc, pool, front, from, to, &mut left)?;
             *budget = budget.saturating_sub(share.saturating_sub(left));
