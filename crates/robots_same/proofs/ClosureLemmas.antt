@@ -1,18 +1,17 @@
 -- States agree on every text if each of them is checked, and lists of rules if their states do.
-use Rattle.std.proofs.Common.{◌≡◌, ◌⊎◌, inl, inr, ℕ, zero, suc, ◌+◌, ◌<◌, cond, Bool, true, false, ◌==◌}
+use Rattle.std.proofs.Common.{◌≡◌, inl, inr, ℕ, ◌+◌, ◌<◌, Bool, true, false}
 use Rattle.std.proofs.Common.{List, [], ◌∷◌, ◌++◌}
-use Rattle.std.proofs.Common.{All, Contains, add-one, ap, arith, drop, get_or, length, refl, subst, sym}
-use Rattle.std.proofs.Common.{◌∙◌, ◌≤◌}
-use Rattle.std.proofs.Math.{ListN.drop_of_length-le, Seq.drop-cons}
-use Rattle.std.proofs.lemmas.Bool.{cases_Bool, false≢true}
+use Rattle.std.proofs.Common.{All, Contains, arith, get_or, length, sym}
+use Rattle.std.proofs.Common.{◌∙◌}
+use Rattle.std.proofs.lemmas.Bool.{cases_Bool}
 use Rattle.std.proofs.lemmas.Bool.Decides.{Decides-eqb, not_from_Decides}
-use Rattle.std.proofs.lemmas.Map.Made.{is_member, is_member-Decides}
-use Rattle.std.specs.Bool.{Decides}
+use Rattle.std.proofs.lemmas.Map.Made.{is_member-Decides}
+use Rattle.std.specs.{Bool.Decides, Set.is_member}
 use Rattle.std.proofs.lemmas.List.{Elements.All-contains, append-nil}
 use Rattle.texting_robots.specs.{Rules.Rule}
 use Rattle.texting_robots.proofs.Shared.{matches}
 use Rattle.robots_same.specs.declared.pool.Entry.{Entry}
-use Rattle.robots_same.specs.Internal.{Agrees, AreAlike, IsChecked, IsFollowed, LeavesAgree, SideValue}
+use Rattle.robots_same.specs.Internal.{Agrees, AreAlike, IsChecked, IsFollowed, LeavesAgree}
 use Rattle.robots_same.specs.Internal.{StartsAgree, StateValue}
 use Rattle.robots_same.specs.Internal.{AgreeFrom, IsAfter, IsSettled, chosen, is_shared, last_kind, verdict}
 

@@ -1,15 +1,14 @@
 -- Rules that are chosen from a pool.
-use Rattle.std.proofs.Common.{◌≡◌, inl, inr, ℕ, ◌+◌, ◌<◌, ◌≤◌, Bool, true, false, not, ◌&&◌, ◌||◌, List}
+use Rattle.std.proofs.Common.{◌≡◌, ℕ, ◌+◌, ◌<◌, ◌≤◌, Bool, true, false, List}
 use Rattle.std.proofs.Common.{[], ◌∷◌, ◌++◌}
 use Rattle.std.specs.Prelude.{if◌then◌else◌}
-use Rattle.std.proofs.Common.{add-zero, arith, take, get_or, length, refl, sym, ap, ◌∙◌}
+use Rattle.std.proofs.Common.{arith, take, get_or, length, refl, ap, ◌∙◌}
 use Rattle.std.proofs.{lemmas.Bool.cases_Bool, lemmas.List.append-nil, lemmas.List.take_all}
 use Rattle.std.proofs.{lemmas.List.take_more}
 use Rattle.texting_robots.specs.{Rules.Rule}
 use Rattle.robots_same.specs.declared.pool.Entry.{Entry}
-use Rattle.robots_same.specs.declared.compare.Comparison.{Comparison}
 use Rattle.robots_same.specs.declared.compare.Comparison.TheVariants.{Differ, Same, Undecided}
-use Rattle.robots_same.specs.Internal.{IsAnswer, Leads, chosen, is_in, is_shared, last_kind}
+use Rattle.robots_same.specs.Internal.{IsAnswer, Leads, chosen, is_in, last_kind}
 use Rattle.robots_same.proofs.SideLemmas.{last_kind_append}
 
 pub chosen_append : (all new : Bool) (pool more : List Entry)
@@ -61,17 +60,33 @@ module _ (new : Bool) (pool more : List Entry) (entry : Entry) (added : more ≡
       → chosen true new more ≡ take (i + (if is_in new entry then 1 else 0)) list
   one_taken list i at kept = grind (arith, append-nil, appended, cases_Bool, take_more)
 
--- a step that changes no verdict
-pub step_leads : (front : List ℕ) (pool step rest : List Entry)
-    → chosen true false step ≡ chosen true false pool → chosen true true step ≡ chosen true false rest
-    → chosen true true rest ≡ chosen true true pool → IsAnswer front step Same → Leads front rest pool
-step_leads front pool step rest old between new is Same = λ agree t. cc (is t, agree t)
-step_leads front pool step rest old between new is (Differ text) = λ (t, begins, differ). (
-  t,
-  begins,
-  λ same. differ (cc (is t)),
-)
-step_leads front pool step rest old between new is Undecided = λ _. tt
+module _ (front : List ℕ) (pool first second : List Entry)
+    (old : chosen true false first ≡ chosen true false pool)
+    (between : chosen true true first ≡ chosen true false second)
+    (new : chosen true true second ≡ chosen true true pool) where
+  -- a step of the old list changes no verdict
+  pub old_leads : IsAnswer front first Same → Leads front second pool
+  old_leads is Same = λ agree t. cc (is t, agree t)
+  old_leads is (Differ text) = λ (t, begins, differ). (t, begins, λ same. differ (cc (is t)))
+  old_leads is Undecided = λ _. tt
+
+  -- a step of the new one
+  pub new_leads : IsAnswer front second Same → Leads front first pool
+  new_leads is Same = λ agree t. cc (is t, agree t)
+  new_leads is (Differ text) = λ (t, begins, differ). (t, begins, λ same. differ (cc (is t)))
+  new_leads is Undecided = λ _. tt
+
+-- ---- States above shared rules
+
+pub shared_next : (pool : List Entry) (i : ℕ) (entry : Entry) (kind : Bool) (t : List ℕ) → i < length pool
+    → entry ≡ get_or pool i entry → is_shared entry ≡ true → LeavesAgree t (drop i pool)
+    → (StartsAgree kind t (drop (i + 1) pool) → StartsAgree kind t (drop i pool))
+    × LeavesAgree t (drop (i + 1) pool)
+shared_next pool i entry kind t below at is leaves =
+    let next : drop i pool ≡ entry ∷ drop (i + 1) pool =
+    rw (add-one, drop-cons pool i entry below, ← at) refl in
+    let has : LeavesAgree t (entry ∷ drop (i + 1) pool) = rw next at leaves in
+    (λ starts. rw (next, is) starts, has.1)
 
 pub one_room : (b : Bool) (i n : ℕ) → i ≤ n → (b ≡ true → i < n) → i + (if b then 1 else 0) ≤ n
 one_room b i n h h2 = grind arith

@@ -1,19 +1,17 @@
 -- The last matching rule decides, if the rules are in ascending order.
 use Rattle.std.proofs.Common.{◌≡◌, ◌≢◌, ◌⊎◌, inl, inr, ℕ, suc, ◌+◌, ◌-◌, ◌<◌, ◌≤◌, Bool, true}
-use Rattle.std.proofs.Common.{false, ◌==◌, ◌&&◌}
-use Rattle.std.proofs.Common.{List, [], ◌∷◌, ◌++◌, All, Contains, IsPermutation, get_or, not, length, refl}
-use Rattle.std.proofs.Common.{sym, ap, subst, ◌∙◌, arith, add-one}
+use Rattle.std.proofs.Common.{false}
+use Rattle.std.proofs.Common.{List, [], ◌∷◌, ◌++◌, All, Contains, IsPermutation, get_or, length, refl}
+use Rattle.std.proofs.Common.{sym, subst, ◌∙◌, arith, add-one}
 use Rattle.std.proofs.lemmas.Bool.{cases_Bool, cases_lt, false≢true}
 use Rattle.std.proofs.lemmas.List.{get_or_default}
-use Rattle.std.proofs.lemmas.Bool.Decides.{Decides-eqb, not_from_Decides}
+use Rattle.std.proofs.lemmas.Bool.Decides.{not_from_Decides}
 use Rattle.std.proofs.lemmas.List.Elements.{All-cons, All-contains, All-nil}
-use Rattle.std.proofs.{lemmas.List.Sorted.IsPermutation-sym}
 use Rattle.texting_robots.specs.{Pattern.Matches, Pattern.MatchesWith, Rules.Rule}
 use Rattle.texting_robots.specs.Verdict.{IsDenied, IsVerdict, robots_file}
 use Rattle.texting_robots.proofs.Shared.{matches, matches_decides, one_verdict, order_changes_nothing}
 use Rattle.robots_same.specs.declared.pool.Entry.{Entry}
 use Rattle.robots_same.specs.declared.compare.Comparison.{Comparison}
-use Rattle.robots_same.specs.declared.compare.Comparison.TheVariants.{Differ, Same, Undecided}
 use Rattle.robots_same.specs.Same.{HaveSameVerdicts, IsComparison}
 use Rattle.robots_same.specs.Internal.{AgreeFrom, AreAscending, Decide, IsAnswer, IsSameOn, chosen}
 use Rattle.robots_same.specs.Internal.{last_kind, rank_of, robots_rule}
@@ -125,8 +123,8 @@ module _ (text : List ℕ) where
 
 whole : (text : List ℕ) → Matches robots_rule.0 text → text ≡ robots_file
 unfolding MatchesWith
-whole text (a, one, b, two, c, three, d, four, e, five, f, six, g, seven, h, eight, i, nine, j, ten, k, more,
-    l, (last, ends), end) = cc
+whole text (_, a, (_, b, (_, c, (_, d, (_, e, (_, f, (_, g, (_, h, (_, i, (_, j, (_, k, (_, l, _)))))))))))) =
+    cc
 
 decide_sorted : (rules : List Rule) → AreAscending rules → Decide rules rules
 decide_sorted rules ascending text = rw (last_kind_append rules (robots_rule ∷ []) true text)

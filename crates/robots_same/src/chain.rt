@@ -1,4 +1,4 @@
-//! Compares two lists by steps: each changes some rules of the old list, but none of its verdicts.
+//! Compares two lists by steps: each changes some rules of one list, but none of its verdicts.
 ghost use Rattle.std.specs.Prelude.{◌≡◌, IfOk, OnOk, false, true};
 ghost use Rattle.robots_same.specs.Internal.{IsAnswer, Leads, chosen};
 
@@ -11,54 +11,65 @@ use std::alloc::{AllocError, Global};
 /// At most so many rounds of steps are tried.
 const ROUNDS: usize = 64;
 
-/// Two pools: of the old list and the changed one, and of the changed list and the new one. The rules from one
-/// position to another change their list.
+/// A list between both: two pools, of the old list and this one, and of this and the new one. The rules from
+/// one position to another are those of the new list, and the others those of the old one, or contrariwise.
 fn split<'a>(
     alloc: Global,
     pool: &[Entry<'a>],
     from: usize,
     to: usize,
+    others_new: bool,
 ) -> Result<(Vec<Entry<'a>>, Vec<Entry<'a>>), AllocError>
     ensures old { IfOk result (λ made. chosen true false made.0.items ≡ chosen true false pool.now) }
     ensures between { IfOk result (λ made. chosen true true made.0.items ≡ chosen true false made.1.items) }
     ensures new { IfOk result (λ made. chosen true true made.1.items ≡ chosen true true pool.now) }
 {
-    let mut step = Vec::new(alloc);
-    let mut rest = Vec::new(alloc);
+    let mut first = Vec::new(alloc);
+    let mut second = Vec::new(alloc);
     for (k, entry) in pool.iter().enumerate() {
-        let changed = if from <= k && k < to {
-            entry.new
-        } else {
-            entry.old
-        };
-        step.push(entry.copy(entry.old, changed, false))?;
-        rest.push(entry.copy(changed, entry.new, false))?;
+        let between = entry.is_in((from <= k && k < to) != others_new);
+        first.push(entry.copy(entry.old, between, false))?;
+        second.push(entry.copy(between, entry.new, false))?;
     }
-    Ok((step, rest))
+    Ok((first, second))
 }
 
-/// Changes these rules, if that changes no verdict. Else both lists may differ on the text that was found.
-#[tactic(auto, using(crate::proofs::PoolLemmas::step_leads))]
+/// Changes these rules in one of the lists, if that changes no verdict. Else both lists may differ on the text
+/// that was found.
+#[tactic(auto, using(crate::proofs::PoolLemmas::old_leads, crate::proofs::PoolLemmas::new_leads))]
 fn step<'a>(
     alloc: Global,
     pool: &mut Vec<Entry<'a>>,
     front: &[u8],
     from: usize,
     to: usize,
+    of_new: bool,
     budget: &mut usize,
 ) -> Result<Comparison, AllocError>
     ensures leads { OnOk result (Leads front.now pool.new.items pool.old.items) }
     ensures answer { IfOk result (IsAnswer front.now pool.new.items) }
 {
-    let (step, rest) = split(alloc, pool, from, to)?;
-    match compare_pool(alloc, step, front, budget)? {
-        Comparison::Same => *pool = rest,
-        Comparison::Differ(text) => {
-            if differ_on(alloc, pool, front, &text)? {
-                return Ok(Comparison::Differ(text));
-            }
+    if !spend(budget, pool.len()) {
+        return Ok(Comparison::Undecided);
+    }
+    let (first, second) = split(alloc, pool, from, to, of_new)?;
+    let answer = if of_new {
+        let answer = compare_pool(alloc, second, front, budget)?;
+        if matches!(answer, Comparison::Same) {
+            *pool = first;
         }
-        Comparison::Undecided => {}
+        answer
+    } else {
+        let answer = compare_pool(alloc, first, front, budget)?;
+        if matches!(answer, Comparison::Same) {
+            *pool = second;
+        }
+        answer
+    };
+    if let Comparison::Differ(text) = answer {
+        if differ_on(alloc, pool, front, &text)? {
+            return Ok(Comparison::Differ(text));
+        }
     }
     Ok(Comparison::Undecided)
 }
@@ -68,12 +79,13 @@ fn differences(pool: &[Entry<'_>]) -> usize {
     pool.iter().filter(|entry| entry.old != entry.new).count()
 }
 
-/// Tries each block of so many rules, from the highest one on.
+/// Tries each block of so many rules, from the highest one on, in one of the lists.
 fn steps<'a>(
     alloc: Global,
     pool: &mut Vec<Entry<'a>>,
     front: &[u8],
     size: usize,
+    of_new: bool,
     budget: &mut usize,
 ) -> Result<Comparison, AllocError>
     ensures leads { OnOk result (Leads front.now pool.new.items pool.old.items) }
@@ -89,7 +101,7 @@ fn steps<'a>(
         };
         if differs {
             let mut left = share;
-            let answer = step(alloc, pool, front, from, to, &mut left)?;
+            let answer = step(alloc, pool, front, from, to, of_new, &mut left)?;
             *budget = budget.saturating_sub(share.saturating_sub(left));
             if matches!(answer, Comparison::Differ(_)) {
                 return Ok(answer);
@@ -100,7 +112,7 @@ fn steps<'a>(
     Ok(Comparison::Undecided)
 }
 
-/// First all rules at once, then smaller and smaller blocks, and at last what is left.
+/// First all rules at once, then smaller and smaller blocks in both lists, and at last what is left.
 pub(crate) fn compare_by_steps(
     alloc: Global,
     start: Vec<Entry<'_>>,
@@ -111,16 +123,20 @@ pub(crate) fn compare_by_steps(
 {
     let mut pool = start;
     let mut size = pool.len();
-    for _ in 0..ROUNDS {
-        let before = differences(&pool);
-        let answer = steps(alloc, &mut pool, front, size, budget)?;
+    let mut before = differences(&pool);
+    for round in 0..ROUNDS {
+        let of_new = round % 2 == 1;
+        let answer = steps(alloc, &mut pool, front, size, of_new, budget)?;
         if matches!(answer, Comparison::Differ(_)) {
             return Ok(answer);
         }
-        if size <= 1 && differences(&pool) == before {
-            break;
+        if of_new {
+            if size <= 1 && differences(&pool) == before {
+                break;
+            }
+            before = differences(&pool);
+            size /= 2;
         }
-        size /= 2;
     }
     compare_pool(alloc, pool, front, budget)
 }

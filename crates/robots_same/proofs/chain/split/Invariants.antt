@@ -4,7 +4,7 @@ use Rattle.robots_same.proofs.chain.split.Given as goal
 
 abbrev pub invariant-loop-k : goal.invariant-loop-k
 invariant-loop-k l = record {
-  old : chosen true false l.step.items ≡ chosen true false (take l.k l.pool);
-  between : chosen true true l.step.items ≡ chosen true false l.rest.items;
-  new : chosen true true l.rest.items ≡ chosen true true (take l.k l.pool);
+  old : chosen true false l.first.items ≡ chosen true false (take l.k l.pool);
+  between : chosen true true l.first.items ≡ chosen true false l.second.items;
+  new : chosen true true l.second.items ≡ chosen true true (take l.k l.pool);
 }
