@@ -1,5 +1,5 @@
 -- States agree on every text if each of them is checked, and lists of rules if their states do.
-use Rattle.std.proofs.Common.{◌≡◌, inl, inr, ℕ, ◌+◌, ◌<◌, Bool, true, false}
+use Rattle.std.proofs.Common.{◌≡◌, inl, inr, ℕ, ◌+◌, ◌<◌, Bool, true, false, ◌==◌}
 use Rattle.std.proofs.Common.{List, [], ◌∷◌, ◌++◌}
 use Rattle.std.proofs.Common.{All, Contains, arith, get_or, length, sym}
 use Rattle.std.proofs.Common.{◌∙◌}
@@ -35,9 +35,10 @@ pub all_followed : (states : List StateValue) (state : StateValue) (bytes : List
     → IsFollowed states state other → All (IsFollowed states state) bytes → (b : ℕ)
     → IsFollowed states state b
 all_followed states state bytes other old new isnt follows all b =
-    let among : Decides (is_member _ bytes b) (Contains bytes b) = is_member-Decides Decides-eqb bytes b in
-    elim (cases_Bool (is_member _ bytes b)) [
-      | inl has ↦ All-contains (IsFollowed states state) bytes b all (among.0 has)
+    let has = is_member (λ (x y : ℕ). x == y) bytes b in
+    let among : Decides has (Contains bytes b) = is_member-Decides Decides-eqb bytes b in
+    elim (cases_Bool has) [
+      | inl is ↦ All-contains (IsFollowed states state) bytes b all (among.0 is)
       | inr hasnt ↦
           let none = not_from_Decides _ among hasnt in
           λ t agree. old b other state.old.start t none isnt ∙ follows t agree

@@ -7,6 +7,7 @@ use Rattle.std.proofs.lemmas.Bool.{cases_Bool, cases_lt, false≢true}
 use Rattle.std.proofs.lemmas.List.{get_or_default}
 use Rattle.std.proofs.lemmas.Bool.Decides.{not_from_Decides}
 use Rattle.std.proofs.lemmas.List.Elements.{All-cons, All-contains, All-nil}
+use Rattle.std.proofs.lemmas.List.{Sorted.IsPermutation-sym}
 use Rattle.texting_robots.specs.{Pattern.Matches, Pattern.MatchesWith, Rules.Rule}
 use Rattle.texting_robots.specs.Verdict.{IsDenied, IsVerdict, robots_file}
 use Rattle.texting_robots.proofs.Shared.{matches, matches_decides, one_verdict, order_changes_nothing}
@@ -138,7 +139,9 @@ decide_sorted rules ascending text = rw (last_kind_append rules (robots_rule ∷
 
 pub decide : (rules sorted : List Rule) → IsPermutation rules sorted → AreAscending sorted
     → Decide rules sorted
-decide rules sorted same ascending text = grind (arith, decide_sorted, order_changes_nothing)
+decide rules sorted same ascending text =
+    order_changes_nothing sorted rules text _ (IsPermutation-sym rules sorted same)
+    (decide_sorted sorted ascending text)
 
 module _ (old new sorted_old sorted_new : List Rule) (pool : List Entry) (old_is : Decide old sorted_old)
     (new_is : Decide new sorted_new) (in_old : chosen true false pool ≡ sorted_old ++ robots_rule ∷ [])

@@ -112,7 +112,8 @@ fn steps<'a>(
     Ok(Comparison::Undecided)
 }
 
-/// First all rules at once, then smaller and smaller blocks in both lists, and at last what is left.
+/// First all rules at once, then smaller and smaller blocks in both lists, and at last what is left, for which
+/// half of the budget is kept.
 pub(crate) fn compare_by_steps(
     alloc: Global,
     start: Vec<Entry<'_>>,
@@ -121,22 +122,27 @@ pub(crate) fn compare_by_steps(
 ) -> Result<Comparison, AllocError>
     ensures { IfOk result (IsAnswer front.now start.entry.items) }
 {
+    let half = *budget / 2;
+    let mut left = half;
     let mut pool = start;
     let mut size = pool.len();
-    let mut before = differences(&pool);
+    let mut before = 0;
     for round in 0..ROUNDS {
         let of_new = round % 2 == 1;
-        let answer = steps(alloc, &mut pool, front, size, of_new, budget)?;
+        let count = differences(&pool);
+        if count <= 1 || !of_new && size == 0 && count == before {
+            break;
+        }
+        let answer = steps(alloc, &mut pool, front, size, of_new, &mut left)?;
         if matches!(answer, Comparison::Differ(_)) {
             return Ok(answer);
         }
         if of_new {
-            if size <= 1 && differences(&pool) == before {
-                break;
-            }
-            before = differences(&pool);
             size /= 2;
+        } else {
+            before = count;
         }
     }
+    *budget = budget.saturating_sub(half.saturating_sub(left));
     compare_pool(alloc, pool, front, budget)
 }
