@@ -95,22 +95,23 @@ OF_A_CRAWLER = {"googlebot-group", "google-ignores-star"}
 OF_GROUP = {"googlebot-group"}
 FIELDS = ("User-agent", "Allow", "Disallow", "Sitemap", "Crawl-delay")
 OF_RULES = {"replaces-star"}
+OF_CLOSED = {"closes-everything", "closes-home-page"}
 OF_A_LINE = {"allowed-and-disallowed", "empty-disallow", "sitemap-denied"}
 NEEDLESS = ["never", "nothing", "allowed", "covered"]  # in the order of the messages of `needless-rule`
-WORDS = {"space", "comma", "tag", "invisible", "="}  # each in one message of a name, or in an earlier one than in others
+WORDS = {"space", "comma", "tag", "invisible", "=", "??", "nothing"}  # each in one message of a name, or in an earlier one than in others
 
 
 def level_and_text(name, detail=""):
     """The level and message of a warning. Its detail is the field name that may be meant; the level of one before the last; a word of its
     message; how many rules it is about; the line of another rule; the kind of a needless rule, possibly with such a line; the name of a
-    crawler that may be meant, possibly after a name in quotes; the name of one of several crawlers, in quotes, and that of the group that
-    its vendor applies, if it isn't Googlebot; of `closes-everything` the level, such a name, and how many other crawlers there are, if
+    crawler that may be meant, possibly after a name in quotes and `warning`; the name of one of several crawlers, in quotes, and that of the group that
+    its vendor applies, if it isn't Googlebot; of `closes-everything` and `closes-home-page` the level, such a name, and how many other crawlers there are, if
     there are some; or else the URL that the warning is about."""
     if name == "needless-rule":
         kind, _, other = detail.partition(" ")
         level, text = WARNINGS[name][NEEDLESS.index(kind)]
         return level, f"{text} (see line {other})" if other else text
-    if name == "closes-everything":
+    if name in OF_CLOSED:
         level, crawler, others = re.fullmatch(r"(\w+) ('.*')(?: (\d+))?", detail).groups()
         more = f" (and {others} other crawler{'' if others == '1' else 's'})" if others else ""
         return level, f"crawler {crawler}: {dict(WARNINGS[name])[level]}{more}"
@@ -123,7 +124,8 @@ def level_and_text(name, detail=""):
     if name in OF_A_LINE:
         return level, f"{text} (see line {detail})"
     if name == "misspelled-name":
-        agent, meant = re.fullmatch(r"('.*' )?(\S+)", detail).groups()
+        agent, warns, meant = re.fullmatch(r"('.*' )?(warning )?(\S+)", detail).groups()
+        level, text = WARNINGS[name][0 if warns else 1]
         return level, f"{f'crawler {agent[:-1]}: ' if agent else ''}{text} (did you mean {meant}?)"
     if name in OF_GROUP:
         detail, group = re.fullmatch(r"('.*')? ?([^' ]+)?", detail).groups()
@@ -168,7 +170,7 @@ def warning_lines(warnings, file="robots.txt"):
     joined, met = [], {}
     for warning in sorted(warnings, key=order_of):
         line, name, level, text = parts_of(warning)
-        key = (name, "" if level == "note" and name == "closes-everything" else text)
+        key = (name, "" if level == "note" and name in OF_CLOSED else text)
         if line and "(see line" not in text:
             met.setdefault(key, []).append(line)
             if len(met[key]) > 1:

@@ -319,17 +319,17 @@ def test_a_name_that_looks_like_a_command(tmp_path):
 def test_files_by_name(tmp_path):
     (tmp_path / "robots.txt").write_bytes(OLD)
     assert reported(for_ferris(tmp_path, OLD, NEW, file="robots.txt"), new="robots.txt") == (0, NOTHING, "")
-    assert outcome(for_ferris(tmp_path, OLD, NEW, file="missing")) == (2, "", "robots_audit: cannot read missing\n")
+    assert outcome(for_ferris(tmp_path, OLD, NEW, file="missing")) == (2, "", "robots_audit: cannot read missing: no such file\n")
     missing = run("robots_audit", ["--compare", "missing.txt", "-"], NEW, cwd=tmp_path)
-    assert outcome(missing) == (2, "", "robots_audit: cannot read missing.txt\n")
+    assert outcome(missing) == (2, "", "robots_audit: cannot read missing.txt: no such file\n")
 
 
 def test_folders_in_place_of_files(tmp_path):
     """They can be opened, but each read fails."""
     (tmp_path / "folder").mkdir()
-    assert outcome(for_ferris(tmp_path, OLD, NEW, file="folder")) == (2, "", "robots_audit: cannot read folder\n")
+    assert outcome(for_ferris(tmp_path, OLD, NEW, file="folder")) == (2, "", "robots_audit: cannot read folder: it is a folder\n")
     folder = run("robots_audit", ["--compare", "folder", "-"], NEW, cwd=tmp_path)
-    assert outcome(folder) == (2, "", "robots_audit: cannot read folder\n")
+    assert outcome(folder) == (2, "", "robots_audit: cannot read folder: it is a folder\n")
 
 
 def test_older_file_from_standard_input(tmp_path):

@@ -127,19 +127,19 @@ def test_no_urls(tmp_path, text, more):
     assert outcome(check(tmp_path, text, "Ferris", *more)) == (2, "", "robots_audit: list.txt: there are no URLs\n")
 
 
-CURL = "curl -s https://example.com/robots.txt | robots_audit -"
+CURL = "curl -fsSL https://example.com/robots.txt | robots_audit -"
 FETCH = f"a URL isn't a file, try: {CURL}"
 UNREAD = {
-    "missing": ("missing.txt", "missing.txt"),
-    "a folder": (".", "."),
-    "no name": ("", '""'),
-    "a URL": ("https://example.com", f"https://example.com; {FETCH}"),
-    "a URL in capitals": ("HTTP://example.com/a", f"HTTP://example.com/a; {FETCH}"),
-    "a host": ("example.com", f"example.com; for a host, try: {CURL}"),
-    "a URL without a scheme": ("example.com/robots.txt", f"example.com/robots.txt; for a host, try: {CURL}"),
-    "a hidden file": (".hidden", ".hidden"),
-    "a level": ("note", "note; for a level, write --strict=LEVEL"),
-    "a path": ("/no/tea", "/no/tea; before a path to check, write FILE, or - for standard input"),
+    "missing": ("missing.txt", "missing.txt: no such file"),
+    "a folder": (".", ".: it is a folder"),
+    "no name": ("", '"": no such file'),
+    "a URL": ("https://example.com", f"https://example.com: no such file; {FETCH}"),
+    "a URL in capitals": ("HTTP://example.com/a", f"HTTP://example.com/a: no such file; {FETCH}"),
+    "a host": ("example.com", f"example.com: no such file; for a host, try: {CURL}"),
+    "a URL without a scheme": ("example.com/robots.txt", f"example.com/robots.txt: no such file; for a host, try: {CURL}"),
+    "a hidden file": (".hidden", ".hidden: no such file"),
+    "a level": ("note", "note: no such file; for a level, write --strict=LEVEL"),
+    "a path": ("/no/tea", "/no/tea: no such file; before a path to check, write FILE, or - for standard input"),
 }
 
 

@@ -20,7 +20,6 @@ mod needless;
 pub mod reach;
 pub mod request;
 pub mod rows;
-pub mod rules;
 pub mod sitemaps;
 pub mod syntax;
 pub mod texts;

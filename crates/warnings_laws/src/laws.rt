@@ -17,7 +17,8 @@ ghost use Rattle.rfc9309_laws.specs.Matching.{all_stay, normal_uri};
 ghost use Rattle.warnings_laws.specs.{Audit.without_reach, Syntax.IsRobotStated, Verdict.IsStandardVerdict};
 ghost use Rattle.robots_warnings.specs.Conflicts.{IsConflict, IsOverruled, conflict, overruled, is_empty_at};
 ghost use Rattle.robots_warnings.specs.Conflicts.{overruled_for, IsEmptyDisallow, stated_rules};
-ghost use Rattle.robots_warnings.specs.Closed.{line_closing, opened_paths, replacing, star_count};
+ghost use Rattle.robots_warnings.specs.Closed.{line_closing, opened_paths, opens_little};
+ghost use Rattle.robots_warnings.specs.Closed.{replacing, star_count};
 ghost use Rattle.robots_warnings.specs.{Contents.is_cut_to_root, Crawlers.names_past_limit};
 ghost use Rattle.robots_warnings.specs.{Positions.is_above_agents, Repeated.repeated, Targets.has_odd_target};
 ghost use Rattle.robots_warnings.specs.{Targets.written_target, Urls.is_unparsable, Urls.begins_as_url};
@@ -185,11 +186,14 @@ pub fn without_empty_disallows()
 {}
 
 /// If `closes-everything` is given because of the rules of a crawler, every path is denied to it, unless it
-/// begins with `/robots.txt` or with the path of a sitemap that the file lists.
+/// begins with `/robots.txt` or with the path of a sitemap that the file lists, or an Allow matches it that
+/// opens little.
 pub fn closes_everything()
     ensures { (agent : List ℕ) (lines : List LineValue) (rules : List PlacedRule) (number : ℕ) (text : List ℕ)
         → line_closing lines agent ≡ Some number → AreRulesFor agent lines rules
         → list_any (starts_with nat_eq (byte "/" ∷ text)) (opened_paths lines) ≡ false
+        → ((pattern : List ℕ) → Contains (unplaced rules) (pattern, true) → opens_little pattern ≡ true
+        → ¬ Matches pattern (byte "/" ∷ text))
         → IsDenied (unplaced rules) (byte "/" ∷ text) }
 {}
 

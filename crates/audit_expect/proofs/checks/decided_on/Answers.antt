@@ -7,6 +7,7 @@ pub returns-in_default-clause-ok : goal.returns-in_default-clause-ok
 returns-in_default-clause-ok c = (
   (read_robot _ c.args.read.now.bytes.now _ c.requires.robot.2).accepted,
   rw c.in_default.is at c.in_ok-form.ensures.ok,
+  c.requires.url,
 )
 
 pub other_decision-requires-clause-accepted : goal.other_decision-requires-clause-accepted

@@ -1,0 +1,5 @@
+use Rattle.audit_expect.proofs.PatternLemmas.{longer_matches}
+use Rattle.audit_expect.proofs.patterns.longer_pattern.Goals as goal
+
+pub returns : goal.returns
+returns c = longer_matches c.longest.result c.args.pattern.now _ (cc)
