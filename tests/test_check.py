@@ -1,5 +1,4 @@
-"""`./check`, with stand-ins for `rt` and Python: its last line adds up both, and its status says whether one failed. Mutants. And the
-Makefile."""
+"""`./check`, with stand-ins for `rt` and Python: its last line adds up both, and its status says whether one failed. And mutants."""
 
 import os
 import re
@@ -58,7 +57,5 @@ def test_check_counts_mutants(tmp_path, said, last, status):
     assert (ended.stdout.splitlines()[-1], ended.returncode) == (last, status)
 
 
-def test_the_makefile_and_the_merge_gate_run_the_scripts():
-    shown = subprocess.run(["make", "-n", "check", "dist"], cwd=ROOT, capture_output=True, text=True)
-    assert shown.stdout.splitlines() == ["./check", "./release"]
+def test_the_merge_gate_runs_the_script():
     assert re.search(r"^exec .*/\.\./check\"$", (ROOT / ".ci/run").read_text(), re.M)

@@ -16,7 +16,7 @@ FINDINGS = {
     name for crate in ("compare/specs/Compare", "expect/specs/Expectations")
     for name in re.findall(r'codes "([a-z-]+)"', (CRATES / f"audit_{crate}.antt").read_text())
 }  # fmt: skip
-README, GUIDE, PROGRAMS, PROOFS, CONTRACTS = map(DOCUMENTS.get, ["README.md", *(f"docs/{name}.md" for name in ("GUIDE", "PROGRAMS", "PROOFS", "CONTRACTS"))])
+README, GUIDE, PROGRAMS, PROOFS = map(DOCUMENTS.get, ["README.md", *(f"docs/{name}.md" for name in ("GUIDE", "PROGRAMS", "PROOFS"))])
 
 
 def code(document, language):
@@ -115,11 +115,10 @@ def quoted(document):
     return found
 
 
-@pytest.mark.parametrize("document, function", [(PROOFS, "allowed_in_file"), (CONTRACTS, "Robot::new")], ids=["PROOFS", "CONTRACTS"])
-def test_quoted_contracts_are_those_of_the_source(document, function):
+def test_quoted_contracts_are_those_of_the_source():
     found = set().union(*map(contracts, (LIBRARY / "src").rglob("*.rt")))
-    parts = quoted(document)
-    assert function in {name for name, _ in parts}
+    parts = quoted(PROOFS)
+    assert "allowed_in_file" in {name for name, _ in parts}
     assert parts - found == set()
 
 
@@ -228,10 +227,10 @@ def test_guide_runs_its_program():
 
 def test_readme_shows_what_its_first_command_prints():
     """The command as it is there, which compiles the program anew."""
-    command, report = section(README, "Try it").split("prints:")
+    command, report = README.split("\n## ")[0].split("prints:")
     ended = subprocess.run(["bash", "-c", shown(command)], cwd=ROOT, stdin=subprocess.DEVNULL, capture_output=True, text=True)
     warnings = [line for line in ended.stderr.splitlines() if line.startswith("robots.txt:")]
-    assert (ended.returncode, [*ended.stdout.splitlines(), *warnings]) == (1, shown(report.split("`+` marks")[0]).splitlines())
+    assert (ended.returncode, [*ended.stdout.splitlines(), *warnings]) == (1, shown(report.split("\n- ")[0]).splitlines())
 
 
 COMMANDS = [line for line in (shown(README) + shown(PROGRAMS)).splitlines() if re.match("(robots_audit|curl) ", line)]

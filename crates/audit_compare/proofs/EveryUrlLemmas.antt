@@ -33,32 +33,3 @@ example_read agent older newer was is (Ok (Some example)) old new found = record
   is = decided agent newer (string_bytes example.path) is example.newer new found.is;
   differ = found.differ;
 }
-
-none_denied : (text : List ℕ) → IsDenied [] text → ⊥
-none_denied text (other, pattern, (k, below, at), matches, longer) = absurd (omega arith)
-
-abbrev pub closing : Rule
-closing = (codes "/", false)
-
-no_allow : (pattern text : List ℕ) → Contains (closing ∷ []) (pattern, true) → Matches pattern text
-    → length pattern < 1
-no_allow pattern text (zero, below, at) matches = absurd (false≢true (ap (λ (rule : Rule). rule.1) at))
-no_allow pattern text (suc k, below, at) matches = absurd (omega arith)
-
-all_denied : (rest : List ℕ) → codes "/" ++ rest ≢ robots_file → IsDenied (closing ∷ []) (codes "/" ++ rest)
-unfolding MatchesWith
-all_denied rest other = (
-  other,
-  codes "/",
-  (0, omega arith, refl),
-  (rest, refl, tt),
-  λ pattern has matches. no_allow pattern (codes "/" ++ rest) has matches,
-)
-
-pub everything : (rules others : List PlacedRule) → others ≡ []
-    → HaveSameVerdicts (codes "/") (unplaced rules) (unplaced others) → IsReach (unplaced rules) Everything
-everything rules others none same rest = (same rest true).1 (rw none (none_denied (codes "/" ++ rest)))
-
-pub nothing : (rules others : List PlacedRule) → others ≡ record { rule = closing; line = 0 } ∷ []
-    → HaveSameVerdicts (codes "/") (unplaced rules) (unplaced others) → IsReach (unplaced rules) Nothing
-nothing rules others is same rest other = (same rest false).1 (rw is (all_denied rest other))

@@ -10,14 +10,15 @@ mod style;
 mod verdicts;
 mod warnings;
 
-use audit_core::audit::Audit;
+use audit_core::audit::{AgentAudit, Audit};
 use audit_core::request::Request;
-use audit_core::syntax::{LINE_APART, OTHER_LINE, SYNTAX_SENTENCE, VERDICTS_SENTENCE};
+use audit_core::syntax::{Standard, has_directive};
 use audit_core::version::VERSION;
 use elements::Page;
 use file::{write_file_table, write_sitemap_entry};
 use printable_text::report::Named;
 use rfc9309_laws::conformance::Conformance;
+use robots_warnings::table::Cause;
 use std::alloc::Global;
 use std::fmt;
 use std::fmt::Write;
@@ -26,15 +27,27 @@ use verdicts::{write_crawler_entries, write_verdict_part};
 use warnings::write_warning_entry;
 
 #[derive(Clone, Copy)]
-struct Title<'a>(Option<&'a str>);
+struct Title<'a>(&'a [AgentAudit<'a>]);
 
 impl<'a> fmt::Display for Title<'a> {
     fn fmt<W: fmt::Write>(&self, f: &mut fmt::Formatter<W>) -> fmt::Result {
         match self.0 {
-            Some(agent) => write!(f, "robots.txt for {agent}"),
-            None => f.write_str("robots.txt for several crawlers"),
+            [audit] => {
+                let agent = audit.agent;
+                write!(f, "robots.txt for {agent}")
+            }
+            _ => f.write_str("robots.txt for several crawlers"),
         }
     }
+}
+
+/// Else the file was probably put in its place by mistake, so what it opens isn't marked as good.
+fn is_robots_file(audit: &Audit<'_>) -> bool {
+    has_directive(&audit.labels)
+        && !audit
+            .warnings
+            .iter()
+            .any(|found| matches!(found.cause, Cause::LooksLikeHtml | Cause::LooksLikeUtf16))
 }
 
 fn write_head(page: &mut Page, title: Title<'_>) -> fmt::Result {
@@ -61,31 +74,12 @@ fn write_head(page: &mut Page, title: Title<'_>) -> fmt::Result {
     page.html.close()
 }
 
-fn write_entry(page: &mut Page, name: &str, text: &str) -> fmt::Result {
-    page.element("dt", name)?;
-    page.element("dd", text)
-}
-
-fn write_line_at_fault(page: &mut Page, name: &str, front: &str, line: usize) -> fmt::Result {
-    page.element("dt", name)?;
-    page.html.open("dd", &[])?;
-    write!(page.html, "{front}{line}")?;
-    page.html.close()
-}
-
 fn write_syntax_entry(page: &mut Page, syntax: Conformance) -> fmt::Result {
-    match syntax {
-        Conformance::OtherFile => Ok(()),
-        Conformance::OtherLine(line) => write_line_at_fault(page, "Syntax", OTHER_LINE, line),
-        Conformance::Syntax(line) => {
-            write_entry(page, "Syntax", SYNTAX_SENTENCE)?;
-            write_line_at_fault(page, "Verdicts", LINE_APART, line)
-        }
-        Conformance::Verdicts => {
-            write_entry(page, "Syntax", SYNTAX_SENTENCE)?;
-            write_entry(page, "Verdicts", VERDICTS_SENTENCE)
-        }
-    }
+    let standard = Standard(syntax);
+    page.element("dt", "Syntax")?;
+    page.html.open("dd", &[])?;
+    write!(page.html, "{standard}")?;
+    page.html.close()
 }
 
 fn write_file_entry(page: &mut Page, name: &str) -> fmt::Result {
@@ -111,14 +105,17 @@ fn write_summary(
     page: &mut Page,
     request: &Request<'_>,
     audit: &Audit<'_>,
+    is_marked: bool,
 ) -> fmt::Result {
     page.html.open("dl", &[])?;
     write_file_entry(page, request.shown_name())?;
     write_date_entry(page, request.date)?;
-    write_crawler_entries(page, request.agent, &audit.agents)?;
-    write_sitemap_entry(alloc, page, &audit.labels)?;
-    write_syntax_entry(page, audit.syntax)?;
     write_warning_entry(alloc, page, audit.labels.len(), &audit.warnings)?;
+    write_crawler_entries(page, request.agent, is_marked, &audit.agents)?;
+    write_sitemap_entry(alloc, page, &audit.labels)?;
+    if has_directive(&audit.labels) {
+        write_syntax_entry(page, audit.syntax)?;
+    }
     page.html.close()
 }
 
@@ -131,7 +128,8 @@ pub fn page_text(
     ensures { IfOk result (λ page. IsSomePage page.items) }
 {
     let mut page = Page::new(alloc);
-    let title = Title(request.agent);
+    let title = Title(&audit.agents);
+    let is_marked = is_robots_file(audit);
     page.html.open("html", &[("lang", "en")])?;
     write_head(&mut page, title)?;
     page.html.open("body", &[])?;
@@ -139,8 +137,8 @@ pub fn page_text(
     page.html.open("h1", &[])?;
     write!(page.html, "{title}")?;
     page.html.close()?;
-    write_summary(alloc, &mut page, request, audit)?;
-    write_verdict_part(&mut page, request.agent, &request.urls, &audit.agents)?;
+    write_summary(alloc, &mut page, request, audit, is_marked)?;
+    write_verdict_part(&mut page, request.agent, is_marked, &request.urls, &audit.agents)?;
     write_file_table(alloc, &mut page, request.agent, audit)?;
     page.html.open("footer", &[])?;
     write!(page.html, "robots_audit {VERSION}")?;

@@ -2,7 +2,7 @@
 use crate::verdicts::write_verdicts;
 use audit_core::audit::AgentAudit;
 use audit_core::group::Group;
-use audit_core::texts::{may_fetch, write_rejected};
+use audit_core::texts::{Fetched, may_fetch, write_rejected};
 use printable_text::delay::Delay;
 use printable_text::report::Report;
 use std::fmt;
@@ -41,8 +41,9 @@ fn write_crawler(out: &mut Report, agent: &AgentAudit<'_>) -> fmt::Result {
         let delay = Delay(micros);
         write!(out, ", delay {delay}")?;
     }
-    if let Some(word) = may_fetch(agent.rejected, agent.reach) {
-        write!(out, ", may fetch {word}")?;
+    if may_fetch(agent.rejected, agent.reach).is_some() {
+        let fetched = Fetched(agent.reach, &agent.allows);
+        write!(out, ", may fetch {fetched}")?;
     }
     out.end_line()
 }

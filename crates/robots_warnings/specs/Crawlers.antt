@@ -150,11 +150,6 @@ meant value =
     if is_known value || is_known (before_first ends_token value) then None
     else position_from (is_meant value (unwrap_or (name_for value wrong_names) [])) 0 crawlers
 
--- the same for any line
-abbrev pub meant_in : LineValue → Option ℕ
-meant_in (UserAgent value) = meant value
-meant_in _ = None
-
 -- ---- Crawlers that a file names only past the size limit.
 
 -- a user-agent line with a name that none of these lines has, ASCII letters in any case

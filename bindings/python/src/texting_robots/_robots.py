@@ -267,7 +267,9 @@ class Robots:
         # the lookup of its robot and that robot's query, written out to save two calls; most callers have one `str` for their agent
         newest, opened = self._site.newest
         if newest is not agent:
-            opened = ((type(agent) is str and self._site.robots.get(agent)) or self._site.robot(agent))._opened
+            site = self._site
+            opened = ((type(agent) is str and site.robots.get(agent)) or site.robot(agent))._opened
+            site.newest = agent, opened
         try:
             text = _encode(url)
         except TypeError:
@@ -411,7 +413,6 @@ class _Site:
         if len(self.robots) >= _AGENTS_KEPT:
             self.robots.clear()
         self.robots[str(name, "utf-8")] = robot
-        self.newest = agent, robot._opened
         return robot
 
     def __reduce__(self) -> tuple[type[_Site], tuple[bytes]]:

@@ -4,7 +4,8 @@ ghost use Rattle.html_writer.specs.Page.{is_tag};
 
 use crate::page::elements::Page;
 use audit_core::audit::{AgentAudit, Verdict};
-use audit_core::texts::{Applied, DelayOrNone, may_fetch};
+use audit_core::reach::Reach;
+use audit_core::texts::{Applied, DelayOrNone, Fetched, may_fetch};
 use std::fmt;
 use std::fmt::Write;
 
@@ -70,20 +71,26 @@ fn write_group_note(page: &mut Page, audit: &AgentAudit<'_>) -> fmt::Result {
     Ok(())
 }
 
-/// What a crawler may fetch, if that is everything or nothing; else its rules decide.
-fn fetch_word(agent: &AgentAudit<'_>) -> &'static str {
-    match may_fetch(agent.rejected, agent.reach) {
-        Some(word) => word,
-        None => "see rules",
-    }
-}
-
-fn write_fetch(page: &mut Page, name: &'static str, agent: &AgentAudit<'_>) -> fmt::Result
+/// What a crawler may fetch. If it isn't marked, its color says nothing.
+fn write_fetch(
+    page: &mut Page,
+    name: &'static str,
+    is_marked: bool,
+    agent: &AgentAudit<'_>,
+) -> fmt::Result
     requires { is_tag name.now ≡ true }
 {
-    let word = fetch_word(agent);
-    page.html.open(name, &[("class", word)])?;
-    page.html.write_str(word)?;
+    let class = match may_fetch(agent.rejected, agent.reach) {
+        Some(word) if is_marked => word,
+        _ => "some",
+    };
+    page.html.open(name, &[("class", class)])?;
+    let fetched = Fetched(agent.reach, &agent.allows);
+    match (agent.rejected, agent.reach) {
+        (Some(_), _) => page.html.write_str("not decided")?,
+        (None, Reach::Part) => page.html.write_str("some, by its rules")?,
+        (None, _) => write!(page.html, "{fetched}")?,
+    }
     page.html.close()
 }
 
@@ -95,7 +102,7 @@ fn write_fact<D: fmt::Display + Drop>(page: &mut Page, name: &'static str, fact:
     page.html.close()
 }
 
-fn write_agent_entry(page: &mut Page, agent: &AgentAudit<'_>) -> fmt::Result {
+fn write_agent_entry(page: &mut Page, is_marked: bool, agent: &AgentAudit<'_>) -> fmt::Result {
     page.element("dt", "Group")?;
     page.html.open("dd", &[])?;
     write_group_note(page, agent)?;
@@ -105,10 +112,10 @@ fn write_agent_entry(page: &mut Page, agent: &AgentAudit<'_>) -> fmt::Result {
     page.element("dt", "Crawl delay")?;
     write_fact(page, "dd", DelayOrNone(agent.delay))?;
     page.element("dt", "May fetch")?;
-    write_fetch(page, "dd", agent)
+    write_fetch(page, "dd", is_marked, agent)
 }
 
-fn write_agent_row(page: &mut Page, agent: &AgentAudit<'_>) -> fmt::Result {
+fn write_agent_row(page: &mut Page, is_marked: bool, agent: &AgentAudit<'_>) -> fmt::Result {
     page.html.open("tr", &[])?;
     page.code_heading("row", agent.agent.as_bytes())?;
     page.html.open("td", &[])?;
@@ -116,7 +123,7 @@ fn write_agent_row(page: &mut Page, agent: &AgentAudit<'_>) -> fmt::Result {
     page.html.close()?;
     write_fact(page, "td", agent.rules)?;
     write_fact(page, "td", DelayOrNone(agent.delay))?;
-    write_fetch(page, "td", agent)?;
+    write_fetch(page, "td", is_marked, agent)?;
     for verdict in &agent.verdicts {
         write_verdict_cell(page, true, verdict)?;
     }
@@ -139,7 +146,12 @@ fn write_agent_columns(page: &mut Page, urls: &[&str]) -> fmt::Result {
 }
 
 /// It can be scrolled, also with keys.
-fn write_agent_table(page: &mut Page, urls: &[&str], agents: &[AgentAudit<'_>]) -> fmt::Result {
+fn write_agent_table(
+    page: &mut Page,
+    is_marked: bool,
+    urls: &[&str],
+    agents: &[AgentAudit<'_>],
+) -> fmt::Result {
     page.html
         .open("div", &[("class", "scroll"), ("tabindex", "0")])?;
     page.html.open("table", &[("class", "agents")])?;
@@ -147,7 +159,7 @@ fn write_agent_table(page: &mut Page, urls: &[&str], agents: &[AgentAudit<'_>]) 
     write_agent_columns(page, urls)?;
     page.html.open("tbody", &[])?;
     for agent in agents {
-        write_agent_row(page, agent)?;
+        write_agent_row(page, is_marked, agent)?;
     }
     page.html.close()?;
     page.html.close()?;
@@ -157,13 +169,14 @@ fn write_agent_table(page: &mut Page, urls: &[&str], agents: &[AgentAudit<'_>]) 
 pub(crate) fn write_crawler_entries(
     page: &mut Page,
     agent: Option<&str>,
+    is_marked: bool,
     agents: &[AgentAudit<'_>],
 ) -> fmt::Result {
     if agent.is_none() {
         return Ok(());
     }
     for agent in agents {
-        write_agent_entry(page, agent)?;
+        write_agent_entry(page, is_marked, agent)?;
     }
     Ok(())
 }
@@ -171,12 +184,13 @@ pub(crate) fn write_crawler_entries(
 pub(crate) fn write_verdict_part(
     page: &mut Page,
     agent: Option<&str>,
+    is_marked: bool,
     urls: &[&str],
     agents: &[AgentAudit<'_>],
 ) -> fmt::Result {
     if agent.is_none() {
         page.element("h2", "Crawlers")?;
-        return write_agent_table(page, urls, agents);
+        return write_agent_table(page, is_marked, urls, agents);
     }
     for agent in agents {
         if !agent.verdicts.is_empty() {

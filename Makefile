@@ -1,7 +1,0 @@
-.PHONY: check dist
-
-check:
-	./check
-
-dist:
-	./release
