@@ -11,7 +11,7 @@ use Rattle.texting_robots.proofs.Shared.{matches, matches_decides, placed_of}
 use Rattle.robots_same.specs.Same.{HaveSameVerdicts}
 use Rattle.robots_needless.proofs.TogetherLemmas.{to_filter, to_map, unplaced_of}
 use Rattle.robots_warnings.specs.Closed.{is_anything, is_closing, is_root, is_star_or_dollar, is_whole_site}
-use Rattle.robots_warnings.specs.Closed.{without_stars}
+use Rattle.robots_warnings.specs.{Closed.without_stars, declared.closed.Part.TheVariants.Site}
 use Rattle.audit_core.specs.Reach.{IsOpened, IsReach, is_allow, is_long_allow, plain_rules}
 use Rattle.audit_core.specs.declared.reach.Reach.TheVariants.{Everything, Listed, Nothing}
 
@@ -70,7 +70,7 @@ no_line (line ∷ lines) none has = absurd (cc)
 
 -- what a Disallow of the whole site leaves of a path
 module _ (rules : List PlacedRule) (closing : PlacedRule) (listed : Contains rules closing)
-    (closes : is_closing closing ≡ true) (rest : List ℕ) where
+    (closes : is_closing Site closing ≡ true) (rest : List ℕ) where
   abbrev opens : PlacedRule → Bool
   opens placed = is_long_allow (length closing.rule.0) placed && matches true placed.rule.0 (codes "/" ++ rest)
 
@@ -105,7 +105,7 @@ module _ (rules : List PlacedRule) (closing : PlacedRule) (listed : Contains rul
       }
 
 module _ (rules : List PlacedRule) (closing : PlacedRule) (lines : List ℕ) (listed : Contains rules closing)
-    (closes : is_closing closing ≡ true)
+    (closes : is_closing Site closing ≡ true)
     (are : lines ≡ map line_of (filter (is_long_allow (length closing.rule.0)) rules)) where
   pub fetches_listed : IsReach rules Listed lines
   fetches_listed rest differs allowed = elim (cases_Bool (list_any (opens rules closing listed closes rest) rules)) [

@@ -2,7 +2,7 @@
 ghost use Rattle.std.specs.Prelude.{◌≡◌, [], Contains, IfOk, filter, map, true};
 ghost use Rattle.std.specs.List.{list_all};
 ghost use Rattle.texting_robots.specs.Callers.{PlacedRule};
-ghost use Rattle.robots_warnings.specs.Closed.{is_closing};
+ghost use Rattle.robots_warnings.specs.{Closed.is_closing, declared.closed.Part.TheVariants.Site};
 ghost use Rattle.audit_core.specs.Reach.{IsReach, is_allow, is_long_allow, plain_rules};
 
 use crate::whole_site::is_whole_site;
@@ -30,7 +30,7 @@ const BUDGET: usize = 10_000;
 const TRIES: usize = 8;
 
 fn is_closing(rule: &Rule) -> bool
-    ensures { result ≡ is_closing rule.now }
+    ensures { result ≡ is_closing Site rule.now }
 {
     !rule.is_allow && is_whole_site(rule.pattern.as_bytes())
 }
@@ -64,7 +64,7 @@ fn reach_below(
     closing: &Rule,
 ) -> Result<(Reach, Vec<usize>), AllocError>
     requires listed { Contains rules.now closing.now }
-    requires closing { is_closing closing.now ≡ true }
+    requires closing { is_closing Site closing.now ≡ true }
     ensures { IfOk result (λ found. IsReach rules.now found.0 found.1.items) }
 {
     let lines = allows_from(alloc, rules, closing.pattern.len())?;
