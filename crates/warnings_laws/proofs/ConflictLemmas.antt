@@ -218,7 +218,8 @@ closed_denies is_exempt agent lines rules text is are differs opens =
         → Matches pattern (byte "/" ∷ text)
         → ((true && not (leaves_closed part.Site is_exempt pattern || matches_no_path pattern))
         && nat_le n (length pattern)) ≡ false
-        → (leaves_closed part.Site is_exempt pattern ≡ true) ⊎ (leaves_closed part.Site is_exempt pattern ≡ false)
+        → (leaves_closed part.Site is_exempt pattern ≡ true)
+        ⊎ (leaves_closed part.Site is_exempt pattern ≡ false)
         → (matches_no_path pattern ≡ true) ⊎ (matches_no_path pattern ≡ false) → length pattern < n
     shorter n pattern has matches isnt (inl exempt) _ = absurd (opens pattern has exempt matches)
     shorter n pattern has matches isnt (inr stated) (inl never) =
