@@ -53,30 +53,6 @@ pub(crate) struct Checked<'a> {
     pub(crate) vendor: AtVendor<'a>,
 }
 
-fn decided_on(
-    alloc: Global,
-    agent: &str,
-    expectation: &Expectation<'_>,
-    robot: &Robot,
-    read: &FileRead<'_>,
-) -> Result<Judgment, Fault>
-    requires read { IsRead read.now }
-    requires robot { IsRobotWithoutSitemaps agent.now (take file_limit read.now.bytes.now) robot.now }
-    requires url { expectation.now.is_pattern ≡ false }
-    ensures ok { IfOk result (IsJudgmentOn read.now.bytes.now agent.now (expectation_value expectation.now)) }
-    ensures fault { IfErr result (λ fault. fault ≡ Fault.Memory) }
-{
-    let url = expectation.url;
-    let form = written_form(alloc, url)?;
-    let Some(target) = form else {
-        return Ok(Judgment::Rewritten);
-    };
-    let decision = decision_on(alloc, robot, url)?;
-    let other = other_decision(alloc, agent, url, &decision, read)?;
-    let normal = normal_decision(alloc, agent, &target, read)?;
-    Ok(Judgment::Decided(decision, other, normal))
-}
-
 fn on_pattern(
     alloc: Global,
     agent: &str,
@@ -95,6 +71,32 @@ fn on_pattern(
     Ok(Judgment::Everywhere(found))
 }
 
+fn decided_on(
+    alloc: Global,
+    agent: &str,
+    expectation: &Expectation<'_>,
+    robot: &Robot,
+    read: &FileRead<'_>,
+) -> Result<Judgment, Fault>
+    requires read { IsRead read.now }
+    requires robot { IsRobotWithoutSitemaps agent.now (take file_limit read.now.bytes.now) robot.now }
+    ensures ok { IfOk result (IsJudgmentOn read.now.bytes.now agent.now (expectation_value expectation.now)) }
+    ensures fault { IfErr result (λ fault. fault ≡ Fault.Memory) }
+{
+    if expectation.is_pattern {
+        return on_pattern(alloc, agent, expectation, read);
+    }
+    let url = expectation.url;
+    let form = written_form(alloc, url)?;
+    let Some(target) = form else {
+        return Ok(Judgment::Rewritten);
+    };
+    let decision = decision_on(alloc, robot, url)?;
+    let other = other_decision(alloc, agent, url, &decision, read)?;
+    let normal = normal_decision(alloc, agent, &target, read)?;
+    Ok(Judgment::Decided(decision, other, normal))
+}
+
 /// `reading` is how the file is read for the crawler.
 fn judgment_on(
     alloc: Global,
@@ -110,12 +112,6 @@ fn judgment_on(
 {
     match reading {
         Reading::Rejected(line) => Ok(Judgment::Rejected(*line)),
-        Reading::Accepted(_) if expectation.is_pattern => on_pattern(
-            alloc,
-            agent,
-            expectation,
-            read,
-        ),
         Reading::Accepted(robot) => decided_on(alloc, agent, expectation, robot, read),
     }
 }
