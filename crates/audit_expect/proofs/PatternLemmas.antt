@@ -30,22 +30,22 @@ rejoined zero text = refl
 rejoined (suc k) [] = refl
 rejoined (suc k) (b ∷ text) = ap (λ (text : List ℕ). b ∷ text) (rejoined k text)
 
-pub longer_matches : (number : ℕ) (pattern longer : List ℕ)
-    → (let front = before_byte star pattern in longer ≡ ((escaped front ++ codes "*")
-    ++ repeat number (codes "*")) ++ escaped (drop (length front) pattern))
+pub longer_matches : (number : ℕ) (pattern front longer : List ℕ) → front ≡ before_byte star pattern
+    → longer ≡ ((escaped front ++ codes "*") ++ repeat number (codes "*"))
+    ++ escaped (drop (length front) pattern)
     → (text : List ℕ) → Matches (escaped pattern) text → Matches longer text
-longer_matches number pattern longer are text is =
-    let front = before_byte star pattern in
-    let back = escaped (drop (length front) pattern) in
+longer_matches number pattern front longer first are text is =
+    let rest = drop (length front) pattern in
     let stars = repeat (suc number) (codes "*") in
-    let whole : longer ≡ escaped front ++ (stars ++ back) =
+    let same : front ++ rest ≡ pattern = rw first (rejoined _ pattern) in
+    let parts : escaped pattern ≡ escaped front ++ escaped rest =
+    sym (ap escaped same) ∙ flat_map-append escape_byte front rest in
+    let whole : longer ≡ escaped front ++ (stars ++ escaped rest) =
     are
-    ∙ ap (λ (t : List ℕ). t ++ back) (append_assoc (escaped front) (codes "*") (repeat number (codes "*")))
-    ∙ append_assoc (escaped front) stars back in
-    let parts : escaped pattern ≡ escaped front ++ back =
-    sym (ap escaped (rejoined _ pattern)) ∙ flat_map-append escape_byte front (drop (length front) pattern)
-    in
-    rw whole (more_stars (suc number) (escaped front) back text (rw parts at is))
+    ∙ ap (λ (t : List ℕ). t ++ escaped rest)
+    (append_assoc (escaped front) (codes "*") (repeat number (codes "*")))
+    ∙ append_assoc (escaped front) stars (escaped rest) in
+    rw whole (more_stars (suc number) (escaped front) (escaped rest) text (rw parts at is))
 
 module _ (rules : List PlacedRule) (longer : PlacedRule) (pattern : List ℕ) (allowed : Bool)
     (more : (text : List ℕ) → Matches pattern text → Matches longer.rule.0 text)
@@ -60,7 +60,7 @@ module _ (rules : List PlacedRule) (longer : PlacedRule) (pattern : List ℕ) (a
       let passes = AllPass-from_list_all
       (λ (placed : PlacedRule). nat_lt (length placed.rule.0) (length longer.rule.0)) rules shorter k placed
       within in
-      grind (arith, nat_tests)
+      grind (arith, nat_tests, passes, at, is)
 
   own : (kind : Bool) → longer.rule.1 ≡ kind → Contains all (longer.rule.0, kind)
   own kind is = subst (λ (kind : Bool). Contains all (longer.rule.0, kind)) is
@@ -70,7 +70,7 @@ module _ (rules : List PlacedRule) (longer : PlacedRule) (pattern : List ℕ) (a
   among : (rule : Rule) → Contains all rule → (rule.1 ≡ allowed → ⊥) → length rule.0 < length longer.rule.0
   among rule listed differs = elim (Contains-push_cases (unplaced rules) longer.rule rule listed) [
     | inl before ↦ below rule before
-    | inr same ↦ absurd (differs (ap (λ (rule : Rule). rule.1) same ∙ kind))
+    | inr same ↦ absurd (differs (sym (ap (λ (rule : Rule). rule.1) same) ∙ kind))
   ]
 
   added : (verdict : Bool) → allowed ≡ verdict → (text : List ℕ) → IsPathOf pattern text
