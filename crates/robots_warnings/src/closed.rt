@@ -3,7 +3,6 @@ ghost use Rattle.std.specs.Prelude.{◌≡◌, ◌++◌, ◌||◌, ◌∷◌, []
 ghost use Rattle.std.specs.Prelude.{is_some, length, map, nat_lt, option_map, slice_get, string_bytes, ℕ};
 ghost use Rattle.std.specs.{HashSet.contains_text, List.filter_map, List.list_any, Str.str_eq_ignore_ascii_case};
 ghost use Rattle.texting_robots.specs.Callers.{PlacedRule, file_lines, label_by_value, placed_rules};
-ghost use Rattle.robots_warnings.specs.{declared.closed.Part.TheVariants.All};
 ghost use Rattle.robots_warnings.specs.Closed.{closed_at, closes, closing_line, is_closing, is_exempt};
 ghost use Rattle.robots_warnings.specs.Closed.{is_for, is_let_in, is_literally, is_major, is_number, is_rival, leaves_closed};
 ghost use Rattle.robots_warnings.specs.Closed.{lets_in, line_closing, line_reported, opened_path, part_closing};
