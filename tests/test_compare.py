@@ -232,11 +232,21 @@ def test_verdicts_alone_decide_the_status(tmp_path):
 
 
 def test_verdicts_that_are_not_decided(tmp_path):
-    """The rules are too many, and have too many stars."""
-    chance = random.Random(1)
-    old, new = (b"".join(b"%s: /%s\n" % (chance.choice([b"Allow", b"Disallow"]), bytes(chance.choices(b"abc*", k=20))) for _ in range(1000)) for _ in range(2))
-    result = for_ferris(tmp_path, old, new, "--verdicts")
+    """The rule has too many stars."""
+    rule = b"Disallow: /" + 4000 * b"a*" + b"b"
+    result = for_ferris(tmp_path, rule, rule + b"*", "--verdicts")
     assert (result.status, result.out.splitlines()[-1]) == (1, "crawler Ferris: it isn't decided whether a URL's verdict changes")
+
+
+def test_kinds_in_turn(tmp_path):
+    """24 rules of both kinds, with and without a star at the end."""
+    old, new = (
+        b"".join(b"%s: /*%c1*%c2%s\n" % (b"Allow" if letter % 2 else b"Disallow", letter, letter, end) for letter in b"abcdefghijklmnopqrstuvwx")
+        for end in (b"", b"*")
+    )
+    for pair in (old, new), (new, old):
+        result = for_ferris(tmp_path, *pair, "--verdicts")
+        assert (result.status, result.out.splitlines()[-1]) == (0, "crawler Ferris: no URL's verdict changes")
 
 
 def is_allowed(rules, path):

@@ -282,6 +282,11 @@ def test_page_says_what_a_crawler_may_fetch(file):
     assert (row[2], row[4]) == FILES[file]
 
 
+@pytest.mark.parametrize("file, is_mistake", [(b"<html>", True), (b"", True), (b"U\0s\0e\0r\0", True), (b"User-agent: *", False)])
+def test_what_a_mistake_opens_is_not_marked_as_good(file, is_mistake):
+    assert ('<main class="mistake">' in page("-", file=file)) is is_mistake
+
+
 def test_page_has_the_name_of_the_file_and_the_version(tmp_path):
     (tmp_path / "a<b.txt").write_bytes(EXAMPLE)
     ended = run("robots_audit", ["--html", "a<b.txt"], cwd=tmp_path)

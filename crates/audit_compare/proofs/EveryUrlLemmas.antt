@@ -1,18 +1,13 @@
--- What comparisons of rules on all match targets imply.
-use Rattle.std.proofs.Common.{◌≡◌, ◌≢◌, ℕ, zero, suc, ◌<◌, true, false, List, [], ◌∷◌, ◌++◌, Contains, arith}
-use Rattle.std.proofs.Common.{Err, IfOk, None, Ok, Option, Result, Some, ap, codes, length, refl, string_bytes}
+-- An example of a verdict that changes.
+use Rattle.std.proofs.Common.{ℕ, List, [], ◌∷◌, Err, IfOk, None, Ok, Option, Result, Some, refl, string_bytes}
 use Rattle.std.specs.Option.{IfSome}
-use Rattle.std.proofs.lemmas.{Bool.false≢true}
-use Rattle.texting_robots.specs.Callers.{IsDenied, Matches, Rule, RobotValue, lines_read}
-use Rattle.texting_robots.specs.Callers.{PlacedRule, placed_rules, robots_file, unplaced}
-use Rattle.texting_robots.specs.{Pattern.MatchesWith, Decision.IsDecisionOn, declared.decision.Decision.Decision}
-use Rattle.robots_same.specs.Same.{HaveSameVerdicts}
-use Rattle.robots_warnings.specs.declared.closed.Reach.TheVariants.{Everything, Nothing}
+use Rattle.texting_robots.specs.Callers.{RobotValue, lines_read, placed_rules}
+use Rattle.texting_robots.specs.{Decision.IsDecisionOn, declared.decision.Decision.Decision}
 use Rattle.audit_core.specs.{Asked.asked_target, Internal.IsReading, declared.audit.Reading.TheVariants.Accepted}
 use Rattle.audit_core.specs.declared.fault.Fault.{Fault}
 use Rattle.audit_core.proofs.{AuditLemmas.ruling_made}
 use Rattle.audit_compare.specs.declared.every_url.{Example.Example}
-use Rattle.audit_compare.specs.EveryUrl.{IsExample, IsReach}
+use Rattle.audit_compare.specs.EveryUrl.{IsExample}
 
 decided : (agent file url : List ℕ) (robot : RobotValue) (decision : Decision)
     → IsReading agent file (Accepted robot) → IsDecisionOn robot.rules (asked_target url) decision

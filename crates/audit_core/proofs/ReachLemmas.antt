@@ -10,9 +10,9 @@ use Rattle.texting_robots.specs.{Pattern.MatchesWith}
 use Rattle.texting_robots.proofs.Shared.{matches, matches_decides, placed_of}
 use Rattle.robots_same.specs.Same.{HaveSameVerdicts}
 use Rattle.robots_needless.proofs.TogetherLemmas.{to_filter, to_map, unplaced_of}
-use Rattle.robots_warnings.specs.Closed.{is_anything, is_closing, is_root, is_star_or_dollar, is_whole_site}
+use Rattle.robots_warnings.specs.Closed.{is_anything, is_root, is_star_or_dollar, is_whole_site}
 use Rattle.robots_warnings.specs.Closed.{without_stars}
-use Rattle.audit_core.specs.Reach.{IsOpened, IsReach, is_allow, is_long_allow, plain_rules}
+use Rattle.audit_core.specs.Reach.{IsOpened, IsReach, is_allow, is_closing, is_long_allow, plain_rules}
 use Rattle.audit_core.specs.declared.reach.Reach.TheVariants.{Everything, Listed, Nothing}
 
 -- ---- A pattern of the whole site.

@@ -1,7 +1,8 @@
 -- What a crawler may fetch. Crawlers ask for match targets, which begin with `/`.
 use Rattle.std.specs.Prelude.{◌≡◌, ◌≢◌, ℕ, Bool, true, false, ◌&&◌, List, [], ◌∷◌, ◌++◌, Contains, codes, length}
-use Rattle.std.specs.Prelude.{nat_le}
+use Rattle.std.specs.Prelude.{nat_le, not}
 use Rattle.texting_robots.specs.Callers.{IsVerdict, Matches, PlacedRule, robots_file, unplaced}
+use Rattle.robots_warnings.specs.Closed.{is_whole_site}
 use Rattle.audit_core.specs.declared.reach.Reach.{Reach}
 use Rattle.audit_core.specs.declared.reach.Reach.TheVariants.{Everything, Listed, Nothing, Part}
 
@@ -27,6 +28,10 @@ is_allow placed = placed.rule.1
 
 abbrev pub is_long_allow : ℕ → PlacedRule → Bool
 is_long_allow least placed = placed.rule.1 && nat_le least (length placed.rule.0)
+
+-- a Disallow of the whole site
+abbrev pub is_closing : PlacedRule → Bool
+is_closing placed = not placed.rule.1 && is_whole_site placed.rule.0
 
 abbrev pub plain_rules : (is_open : Bool) → List PlacedRule
 plain_rules true = []

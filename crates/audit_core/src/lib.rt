@@ -24,4 +24,3 @@ pub mod sitemaps;
 pub mod syntax;
 pub mod texts;
 pub mod version;
-mod whole_site;

@@ -2,12 +2,11 @@
 ghost use Rattle.std.specs.Prelude.{◌≡◌, [], Contains, IfOk, filter, map, true};
 ghost use Rattle.std.specs.List.{list_all};
 ghost use Rattle.texting_robots.specs.Callers.{PlacedRule};
-ghost use Rattle.robots_warnings.specs.Closed.{is_closing};
-ghost use Rattle.audit_core.specs.Reach.{IsReach, is_allow, is_long_allow, plain_rules};
+ghost use Rattle.audit_core.specs.Reach.{IsReach, is_allow, is_closing, is_long_allow, plain_rules};
 
-use crate::whole_site::is_whole_site;
 use robots_same::compare::{Comparison, compare};
 use robots_same::rule::Rule;
+use robots_warnings::site_patterns::is_whole_site;
 use std::alloc::{AllocError, Global};
 use texting_robots::Robot;
 

@@ -44,10 +44,10 @@ impl<'a> fmt::Display for Title<'a> {
 /// Else the file was probably put in its place by mistake, so what it opens isn't marked as good.
 fn is_robots_file(audit: &Audit<'_>) -> bool {
     has_directive(&audit.labels)
-        && !audit
-            .warnings
-            .iter()
-            .any(|found| matches!(found.cause, Cause::LooksLikeHtml | Cause::LooksLikeUtf16))
+        && !audit.warnings.iter().any(|found| matches!(
+            found.cause,
+            Cause::LooksLikeHtml | Cause::LooksLikeUtf16
+        ))
 }
 
 fn write_head(page: &mut Page, title: Title<'_>) -> fmt::Result {
@@ -105,13 +105,12 @@ fn write_summary(
     page: &mut Page,
     request: &Request<'_>,
     audit: &Audit<'_>,
-    is_marked: bool,
 ) -> fmt::Result {
     page.html.open("dl", &[])?;
     write_file_entry(page, request.shown_name())?;
     write_date_entry(page, request.date)?;
     write_warning_entry(alloc, page, audit.labels.len(), &audit.warnings)?;
-    write_crawler_entries(page, request.agent, is_marked, &audit.agents)?;
+    write_crawler_entries(page, request.agent, &audit.agents)?;
     write_sitemap_entry(alloc, page, &audit.labels)?;
     if has_directive(&audit.labels) {
         write_syntax_entry(page, audit.syntax)?;
@@ -129,16 +128,19 @@ pub fn page_text(
 {
     let mut page = Page::new(alloc);
     let title = Title(&audit.agents);
-    let is_marked = is_robots_file(audit);
     page.html.open("html", &[("lang", "en")])?;
     write_head(&mut page, title)?;
     page.html.open("body", &[])?;
-    page.html.open("main", &[])?;
+    if is_robots_file(audit) {
+        page.html.open("main", &[])?;
+    } else {
+        page.html.open("main", &[("class", "mistake")])?;
+    }
     page.html.open("h1", &[])?;
     write!(page.html, "{title}")?;
     page.html.close()?;
-    write_summary(alloc, &mut page, request, audit, is_marked)?;
-    write_verdict_part(&mut page, request.agent, is_marked, &request.urls, &audit.agents)?;
+    write_summary(alloc, &mut page, request, audit)?;
+    write_verdict_part(&mut page, request.agent, &request.urls, &audit.agents)?;
     write_file_table(alloc, &mut page, request.agent, audit)?;
     page.html.open("footer", &[])?;
     write!(page.html, "robots_audit {VERSION}")?;

@@ -1,20 +1,16 @@
 -- Which warnings and which URLs a report lists.
-use Rattle.std.proofs.Common.{◌≡◌, ◌∙◌, ℕ, Bool, List, [], ◌∷◌, ◌++◌, ap, append_assoc, map, sym, ◌+◌}
-use Rattle.std.proofs.Common.{◌-◌, ◌<◌, ◌≤◌, ap₂, arith, cond, drop, filter_map, if◌then◌else◌, length, not}
-use Rattle.std.proofs.Common.{slice_index_or, take, ◌&&◌, ◌||◌, slice_set}
-use Rattle.std.specs.List.{list_any}
+use Rattle.std.proofs.Common.{◌≡◌, ◌∙◌, ℕ, List, [], ◌∷◌, ◌++◌, ap, map, sym, ◌+◌, ◌-◌, ◌<◌, ◌≤◌, ap₂, arith}
+use Rattle.std.proofs.Common.{cond, drop, if◌then◌else◌, length, slice_index_or, slice_set, take}
 use Rattle.std.proofs.lemmas.List.{drop_more, length-take-le, map-append, take_more}
-use Rattle.std.proofs.lemmas.List.{Elements.filter_map-append, drop-set-lt, length-drop, take_more_set}
+use Rattle.std.proofs.lemmas.List.{drop-set-lt, length-drop, take_more_set}
 use Rattle.printable_text.specs.{declared.level.Level.Level}
 use Rattle.robots_warnings.specs.Message.{WarningValue}
 use Rattle.audit_text.specs.{declared.listed.More.More}
-use Rattle.audit_text.specs.Joined.{is_first, is_joined, is_joined_as, line_as, placed}
 use Rattle.audit_text.specs.Listed.{count_like, count_of, is_like, more_of, most}
 use Rattle.std.proofs.lemmas.List.Sums.{count_by-le-length, sum_by_push}
 use Rattle.audit_text.specs.Internal.Listed.{AreCounts, Counts, counted}
-use Rattle.robots_warnings.specs.Table.{level_of, name_of, number_of}
+use Rattle.robots_warnings.specs.Table.{level_of, name_of}
 use Rattle.robots_warnings.specs.{declared.table.Cause.Cause}
-use Rattle.robots_warnings.proofs.ClosedLemmas.{any_last}
 use Rattle.audit_core.specs.Audit.{AgentValue, with_denied}
 
 -- ---- How warnings are counted, and which of them are listed.

@@ -11,6 +11,9 @@ use std::alloc::{AllocError, Global};
 /// At most so many rounds of steps are tried.
 const ROUNDS: usize = 64;
 
+/// If no more rules are in one list alone, all are changed in the first step.
+const FEW: usize = 5;
+
 /// A list between both: two pools, of the old list and this one, and of this and the new one. The rules from
 /// one position to another are those of the new list, and the others those of the old one, or contrariwise.
 fn split<'a>(
@@ -112,8 +115,16 @@ fn steps<'a>(
     Ok(Comparison::Undecided)
 }
 
-/// First all rules at once, then smaller and smaller blocks in both lists, and at last what is left, for which
-/// half of the budget is kept.
+/// How many rules the first steps change: if they aren't few, so many that all steps together stay within a
+/// part of the budget.
+fn first_size(pool: &[Entry<'_>], budget: usize) -> usize {
+    if differences(pool) <= FEW {
+        return pool.len();
+    }
+    pool.len().saturating_mul(pool.len()) / (budget / 16 + 1)
+}
+
+/// Smaller and smaller blocks in both lists, and at last what is left, for which half of the budget is kept.
 pub(crate) fn compare_by_steps(
     alloc: Global,
     start: Vec<Entry<'_>>,
@@ -125,7 +136,7 @@ pub(crate) fn compare_by_steps(
     let half = *budget / 2;
     let mut left = half;
     let mut pool = start;
-    let mut size = pool.len();
+    let mut size = first_size(&pool, half);
     let mut before = 0;
     for round in 0..ROUNDS {
         let of_new = round % 2 == 1;

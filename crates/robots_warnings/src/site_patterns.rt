@@ -89,7 +89,7 @@ fn without_stars<'a>(value: &'a [u8]) -> &'a [u8]
     rest
 }
 
-pub(crate) fn is_whole_site(value: &[u8]) -> bool
+pub fn is_whole_site(value: &[u8]) -> bool
     ensures { result ≡ is_whole_site value.now }
 {
     is_anything(value) || is_root(without_stars(value))

@@ -12,8 +12,8 @@ use Rattle.std.proofs.lemmas.List.Folds.{list_any-from_Any, Any-from_list_any, l
 use Rattle.texting_robots.specs.Callers.{AreRulesFor, LineValue, Matches, PlacedRule, Rule, escaped, IsDenied}
 use Rattle.texting_robots.specs.Callers.{placed_rules, HoldsRule, IsDecidingLine, robots_file, unplaced}
 use Rattle.texting_robots.specs.{Pattern.MatchesWith}
-use Rattle.robots_warnings.specs.Closed.{is_anything, is_root, is_star_or_dollar, is_whole_site, closes}
-use Rattle.robots_warnings.specs.Closed.{without_stars, closing_line, is_allow, is_exempt, is_literally}
+use Rattle.robots_warnings.specs.Closed.{closes, closing_line, is_exempt, is_literally, is_star_or_dollar}
+use Rattle.robots_warnings.specs.Closed.{is_whole_site}
 use Rattle.robots_warnings.specs.Closed.{is_rival, line_closing, matches_no_path, opened_paths}
 use Rattle.robots_warnings.specs.{Closed.leaves_closed, Closed.opens_little}
 use Rattle.robots_warnings.specs.declared.closed.Part.TheVariants as part
@@ -218,7 +218,8 @@ closed_denies is_exempt agent lines rules text is are differs opens =
         → Matches pattern (byte "/" ∷ text)
         → ((true && not (leaves_closed part.Site is_exempt pattern || matches_no_path pattern))
         && nat_le n (length pattern)) ≡ false
-        → (leaves_closed part.Site is_exempt pattern ≡ true) ⊎ (leaves_closed part.Site is_exempt pattern ≡ false)
+        → (leaves_closed part.Site is_exempt pattern ≡ true)
+        ⊎ (leaves_closed part.Site is_exempt pattern ≡ false)
         → (matches_no_path pattern ≡ true) ⊎ (matches_no_path pattern ≡ false) → length pattern < n
     shorter n pattern has matches isnt (inl exempt) _ = absurd (opens pattern has exempt matches)
     shorter n pattern has matches isnt (inr stated) (inl never) =

@@ -96,7 +96,11 @@ pub(crate) fn write_file_table(
     agent: Option<&str>,
     audit: &Audit<'_>,
 ) -> fmt::Result {
-    let class = if agent.is_none() { "lines all" } else { "lines" };
+    let class = if agent.is_none() {
+        "lines all"
+    } else {
+        "lines"
+    };
     let agent = labeling_agent(agent);
     page.element("h2", "File")?;
     page.html.open("table", &[("class", class)])?;

@@ -67,6 +67,7 @@ td:only-child { grid-column: 1 / -1 }
 
 .allowed, .everything { color: var(--yes); font-weight: 600 }
 .listed { font-weight: 600 }
+.mistake .allowed, .mistake .everything { color: inherit }
 .denied, .nothing { color: var(--no); font-weight: 600 }
 td a { font-weight: 400 }
 .own { box-shadow: inset 4px 0 var(--link) }
@@ -130,5 +131,5 @@ tr:target { background: var(--hit) }
 
 /// It permits the page's own style only, by the SHA-256 hash that a test computes again.
 pub(crate) const POLICY: &str = "default-src 'none'; \
-    style-src 'sha256-/xQvhQc7fUA1vC6v+XTubifxeJLhEbT7UVpBNCB6ELU='; \
+    style-src 'sha256-k+T9wyW/JdgYDq7kgifXVlKrGvj0qpMgVZW2ay3I7pc='; \
     base-uri 'none'; form-action 'none'";

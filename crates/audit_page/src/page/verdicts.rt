@@ -71,19 +71,10 @@ fn write_group_note(page: &mut Page, audit: &AgentAudit<'_>) -> fmt::Result {
     Ok(())
 }
 
-/// What a crawler may fetch. If it isn't marked, its color says nothing.
-fn write_fetch(
-    page: &mut Page,
-    name: &'static str,
-    is_marked: bool,
-    agent: &AgentAudit<'_>,
-) -> fmt::Result
+fn write_fetch(page: &mut Page, name: &'static str, agent: &AgentAudit<'_>) -> fmt::Result
     requires { is_tag name.now ≡ true }
 {
-    let class = match may_fetch(agent.rejected, agent.reach) {
-        Some(word) if is_marked => word,
-        _ => "some",
-    };
+    let class = may_fetch(agent.rejected, agent.reach).unwrap_or("some");
     page.html.open(name, &[("class", class)])?;
     let fetched = Fetched(agent.reach, &agent.allows);
     match (agent.rejected, agent.reach) {
@@ -102,7 +93,7 @@ fn write_fact<D: fmt::Display + Drop>(page: &mut Page, name: &'static str, fact:
     page.html.close()
 }
 
-fn write_agent_entry(page: &mut Page, is_marked: bool, agent: &AgentAudit<'_>) -> fmt::Result {
+fn write_agent_entry(page: &mut Page, agent: &AgentAudit<'_>) -> fmt::Result {
     page.element("dt", "Group")?;
     page.html.open("dd", &[])?;
     write_group_note(page, agent)?;
@@ -112,10 +103,10 @@ fn write_agent_entry(page: &mut Page, is_marked: bool, agent: &AgentAudit<'_>) -
     page.element("dt", "Crawl delay")?;
     write_fact(page, "dd", DelayOrNone(agent.delay))?;
     page.element("dt", "May fetch")?;
-    write_fetch(page, "dd", is_marked, agent)
+    write_fetch(page, "dd", agent)
 }
 
-fn write_agent_row(page: &mut Page, is_marked: bool, agent: &AgentAudit<'_>) -> fmt::Result {
+fn write_agent_row(page: &mut Page, agent: &AgentAudit<'_>) -> fmt::Result {
     page.html.open("tr", &[])?;
     page.code_heading("row", agent.agent.as_bytes())?;
     page.html.open("td", &[])?;
@@ -123,7 +114,7 @@ fn write_agent_row(page: &mut Page, is_marked: bool, agent: &AgentAudit<'_>) -> 
     page.html.close()?;
     write_fact(page, "td", agent.rules)?;
     write_fact(page, "td", DelayOrNone(agent.delay))?;
-    write_fetch(page, "td", is_marked, agent)?;
+    write_fetch(page, "td", agent)?;
     for verdict in &agent.verdicts {
         write_verdict_cell(page, true, verdict)?;
     }
@@ -146,12 +137,7 @@ fn write_agent_columns(page: &mut Page, urls: &[&str]) -> fmt::Result {
 }
 
 /// It can be scrolled, also with keys.
-fn write_agent_table(
-    page: &mut Page,
-    is_marked: bool,
-    urls: &[&str],
-    agents: &[AgentAudit<'_>],
-) -> fmt::Result {
+fn write_agent_table(page: &mut Page, urls: &[&str], agents: &[AgentAudit<'_>]) -> fmt::Result {
     page.html
         .open("div", &[("class", "scroll"), ("tabindex", "0")])?;
     page.html.open("table", &[("class", "agents")])?;
@@ -159,7 +145,7 @@ fn write_agent_table(
     write_agent_columns(page, urls)?;
     page.html.open("tbody", &[])?;
     for agent in agents {
-        write_agent_row(page, is_marked, agent)?;
+        write_agent_row(page, agent)?;
     }
     page.html.close()?;
     page.html.close()?;
@@ -169,14 +155,13 @@ fn write_agent_table(
 pub(crate) fn write_crawler_entries(
     page: &mut Page,
     agent: Option<&str>,
-    is_marked: bool,
     agents: &[AgentAudit<'_>],
 ) -> fmt::Result {
     if agent.is_none() {
         return Ok(());
     }
     for agent in agents {
-        write_agent_entry(page, is_marked, agent)?;
+        write_agent_entry(page, agent)?;
     }
     Ok(())
 }
@@ -184,13 +169,17 @@ pub(crate) fn write_crawler_entries(
 pub(crate) fn write_verdict_part(
     page: &mut Page,
     agent: Option<&str>,
-    is_marked: bool,
     urls: &[&str],
     agents: &[AgentAudit<'_>],
 ) -> fmt::Result {
     if agent.is_none() {
-        page.element("h2", "Crawlers")?;
-        return write_agent_table(page, is_marked, urls, agents);
+        let heading = if agents.len() == 1 {
+            "Crawler"
+        } else {
+            "Crawlers"
+        };
+        page.element("h2", heading)?;
+        return write_agent_table(page, urls, agents);
     }
     for agent in agents {
         if !agent.verdicts.is_empty() {
