@@ -285,7 +285,7 @@ def test_a_file_that_is_no_robots_file(tmp_path, text, why):
     assert outcome(compare(tmp_path, text, text)) == (2, "", f"robots_audit: old.txt: {why}\n")
 
 
-@pytest.mark.parametrize("text", [b"", b"\n\n", b"\xef\xbb\xbf# none"], ids=["nothing", "blank lines", "a comment"])
+@pytest.mark.parametrize("text", [b"\n", b"\n\n", b"\xef\xbb\xbf# none"], ids=["nothing", "blank lines", "a comment"])
 def test_a_file_without_directives_is_compared(tmp_path, text):
     assert reported(for_ferris(tmp_path, text, text), "old.txt (empty)", "- (empty)") == (0, NOTHING, "")
 
