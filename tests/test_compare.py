@@ -118,7 +118,7 @@ crawler Ferris https://e.com/a#c: deny 1 -> allow, opened
 """
     (tmp_path / "list.txt").write_bytes(b"https://e.com/a#c\n/a#c\n")
     words = ["--urls", "list.txt", "https://e.com/a#b", "/a#b"]
-    assert reported(for_ferris(tmp_path, b"Disallow: /a$", b"", *words), new="- (empty)") == (1, lines, "")
+    assert reported(for_ferris(tmp_path, b"Disallow: /a$", b"\n", *words), new="- (empty)") == (1, lines, "")
 
 
 def test_urls_in_a_file(tmp_path):
@@ -207,8 +207,8 @@ EVERY_URL = {
     "a page is lost": (b"Disallow: /b", b"Disallow: /b\nDisallow: /a$", "verdicts change, for example /a: allow -> deny 2", "note"),
     "all is opened": (b"Disallow: /*", b"Allow: /*\nDisallow: /", "may fetch nothing -> everything, for example /: deny 1 -> allow 1", "note"),
     "an Allow goes that a longer Disallow overrules": (b"Allow: /a\nDisallow: /a*", b"Disallow: /a", "no URL's verdict changes", "note"),
-    "a rule that matches no path": (b"Disallow: a", b"", "no URL's verdict changes", "note"),
-    "a rule about robots.txt": (b"Disallow: /robots.txt$", b"", "no URL's verdict changes", "note"),
+    "a rule that matches no path": (b"Disallow: a", b"\n", "no URL's verdict changes", "note"),
+    "a rule about robots.txt": (b"Disallow: /robots.txt$", b"\n", "no URL's verdict changes", "note"),
 }
 
 
@@ -285,7 +285,7 @@ def test_a_file_that_is_no_robots_file(tmp_path, text, why):
     assert outcome(compare(tmp_path, text, text)) == (2, "", f"robots_audit: old.txt: {why}\n")
 
 
-@pytest.mark.parametrize("text", [b"", b"\n\n", b"\xef\xbb\xbf# none"], ids=["nothing", "blank lines", "a comment"])
+@pytest.mark.parametrize("text", [b"\n", b"\n\n", b"\xef\xbb\xbf# none"], ids=["nothing", "blank lines", "a comment"])
 def test_a_file_without_directives_is_compared(tmp_path, text):
     assert reported(for_ferris(tmp_path, text, text), "old.txt (empty)", "- (empty)") == (0, NOTHING, "")
 

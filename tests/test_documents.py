@@ -306,7 +306,7 @@ AUDIT_ERRORS = {
     "cannot read /: it is a folder; before a path to check, write FILE, or - for standard input": {"args": ["/"]},
     "cannot read standard input": {"args": ["-"], "stdin": "/"},
     "standard input is empty; did the download fail? To audit an empty file, give its name": {"args": ["-"]},
-    "cannot write the report": {"args": ["-"], "stdout": "/dev/full"},
+    "cannot write the report": {"args": ["-"], "text": b"#", "stdout": "/dev/full"},
     "out of memory": {"args": ["-"], "text": LONG_RULE, "fails": True},
 }
 VERDICT_ERRORS = {

@@ -1,5 +1,7 @@
 """`robots_audit --expect`: a line for each expectation that fails, in order, or how many hold if none fails."""
 
+from itertools import permutations
+
 import pytest
 from support import run
 
@@ -187,14 +189,14 @@ PATTERNS = {
     "robots.txt and more": (b"Disallow: /", b"deny-all B /robots.txt", None),
     "without rules": (b"", b"allow-all B *", None),
     "an escape": (b"Disallow: /t%C3%A9", b"deny-all B /t\xc3\xa9e", None),
-    "lowercase digits, which are compared as they are": (b"Disallow: /t%c3%a9", b"deny-all B /t\xc3\xa9", "B must be denied all of /t%C3%A9, but no rule matches /t%C3%A9"),
+    "lowercase digits, which are compared as they are": (b"Disallow: /t%c3%a9", b"deny-all B /t\xc3\xa9", "B must be denied all of /té, but no rule matches /t%C3%A9"),
     "an empty Disallow": (b"Disallow: /\nDisallow:", b"deny-all B /", "B must be denied all of /, but line 3 allows /"),
     "which is an Allow": (b"Disallow: /\nDisallow:", b"allow-all B /a", None),
     "the group of Googlebot": (b"Disallow: /b\n\nUser-agent: Googlebot\nDisallow: /a", b"allow-all Googlebot-News /a", f"Googlebot-News must be allowed all of /a, {GOOGLEBOT}, and line 5 denies /a"),
     "no group": (b"Disallow: /", b"deny-all AdsBot-Google /a", f"AdsBot-Google must be denied all of /a, {NOBODY}"),
     "a rejected file": (b"Disallow: /" + b"x" * 4096 + b"$", b"deny-all B /", "B must be denied all of /, but the file is rejected for B: line 2"),
     "a pattern of 4,096 bytes": (b"Disallow: /a", b"deny-all B /" + b"a" * 4_093 + b"*$", None),
-    "many stars": (b"".join(b"Disallow: /%s\n" % b"".join(b"*%c" % (97 + (i * j) % 7) for j in range(1, 20)) for i in range(1, 500)), b"deny-all B /*a*b*c*d", "B must be denied all of /*a*b*c*d, but that isn't decided, since there are many stars"),
+    "many stars": (b"Disallow: /\n" + b"".join(b"Allow: /x*%c*%c*%c*%c\n" % letters for letters in permutations(b"abcdefgh", 4)), b"deny-all B /x", "B must be denied all of /x, but that isn't decided, since there are many stars"),
 }
 
 # a name, and which one it probably means
@@ -399,7 +401,8 @@ def test_a_file_that_is_no_robots_file(tmp_path, text, why):
 @pytest.mark.parametrize("text", [b"", b"# nothing", b"\n \n"], ids=["empty", "a comment", "blank lines"])
 def test_a_file_without_directives(tmp_path, text):
     """It is valid, and allows everything."""
-    assert outcome(check(tmp_path, b"allow GPTBot /tea", robots=text)) == (0, "1 expectation holds\n", "")
+    (tmp_path / "robots.txt").write_bytes(text)
+    assert outcome(check(tmp_path, b"allow GPTBot /tea", file="robots.txt")) == (0, "1 expectation holds\n", "")
 
 
 def test_files_by_name(tmp_path):

@@ -115,7 +115,7 @@ pub(crate) fn on_paths(
     ensures fault { IfErr result (λ fault. fault ≡ Fault.Memory) }
 {
     let longer = longer_pattern(alloc, url.as_bytes(), rules)?;
-    if !are_shorter(rules, longer.len()) {
+    if !are_shorter(rules, longer.as_bytes().len()) {
         return Ok(OnPaths::Undecided);
     }
     let (mut all, mut left) = (copy, BUDGET);

@@ -1,6 +1,15 @@
+use Rattle.std.proofs.Common.{refl}
 use Rattle.audit_expect.proofs.PatternLemmas.{longer_matches}
 use Rattle.audit_expect.proofs.patterns.longer_pattern.Goals as goal
 
 pub returns : goal.returns
 returns c =
-    longer_matches c.longest.result c.args.pattern.now c.before_byte-front.result.now _ c.before_byte-front.ensures (cc)
+    longer_matches c.longest.result c.args.pattern.now c.before_byte-front.result.now _
+    c.before_byte-front.ensures (rw (
+      c.in_ok-push_escaped_bytes.ensures.ok,
+      c.in_ok-push_str-2.ensures.bytes,
+      c.deref.ensures,
+      c.in_ok-repeat.ensures.bytes,
+      c.in_ok-push_str.ensures.bytes,
+      c.in_ok-longer.ensures,
+    ) refl)
