@@ -200,7 +200,8 @@ const PARAMETERS: &[Parameter] = &[
         long: Some("expect"),
         value: Value::Text("FILE"),
         help: "Check instead the lines \"allow AGENT URL\", \"deny AGENT URL\", \"allow-all AGENT PATTERN\" and \
-            \"deny-all AGENT PATTERN\" of this file (-: standard input)",
+            \"deny-all AGENT PATTERN\" of this file (-: standard input); AGENT * is a crawler without a group of \
+            its own",
         excludes: &[OF_QUERIES, OF_AUDITS],
     },
     Parameter {
