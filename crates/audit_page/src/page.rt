@@ -36,7 +36,10 @@ impl<'a> fmt::Display for Title<'a> {
                 let agent = audit.agent;
                 write!(f, "robots.txt for {agent}")
             }
-            _ => f.write_str("robots.txt for several crawlers"),
+            audits => {
+                let count = audits.len();
+                write!(f, "robots.txt for {count} crawlers")
+            }
         }
     }
 }

@@ -14,6 +14,7 @@ fn write_group(out: &mut Report, agent: &AgentAudit<'_>) -> fmt::Result {
         Group::Named => write!(out, ": group {name}")?,
         Group::Star => write!(out, ": group *")?,
         Group::Nobody => write!(out, ": no group")?,
+        Group::Everyone if agent.rules == 0 => write!(out, ": no rules (no User-agent line)")?,
         Group::Everyone => write!(out, ": all rules (no User-agent line)")?,
     }
     match agent.group_line {
@@ -24,7 +25,7 @@ fn write_group(out: &mut Report, agent: &AgentAudit<'_>) -> fmt::Result {
 
 fn write_rules(out: &mut Report, group: Group, rules: usize) -> fmt::Result {
     match (group, rules) {
-        (Group::Nobody, _) => Ok(()),
+        (Group::Nobody, _) | (Group::Everyone, 0) => Ok(()),
         (_, 0) => write!(out, ", no rules"),
         (_, 1) => write!(out, ", 1 rule"),
         _ => write!(out, ", {rules} rules"),

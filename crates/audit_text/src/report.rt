@@ -42,11 +42,7 @@ fn write_agent(out: &mut Report, is_quiet: bool, audit: &AgentAudit<'_>) -> fmt:
     write_verdicts(out, None, &audit.verdicts)
 }
 
-fn write_agents(
-    out: &mut Report,
-    request: &Request<'_>,
-    agents: &[AgentAudit<'_>],
-) -> fmt::Result {
+fn write_agents(out: &mut Report, request: &Request<'_>, agents: &[AgentAudit<'_>]) -> fmt::Result {
     if request.agent.is_none() {
         return write_crawlers(out, agents);
     }
