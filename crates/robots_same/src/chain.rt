@@ -4,7 +4,7 @@ ghost use Rattle.robots_same.specs.Internal.{IsAnswer, Leads, chosen};
 
 use crate::compare::Comparison;
 use crate::pool::Entry;
-use crate::refine::{compare_pool, differ_on};
+use crate::refine::{compare_pool, differ_on, refined};
 use crate::search::spend;
 use std::alloc::{AllocError, Global};
 
@@ -115,6 +115,54 @@ fn steps<'a>(
     Ok(Comparison::Undecided)
 }
 
+/// So many texts are tried if nothing else decides.
+const TEXTS: usize = 64;
+
+/// The pattern without its stars, which it matches.
+fn text_of(alloc: Global, rest: &[u8]) -> Result<Vec<u8>, AllocError> {
+    let mut text = Vec::new(alloc);
+    for byte in rest {
+        if *byte != b'*' && *byte != b'$' {
+            text.push(*byte)?;
+        }
+    }
+    Ok(text)
+}
+
+/// Tries texts of rules that one list alone has.
+fn tried(alloc: Global, pool: &[Entry<'_>], front: &[u8]) -> Result<Comparison, AllocError>
+    ensures { IfOk result (IsAnswer front.now pool.now) }
+{
+    let mut left = TEXTS;
+    for entry in pool {
+        if left > 0 && entry.old != entry.new {
+            left -= 1;
+            let text = text_of(alloc, entry.item.rest())?;
+            if differ_on(alloc, pool, front, text.as_slice())? {
+                return Ok(Comparison::Differ(text));
+            }
+        }
+    }
+    Ok(Comparison::Undecided)
+}
+
+/// All rules at once.
+fn compare_all(
+    alloc: Global,
+    pool: &[Entry<'_>],
+    front: &[u8],
+    budget: &mut usize,
+) -> Result<Comparison, AllocError>
+    ensures { IfOk result (IsAnswer front.now pool.now) }
+{
+    let copy = refined(alloc, pool, 0, b"", 0)?;
+    let answer = compare_pool(alloc, copy, front, budget)?;
+    if matches!(answer, Comparison::Undecided) {
+        return tried(alloc, pool, front);
+    }
+    Ok(answer)
+}
+
 /// How many rules the first steps change: if they aren't few, so many that all steps together stay within a
 /// part of the budget.
 fn first_size(pool: &[Entry<'_>], budget: usize) -> usize {
@@ -155,5 +203,5 @@ pub(crate) fn compare_by_steps(
         }
     }
     *budget = budget.saturating_sub(half.saturating_sub(left));
-    compare_pool(alloc, pool, front, budget)
+    compare_all(alloc, pool.as_slice(), front, budget)
 }
