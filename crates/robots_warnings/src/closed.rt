@@ -92,10 +92,9 @@ fn raise(
         return Ok(());
     }
     let pattern = rule.pattern(alloc)?;
-    if *needed <= pattern.len()
-        && !matches_no_path(pattern.as_bytes())
-        && !leaves_closed(part, exempt, pattern.as_str())
-    {
+    let is_rival = !leaves_closed(part, exempt, pattern.as_str())
+        && !matches_no_path(pattern.as_bytes());
+    if is_rival && *needed <= pattern.len() {
         *needed = pattern.len() + 1;
     }
     Ok(())
