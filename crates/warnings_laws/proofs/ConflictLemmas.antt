@@ -184,17 +184,17 @@ none_at test xs none k d below = grind (arith, list_any_at)
 is_shorter : (n m : ℕ) → nat_le n m ≡ false → m < n
 is_shorter n m isnt = grind arith
 
-pub closed_denies : (is_exempt : List ℕ → Bool) (agent : List ℕ) (lines : List LineValue)
+pub closed_denies : (leaves : List ℕ → Bool) (agent : List ℕ) (lines : List LineValue)
     (rules : List PlacedRule) (text : List ℕ)
-    → is_some (closing_line part.Site is_exempt (placed_rules agent lines)) ≡ true
+    → is_some (first_line (closes part.Site leaves (placed_rules agent lines)) (placed_rules agent lines))
+    ≡ true
     → AreRulesFor agent lines rules
     → byte "/" ∷ text ≢ robots_file
-    → ((pattern : List ℕ) → Contains (unplaced rules) (pattern, true)
-    → leaves_closed part.Site is_exempt pattern ≡ true → ¬ Matches pattern (byte "/" ∷ text))
+    → ((pattern : List ℕ) → Contains (unplaced rules) (pattern, true) → leaves pattern ≡ true
+    → ¬ Matches pattern (byte "/" ∷ text))
     → IsDenied (unplaced rules) (byte "/" ∷ text)
-closed_denies is_exempt agent lines rules text is are differs opens =
+closed_denies leaves agent lines rules text is are differs opens =
     let all = placed_rules agent lines in
-    let leaves = leaves_closed part.Site is_exempt in
     let test = closes part.Site leaves all in
     let (k, placed, below, at, some) =
     Any-from_list_any (λ placed. is_some (line_if test placed)) all (any_some (line_if test) all ∙ is) in
@@ -216,10 +216,8 @@ closed_denies is_exempt agent lines rules text is are differs opens =
   where
     shorter : (n : ℕ) (pattern : List ℕ) → Contains (unplaced rules) (pattern, true)
         → Matches pattern (byte "/" ∷ text)
-        → ((true && not (leaves_closed part.Site is_exempt pattern || matches_no_path pattern))
-        && nat_le n (length pattern)) ≡ false
-        → (leaves_closed part.Site is_exempt pattern ≡ true)
-        ⊎ (leaves_closed part.Site is_exempt pattern ≡ false)
+        → ((true && not (leaves pattern || matches_no_path pattern)) && nat_le n (length pattern)) ≡ false
+        → (leaves pattern ≡ true) ⊎ (leaves pattern ≡ false)
         → (matches_no_path pattern ≡ true) ⊎ (matches_no_path pattern ≡ false) → length pattern < n
     shorter n pattern has matches isnt (inl exempt) _ = absurd (opens pattern has exempt matches)
     shorter n pattern has matches isnt (inr stated) (inl never) =
@@ -261,7 +259,7 @@ pub closes_everything : (agent : List ℕ) (lines : List LineValue) (rules : Lis
     → ¬ Matches pattern (byte "/" ∷ text))
     → IsDenied (unplaced rules) (byte "/" ∷ text)
 closes_everything agent lines rules number text is are none opens =
-    closed_denies (is_exempt lines) agent lines rules text
+    closed_denies (leaves_closed part.Site (is_exempt lines)) agent lines rules text
     (ap is_some (closed_by _ _ is)) are
     (grind arith)
     (λ pattern has exempt matches. elim (or_cases (is_exempt lines pattern) _ exempt) [
