@@ -12,7 +12,7 @@ use Rattle.std.proofs.lemmas.List.Folds.{list_any-from_Any, Any-from_list_any, l
 use Rattle.texting_robots.specs.Callers.{AreRulesFor, LineValue, Matches, PlacedRule, Rule, escaped, IsDenied}
 use Rattle.texting_robots.specs.Callers.{placed_rules, HoldsRule, IsDecidingLine, robots_file, unplaced}
 use Rattle.texting_robots.specs.{Pattern.MatchesWith}
-use Rattle.robots_warnings.specs.Closed.{closes, closing_line, is_exempt, is_literally, is_star_or_dollar}
+use Rattle.robots_warnings.specs.Closed.{closes, is_exempt, is_literally, is_star_or_dollar}
 use Rattle.robots_warnings.specs.Closed.{is_whole_site}
 use Rattle.robots_warnings.specs.Closed.{is_rival, line_closing, matches_no_path, opened_paths}
 use Rattle.robots_warnings.specs.{Closed.leaves_closed, Closed.opens_little}
