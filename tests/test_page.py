@@ -267,7 +267,7 @@ def entries_of(*args, **options):
 
 
 FILES = {
-    b"": ("0", "everything"),
+    b"\n": ("0", "everything"),
     b"User-agent: *\nAllow: /a\nAllow: /b": ("2", "everything"),
     b"User-agent: *\nDisallow: /": ("1", "nothing"),
     b"User-agent: *\nDisallow: /a": ("1", "some, by its rules"),
@@ -282,7 +282,7 @@ def test_page_says_what_a_crawler_may_fetch(file):
     assert (row[2], row[4]) == FILES[file]
 
 
-@pytest.mark.parametrize("file, is_mistake", [(b"<html>", True), (b"", True), (b"U\0s\0e\0r\0", True), (b"User-agent: *", False)])
+@pytest.mark.parametrize("file, is_mistake", [(b"<html>", True), (b"\n", True), (b"U\0s\0e\0r\0", True), (b"User-agent: *", False)])
 def test_what_a_mistake_opens_is_not_marked_as_good(file, is_mistake):
     assert ('<main class="mistake">' in page("-", file=file)) is is_mistake
 
@@ -422,7 +422,7 @@ RIGHT_END = "Math.max(...[...document.querySelectorAll('main *')].map(it => it.g
 PAGES = {
     "one crawler": ([*FERRIS, *URLS], EXAMPLE),
     "all crawlers": (["-", *URLS], EXAMPLE),
-    "neither URLs nor lines": (FERRIS, b""),
+    "neither URLs nor lines": (["--agent=FerrisBot", "/dev/null"], b""),
     "several bodies": (FERRIS, b"User-agent: *\n" + b"Disallow: x\nx\n" * 500),
     "a rejected file": ([*FERRIS, "/"], b"User-agent: *\nDisallow: /" + b"a" * 4096 + b"$\n"),
     **{f"hostile text {at}": ([*FERRIS, "/&lt;i"], with_text(text)) for at, text in enumerate(HOSTILE)},
