@@ -1,4 +1,5 @@
-use Rattle.std.proofs.Common.{refl}
+use Rattle.std.proofs.Common.{length, refl}
+use Rattle.std.proofs.lemmas.List.{take_rest}
 use Rattle.audit_expect.proofs.PatternLemmas.{longer_matches}
 use Rattle.audit_expect.proofs.patterns.longer_pattern.Goals as goal
 
@@ -12,4 +13,5 @@ returns c =
       c.in_ok-repeat.ensures.bytes,
       c.in_ok-push_str.ensures.bytes,
       c.in_ok-longer.ensures,
+      take_rest c.args.pattern.now (length c.before_byte-front.result.now),
     ) refl)
