@@ -24,7 +24,7 @@ static CONDITIONS: [(&str, &str); 66] = [
     ("nul-ends-line",
         "the first 512,000 bytes have a NUL byte, and the file doesn't look like UTF-16"),
     ("closes-everything",
-        "a Disallow of a crawler of the report matches every path, and each of its Allows that is at least as long opens little: /robots.txt, a sitemap of the file, /$, what begins with /.well-known or /sitemap, static files, by an ending such as .css or .xml before any *, $ and ?, or nothing; the first such line of each crawler counts, unless its vendor applies another group or a line with its name gives misspelled-name; it is a warning for a large search engine, and for * or a crawler without a group of its own, unless such a group leaves the site open to a large search engine"),
+        "a Disallow matches every path, and each Allow of the crawler that is at least as long opens little: /robots.txt, a sitemap, the home page alone (/$), what begins with /.well-known or /sitemap, or files with endings such as .css and .xml; the first such line of each crawler counts, unless its vendor applies another group or a line with its name gives misspelled-name; it is a warning for a large search engine, * and a crawler without a group of its own, unless the group of a large search engine leaves the site open"),
     ("closes-home-page",
         "a Disallow of *, of a crawler without a group of its own or of a large search engine matches the path /, each Allow that matches it is shorter, and closes-everything isn't given for the crawler; lines count as there; it is a note if none of the crawlers is a large search engine, and a group of its own leaves the site open to one"),
     ("url-not-normal",
@@ -115,7 +115,7 @@ static CONDITIONS: [(&str, &str); 66] = [
     ("google-ignores-star",
         "a crawler of the report is known to get no group from its vendor, if it has none of its own, and the file has a group of *, but doesn't name this one"),
     ("needless-rule",
-        "with --needless: the rule matches nothing, another rule matches everything that it matches and makes it superfluous, or it is an Allow of what is allowed without it, and all such rules can be deleted together; deleting only some of them may change a verdict. Allow: / and an empty Disallow are meant as they are, and none is reported if the file is larger than 512,000 bytes or rejected for a crawler, if its first line would begin with a byte of a byte order mark then, or if crawlers need each other's rules in too many ways; nor a rule without which User-agent lines would join those below. Crawlers that apply the first rule that matches, or read an empty Disallow otherwise, may need them, so mend empty-disallow first"),
+        "with --needless: no verdict changes without the rule, since others decide the same, nothing matches it, or it is an Allow of what is allowed anyway; all such rules can be deleted together, but deleting only some may change a verdict. Allow: / and an empty Disallow are left alone. None is reported if the file has more than 512,000 bytes or is rejected for a crawler. Crawlers that apply the first rule that matches, or read an empty Disallow otherwise, may need them, so mend empty-disallow first"),
     ("needless-undecided",
         "with --needless: comparing a crawler's rules with and without this one would take too long; neither it nor those that are tried after it are reported as needless-rule"),
 ];

@@ -115,8 +115,8 @@ fn steps<'a>(
     Ok(Comparison::Undecided)
 }
 
-/// So many texts are tried if nothing else decides.
-const TEXTS: usize = 64;
+/// How much is compared when texts are tried: for each, its length times that of all patterns.
+const TRIALS: usize = 10_000_000;
 
 /// The pattern without its stars, which it matches.
 fn text_of(alloc: Global, rest: &[u8]) -> Result<Vec<u8>, AllocError> {
@@ -129,14 +129,23 @@ fn text_of(alloc: Global, rest: &[u8]) -> Result<Vec<u8>, AllocError> {
     Ok(text)
 }
 
-/// Tries texts of rules that one list alone has.
+fn total_len(pool: &[Entry<'_>]) -> usize {
+    let mut total: usize = 0;
+    for entry in pool {
+        total = total.saturating_add(entry.item.rest().len());
+    }
+    total
+}
+
+/// Tries texts of rules that one list alone has, if nothing else decides.
 fn tried(alloc: Global, pool: &[Entry<'_>], front: &[u8]) -> Result<Comparison, AllocError>
     ensures { IfOk result (IsAnswer front.now pool.now) }
 {
-    let mut left = TEXTS;
+    let (total, mut left) = (total_len(pool), TRIALS);
     for entry in pool {
-        if left > 0 && entry.old != entry.new {
-            left -= 1;
+        let cost = entry.item.rest().len().saturating_mul(total);
+        if cost <= left && entry.old != entry.new {
+            left -= cost;
             let text = text_of(alloc, entry.item.rest())?;
             if differ_on(alloc, pool, front, text.as_slice())? {
                 return Ok(Comparison::Differ(text));
