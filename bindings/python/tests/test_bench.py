@@ -1,5 +1,6 @@
 """The comparison with other parsers: its results, the differences that docs/COMPATIBILITY.md lists, and the files of docs/BENCHMARKS.md."""
 
+import re
 import statistics
 import subprocess
 import sys
@@ -70,4 +71,5 @@ def test_the_document_and_the_readme_have_the_medians():
     words = " ".join(DOCUMENTS["docs/BENCHMARKS.md"].split())
     assert f"medians are {first} and {later} for Protego, and {urllib_first} and {urllib_later} for `urllib" in words
     assert f"Protego takes {first} times" in words and f"`urllib.robotparser` {urllib_first} times" in words
-    assert f"| {first} | {urllib_first} |\n" in DOCUMENTS["README.md"]
+    bars = re.findall(r"^ +(?:urllib|Protego).* (\d+) +(=+)$", DOCUMENTS["README.md"], re.M)
+    assert [(int(number), len(bar)) for number, bar in bars] == [(urllib_first, urllib_first), (first, first)]
