@@ -3,7 +3,8 @@ shops and encyclopedias have them, and hostile ones. This program writes them, s
 
     python3 bench/corpus.py FOLDER
 
-With `--audit` it writes two files instead, on which a report about all crawlers takes long.
+With `--audit` it writes two files instead, on which a report about all crawlers takes long; with `--compare` two versions of a
+file, on which a comparison does.
 """
 
 import sys
@@ -111,6 +112,15 @@ def audited(folder):
         (folder / f"{name}.robots.txt").write_text(text[: text.rindex("\n", 0, size) + 1])
 
 
+def compared(folder):
+    """Writes two versions of 500 kB: rules with stars, and the same with one star more in each."""
+    folder.mkdir(parents=True, exist_ok=True)
+    rules = [rule.replace("/", "/*").removesuffix("$") for rule in starred(20000)]
+    for name, end in (("old", ""), ("new", "*")):
+        text = group(STAR, [rule + end for rule in rules])
+        (folder / f"{name}.robots.txt").write_text(text[: text.rindex("\n", 0, 500_000) + 1])
+
+
 def written(folder):
     """Writes `NUMBER.robots.txt` and `NUMBER.urls.txt` for each case, and `index.tsv` with number, crawler and name."""
     folder.mkdir(parents=True, exist_ok=True)
@@ -123,5 +133,5 @@ def written(folder):
 
 
 if __name__ == "__main__":
-    audit, folder = "--audit" in sys.argv, Path(sys.argv[-1])
-    audited(folder) if audit else written(folder)
+    write = audited if "--audit" in sys.argv else compared if "--compare" in sys.argv else written
+    write(Path(sys.argv[-1]))

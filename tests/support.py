@@ -95,22 +95,23 @@ OF_A_CRAWLER = {"googlebot-group", "google-ignores-star"}
 OF_GROUP = {"googlebot-group"}
 FIELDS = ("User-agent", "Allow", "Disallow", "Sitemap", "Crawl-delay")
 OF_RULES = {"replaces-star"}
+OF_CLOSED = {"closes-everything", "closes-home-page"}
 OF_A_LINE = {"allowed-and-disallowed", "empty-disallow", "sitemap-denied"}
 NEEDLESS = ["never", "nothing", "allowed", "covered"]  # in the order of the messages of `needless-rule`
-WORDS = {"space", "comma", "tag", "invisible", "="}  # each in one message of a name, or in an earlier one than in others
+WORDS = {"space", "comma", "tag", "invisible", "=", "??", "nothing"}  # each in one message of a name, or in an earlier one than in others
 
 
 def level_and_text(name, detail=""):
     """The level and message of a warning. Its detail is the field name that may be meant; the level of one before the last; a word of its
     message; how many rules it is about; the line of another rule; the kind of a needless rule, possibly with such a line; the name of a
-    crawler that may be meant, possibly after a name in quotes; the name of one of several crawlers, in quotes, and that of the group that
-    its vendor applies, if it isn't Googlebot; of `closes-everything` the level, such a name, and how many other crawlers there are, if
+    crawler that may be meant, possibly after a name in quotes and `warning`; the name of one of several crawlers, in quotes, and that of the group that
+    its vendor applies, if it isn't Googlebot; of `closes-everything` and `closes-home-page` the level, such a name, and how many other crawlers there are, if
     there are some; or else the URL that the warning is about."""
     if name == "needless-rule":
         kind, _, other = detail.partition(" ")
         level, text = WARNINGS[name][NEEDLESS.index(kind)]
         return level, f"{text} (see line {other})" if other else text
-    if name == "closes-everything":
+    if name in OF_CLOSED:
         level, crawler, others = re.fullmatch(r"(\w+) ('.*')(?: (\d+))?", detail).groups()
         more = f" (and {others} other crawler{'' if others == '1' else 's'})" if others else ""
         return level, f"crawler {crawler}: {dict(WARNINGS[name])[level]}{more}"
@@ -123,7 +124,8 @@ def level_and_text(name, detail=""):
     if name in OF_A_LINE:
         return level, f"{text} (see line {detail})"
     if name == "misspelled-name":
-        agent, meant = re.fullmatch(r"('.*' )?(\S+)", detail).groups()
+        agent, warns, meant = re.fullmatch(r"('.*' )?(warning )?(\S+)", detail).groups()
+        level, text = WARNINGS[name][0 if warns else 1]
         return level, f"{f'crawler {agent[:-1]}: ' if agent else ''}{text} (did you mean {meant}?)"
     if name in OF_GROUP:
         detail, group = re.fullmatch(r"('.*')? ?([^' ]+)?", detail).groups()
@@ -139,13 +141,17 @@ def parts_of(warning):
     return line or "", name, *level_and_text(name, detail or "")
 
 
-def warning_line(warning, file="robots.txt", also=()):
-    """The line on standard error for such a warning about the file with this name; `also` are the lines of other notes that it has."""
-    line, name, level, text = parts_of(warning)
-    more = [*also[:3], f"{len(also) - 3} more"] if len(also) > 3 else also
+def also_in(lines):
+    """The end of a message that stands for those in these lines, too."""
+    more = [*map(str, lines[:3]), *[f"{len(lines) - 3} more"] * (len(lines) > 3)]
     listed = ", ".join(more[:-1]) + " and " * (len(more) > 1) + "".join(more[-1:])
-    end = f" (also in line{'s' * (len(also) > 1)} {listed})" if also else ""
-    return f"{file}:{line}{':' if line else ''} {level}: {text}{end} [{name}]\n"
+    return f" (also in line{'s' * (len(lines) > 1)} {listed})" if lines else ""
+
+
+def warning_line(warning, file="robots.txt", also=()):
+    """The line on standard error for such a warning about the file with this name; `also` are the lines of others that it has."""
+    line, name, level, text = parts_of(warning)
+    return f"{file}:{line}{':' if line else ''} {level}: {text}{also_in(also)} [{name}]\n"
 
 
 def counted(counts):
@@ -153,14 +159,19 @@ def counted(counts):
     return ", ".join(f"{count} {level}{'s' * (count > 1)}" for level in ("error", "warning", "note") if (count := counts.count(level)))
 
 
+def order_of(warning):
+    line, _, level, _ = parts_of(warning)
+    return int(line or 0), ["error", "warning", "note"].index(level)
+
+
 def warning_lines(warnings, file="robots.txt"):
-    """The lines for such warnings: notes about lines with one message are one; of each name and level the first twenty, and how many more
-    there are; and how many of each level there are."""
+    """The lines for such warnings, by line and level: those about lines with one message are one; of each name and level the first
+    twenty, and how many more there are; and how many of each level there are."""
     joined, met = [], {}
-    for warning in warnings:
+    for warning in sorted(warnings, key=order_of):
         line, name, level, text = parts_of(warning)
-        key = (name, "" if name == "closes-everything" else text)
-        if level == "note" and line and "(see line" not in text:
+        key = (name, "" if level == "note" and name in OF_CLOSED else text)
+        if line and "(see line" not in text:
             met.setdefault(key, []).append(line)
             if len(met[key]) > 1:
                 continue
@@ -179,7 +190,7 @@ def warning_lines(warnings, file="robots.txt"):
     return "".join(shown + more + total)
 
 
-VERDICTS = "verdicts are those of RFC 9309 for URLs in normal form (reserved characters as in RFC 3986, octets counted in normal form)"
+VERDICTS = "RFC 9309 syntax and verdicts, for URLs in normal form"
 KEYS = set("like args agent robots file from pieces room out more rfc warn err status indented".split())
 
 
@@ -232,8 +243,7 @@ def standard_lines(words):
     kind, _, line = words.partition(" ")
     if kind == "line":
         return f"not RFC 9309 syntax: line {line}"
-    last = f"verdicts may not be those of RFC 9309: line {line}" if kind == "syntax" else VERDICTS
-    return f"the file has RFC 9309 syntax\n{last}"
+    return f"RFC 9309 syntax; verdicts may differ: line {line}" if kind == "syntax" else VERDICTS
 
 
 def with_standard(out, words):

@@ -325,6 +325,11 @@ def error(message):
     return 2, "", f"robots_audit: {message}\n"
 
 
+def unread(name):
+    """The same for a file that isn't there. A name of more than 255 bytes is no name of a file."""
+    return error(f"cannot read {name}" + (": no such file" if len(name) <= 255 else ""))
+
+
 GROUP_DIFFERS, SAME_VERDICTS = "crawler NAME: group everyone -> none\n", "crawler NAME: no URL's verdict changes\n"
 
 # By what of an audit has a size: the arguments and the input of a run, its status, its output, and the end of its message.
@@ -337,10 +342,10 @@ OF_AN_AUDIT = {
     "the number of chosen names": lambda size: (["-q", *["--only=host-line"] * size, "--agent=a", "-", "/b"], "Disallow: /", (1, DENIED + OTHER, "")),
     "a name that no warning has, explained": lambda size: (["--explain", "a" * size], "", error(f"unknown warning {'a' * size}; all are in --list-warnings")),
     "a name that no warning has": lambda size: (["--ignore", "a" * size, "-"], "", error(f"unknown warning {'a' * size}; all are in --list-warnings")),
-    "the name of a missing file": lambda size: (["a" * size], "", error(f"cannot read {'a' * size}")),
-    "the name of missing URLs": lambda size: (["--urls", "a" * size, "-"], "", error(f"cannot read {'a' * size}")),
-    "the name of missing expectations": lambda size: (["--expect", "a" * size, "-"], "", error(f"cannot read {'a' * size}")),
-    "the name of a missing older file": lambda size: (["--compare", "a" * size, "-"], "", error(f"cannot read {'a' * size}")),
+    "the name of a missing file": lambda size: (["a" * size], "", unread("a" * size)),
+    "the name of missing URLs": lambda size: (["--urls", "a" * size, "-"], "", unread("a" * size)),
+    "the name of missing expectations": lambda size: (["--expect", "a" * size, "-"], "", unread("a" * size)),
+    "the name of a missing older file": lambda size: (["--compare", "a" * size, "-"], "", unread("a" * size)),
     "a name that no crawler has": lambda size: (
         ["--agent", "%" * size, "-"], "",
         error(f"{'%' * size}: a crawler's name is a product token without a version, such as Googlebot"),

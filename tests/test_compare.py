@@ -57,21 +57,21 @@ REASON = "a pattern with $ longer than 4,096 bytes isn't supported; shorten it\n
 
 # two versions of a file, and the lines about Ferris and the URL /a
 DIFFERENCES = {
-    "another kind": (b"Disallow: /a", b"Allow: /a", "crawler Ferris: - Disallow: /a (line 1)\ncrawler Ferris: + Allow: /a (line 1)\ncrawler Ferris: may fetch a part -> everything, for example /a: deny 1 -> allow 1\ncrawler Ferris /a: deny 1 -> allow 1, opened\n"),
+    "another kind": (b"Disallow: /a", b"Allow: /a", "crawler Ferris: - Disallow: /a (line 1)\ncrawler Ferris: + Allow: /a (line 1)\ncrawler Ferris: may fetch some -> everything, for example /a: deny 1 -> allow 1\ncrawler Ferris /a: deny 1 -> allow 1, opened\n"),
     "a rule in another line": (b"Disallow: /a", b"# tea\nDisallow: /a", ""),
     "rules in another order": (b"Disallow: /a\nDisallow: /b", b"Disallow: /b\nDisallow: /a", ""),
     "another rule of the same length in front": (b"Disallow: /a\nDisallow: /*", b"Disallow: /*\nDisallow: /a", ""),
     "another deciding rule": (b"Disallow: /a\nDisallow: /", b"Disallow: /", "crawler Ferris: - Disallow: /a (line 1)\n" + SAME + "crawler Ferris /a: deny 1 -> deny 1\n"),
     "a longer deciding rule": (b"Disallow: /", b"#\nDisallow: /a\nDisallow: /", "crawler Ferris: + Disallow: /a (line 2)\n" + SAME + "crawler Ferris /a: deny 1 -> deny 2\n"),
     "a second one": (b"Disallow: /a", b"Disallow: /a\nDisallow: /a", ""),
-    "two added": (b"", b"Disallow: /b\nDisallow: /b", "crawler Ferris: + Disallow: /b (line 1)\ncrawler Ferris: + Disallow: /b (line 2)\ncrawler Ferris: may fetch everything -> a part, for example /b: allow -> deny 1\n"),
+    "two added": (b"", b"Disallow: /b\nDisallow: /b", "crawler Ferris: + Disallow: /b (line 1)\ncrawler Ferris: + Disallow: /b (line 2)\ncrawler Ferris: may fetch everything -> some, for example /b: allow -> deny 1\n"),
     "the same after escaping": (b"Disallow: /\xc3\xa4", b"disallow /%C3%A4", ""),
-    "escaped": (b"", b"Disallow: /\xc3\xa4", "crawler Ferris: + Disallow: /%C3%A4 (line 1)\ncrawler Ferris: may fetch everything -> a part, for example /%C3%A4: allow -> deny 1\n"),
+    "escaped": (b"", b"Disallow: /\xc3\xa4", "crawler Ferris: + Disallow: /%C3%A4 (line 1)\ncrawler Ferris: may fetch everything -> some, for example /%C3%A4: allow -> deny 1\n"),
     "an empty Disallow": (b"", b"Disallow:", "crawler Ferris: + Allow: / (line 1)\n" + SAME + "crawler Ferris /a: allow -> allow 1\n"),
     "a rule that isn't UTF-8": (b"", b"Disallow: /\xe4", ""),
     "a comment and a stray line": (b"Disallow: /b", b"Disallow: /b # tea\ntea", ""),
     "a sitemap": (b"Disallow: /b", b"Disallow: /b\nSitemap: https://e.com/s", NOTHING + "sitemap added: https://e.com/s\n"),
-    "a group of everyone": (b"", b"User-agent: *\nDisallow: /b", "crawler Ferris: group everyone -> *\ncrawler Ferris: + Disallow: /b (line 2)\ncrawler Ferris: may fetch everything -> a part, for example /b: allow -> deny 2\n"),
+    "a group of everyone": (b"", b"User-agent: *\nDisallow: /b", "crawler Ferris: group everyone -> *\ncrawler Ferris: + Disallow: /b (line 2)\ncrawler Ferris: may fetch everything -> some, for example /b: allow -> deny 2\n"),
     "no group": (b"User-agent: Ferris", b"User-agent: Other", "crawler Ferris: group Ferris -> none\n" + SAME),
     "a delay": (b"", b"Crawl-delay: 10", "crawler Ferris: delay none -> 10 s\n" + SAME),
     "past the size limit": (b"", b"#" * 512_000 + b"\nDisallow: /a", ""),
@@ -112,13 +112,13 @@ crawler Googlebot /cart: allow -> deny 6, closed
 def test_a_url_is_asked_without_its_fragment(tmp_path):
     """In a path, `#` is a byte like others."""
     lines = """crawler Ferris: - Disallow: /a$ (line 1)
-crawler Ferris: may fetch a part -> everything, for example /a: deny 1 -> allow
+crawler Ferris: may fetch some -> everything, for example /a: deny 1 -> allow
 crawler Ferris https://e.com/a#b: deny 1 -> allow, opened
 crawler Ferris https://e.com/a#c: deny 1 -> allow, opened
 """
     (tmp_path / "list.txt").write_bytes(b"https://e.com/a#c\n/a#c\n")
     words = ["--urls", "list.txt", "https://e.com/a#b", "/a#b"]
-    assert reported(for_ferris(tmp_path, b"Disallow: /a$", b"", *words), new="- (empty)") == (1, lines, "")
+    assert reported(for_ferris(tmp_path, b"Disallow: /a$", b"\n", *words), new="- (empty)") == (1, lines, "")
 
 
 def test_urls_in_a_file(tmp_path):
@@ -199,15 +199,16 @@ def test_sitemaps_are_compared_as_sets(tmp_path):
 # two versions of a file, the line about all URLs, and its level
 EVERY_URL = {
     "everything is lost": (b"", b"Disallow: /", "may fetch everything -> nothing, for example /: allow -> deny 1", "error"),
-    "the rest is lost, by a longer rule than one that allows": (b"Disallow: /b", b"Allow: /a\nDisallow: /a*\nDisallow: /", "may fetch a part -> nothing, for example /: allow -> deny 3", "error"),
-    "the rest but the home page is lost": (b"Disallow: /$\nAllow: /a", b"Disallow: /", "may fetch a part -> nothing, for example /a: allow 2 -> deny 1", "error"),
-    "the home page is lost": (b"", b"Disallow: /$", "may fetch everything -> a part, for example /: allow -> deny 1", "warning"),
+    "the rest is lost, by a longer rule than one that allows": (b"Disallow: /b", b"Allow: /a\nDisallow: /a*\nDisallow: /", "may fetch some -> nothing, for example /: allow -> deny 3", "error"),
+    "the rest but the home page is lost": (b"Disallow: /$\nAllow: /a", b"Disallow: /", "may fetch some -> nothing, for example /a: allow 2 -> deny 1", "error"),
+    "all is lost but what an Allow names": (b"", b"Disallow: /\nAllow: /a", "may fetch everything -> only what line 2 allows, for example /: allow -> deny 1", "warning"),
+    "the home page is lost": (b"", b"Disallow: /$", "may fetch everything -> some, for example /: allow -> deny 1", "warning"),
     "the home page is opened, and another page is lost": (b"Disallow: /$", b"Disallow: /a", "verdicts change, for example /: deny 1 -> allow", "note"),
     "a page is lost": (b"Disallow: /b", b"Disallow: /b\nDisallow: /a$", "verdicts change, for example /a: allow -> deny 2", "note"),
     "all is opened": (b"Disallow: /*", b"Allow: /*\nDisallow: /", "may fetch nothing -> everything, for example /: deny 1 -> allow 1", "note"),
     "an Allow goes that a longer Disallow overrules": (b"Allow: /a\nDisallow: /a*", b"Disallow: /a", "no URL's verdict changes", "note"),
-    "a rule that matches no path": (b"Disallow: a", b"", "no URL's verdict changes", "note"),
-    "a rule about robots.txt": (b"Disallow: /robots.txt$", b"", "no URL's verdict changes", "note"),
+    "a rule that matches no path": (b"Disallow: a", b"\n", "no URL's verdict changes", "note"),
+    "a rule about robots.txt": (b"Disallow: /robots.txt$", b"\n", "no URL's verdict changes", "note"),
 }
 
 
@@ -231,11 +232,20 @@ def test_verdicts_alone_decide_the_status(tmp_path):
 
 
 def test_verdicts_that_are_not_decided(tmp_path):
-    """The rules are too many, and have too many stars."""
-    chance = random.Random(1)
-    old, new = (b"".join(b"%s: /%s\n" % (chance.choice([b"Allow", b"Disallow"]), bytes(chance.choices(b"abc*", k=20))) for _ in range(1000)) for _ in range(2))
-    result = for_ferris(tmp_path, old, new, "--verdicts")
+    """The rule has too many stars."""
+    rule = b"Disallow: /" + 4000 * b"a*" + b"b"
+    result = for_ferris(tmp_path, rule, rule + b"*", "--verdicts")
     assert (result.status, result.out.splitlines()[-1]) == (1, "crawler Ferris: it isn't decided whether a URL's verdict changes")
+
+
+def test_kinds_in_turn(tmp_path):
+    """24 rules of both kinds, without and with a star at the end."""
+    old, new = (
+        b"".join(b"%s: /*%c1*%c2%s\n" % (b"Allow" if letter % 2 else b"Disallow", letter, letter, end) for letter in b"abcdefghijklmnopqrstuvwx")
+        for end in (b"", b"*")
+    )
+    result = for_ferris(tmp_path, old, new, "--verdicts")
+    assert (result.status, result.out.splitlines()[-1]) == (0, "crawler Ferris: no URL's verdict changes")
 
 
 def is_allowed(rules, path):
@@ -274,7 +284,7 @@ def test_a_file_that_is_no_robots_file(tmp_path, text, why):
     assert outcome(compare(tmp_path, text, text)) == (2, "", f"robots_audit: old.txt: {why}\n")
 
 
-@pytest.mark.parametrize("text", [b"", b"\n\n", b"\xef\xbb\xbf# none"], ids=["nothing", "blank lines", "a comment"])
+@pytest.mark.parametrize("text", [b"\n", b"\n\n", b"\xef\xbb\xbf# none"], ids=["nothing", "blank lines", "a comment"])
 def test_a_file_without_directives_is_compared(tmp_path, text):
     assert reported(for_ferris(tmp_path, text, text), "old.txt (empty)", "- (empty)") == (0, NOTHING, "")
 
@@ -294,7 +304,7 @@ def test_other_crawlers_than_one_for_which_a_file_is_rejected(tmp_path):
 
 
 def test_untrusted_text(tmp_path):
-    lines = "crawler Ferris: + Disallow: /%07 (line 1)\ncrawler Ferris: may fetch everything -> a part, for example /%07: allow -> deny 1\ncrawler Ferris /%07: allow -> deny 1, closed\n"
+    lines = "crawler Ferris: + Disallow: /%07 (line 1)\ncrawler Ferris: may fetch everything -> some, for example /%07: allow -> deny 1\ncrawler Ferris /%07: allow -> deny 1, closed\n"
     assert reported(for_ferris(tmp_path, b"", b"Disallow: /\x07", "/\x07"), "old.txt (empty)") == (1, lines, "")
     new = b"User-agent: *\nDisallow: /a\nUser-agent: a\x1bb\nDisallow: /bc"
     lines = "crawler a%1Bb: group * -> a%1Bb\ncrawler a%1Bb: - Disallow: /a (line 2)\ncrawler a%1Bb: + Disallow: /bc (line 4)\ncrawler a%1Bb: verdicts change, for example /a: deny 2 -> allow\n"
@@ -318,17 +328,17 @@ def test_a_name_that_looks_like_a_command(tmp_path):
 def test_files_by_name(tmp_path):
     (tmp_path / "robots.txt").write_bytes(OLD)
     assert reported(for_ferris(tmp_path, OLD, NEW, file="robots.txt"), new="robots.txt") == (0, NOTHING, "")
-    assert outcome(for_ferris(tmp_path, OLD, NEW, file="missing")) == (2, "", "robots_audit: cannot read missing\n")
+    assert outcome(for_ferris(tmp_path, OLD, NEW, file="missing")) == (2, "", "robots_audit: cannot read missing: no such file\n")
     missing = run("robots_audit", ["--compare", "missing.txt", "-"], NEW, cwd=tmp_path)
-    assert outcome(missing) == (2, "", "robots_audit: cannot read missing.txt\n")
+    assert outcome(missing) == (2, "", "robots_audit: cannot read missing.txt: no such file\n")
 
 
 def test_folders_in_place_of_files(tmp_path):
     """They can be opened, but each read fails."""
     (tmp_path / "folder").mkdir()
-    assert outcome(for_ferris(tmp_path, OLD, NEW, file="folder")) == (2, "", "robots_audit: cannot read folder\n")
+    assert outcome(for_ferris(tmp_path, OLD, NEW, file="folder")) == (2, "", "robots_audit: cannot read folder: it is a folder\n")
     folder = run("robots_audit", ["--compare", "folder", "-"], NEW, cwd=tmp_path)
-    assert outcome(folder) == (2, "", "robots_audit: cannot read folder\n")
+    assert outcome(folder) == (2, "", "robots_audit: cannot read folder: it is a folder\n")
 
 
 def test_older_file_from_standard_input(tmp_path):

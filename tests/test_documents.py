@@ -167,7 +167,7 @@ def test_documents_name_functions_and_lemmas_that_exist(name):
 def test_documents_name_warnings_and_options_that_exist(name):
     """Names with a hyphen are warnings, field names or Debian's packages. Some options are those of pytest and of bench/compare.py."""
     names = set(re.findall(r"`(?!python3-)([a-z0-9]+(?:-[a-z0-9]+)+)`", DOCUMENTS[name]))
-    assert names <= {*WARNINGS, *FINDINGS, "crawl-delay", "site-map", "user-agent"}
+    assert names <= {*WARNINGS, *FINDINGS, "allow-all", "crawl-delay", "deny-all", "site-map", "user-agent"}
     options = set(re.findall(r"`(?:robots_audit )?(--[a-z-]+)", DOCUMENTS[name])) - {"--lf", "--google", "--results"}
     assert options <= set(re.findall(r"`(--[a-z-]+)", "".join(row[0] for row in tables(PROGRAMS))))
 
@@ -233,7 +233,11 @@ def test_readme_shows_what_its_first_command_prints():
     assert (ended.returncode, [*ended.stdout.splitlines(), *warnings]) == (1, shown(report.split("\n- ")[0]).splitlines())
 
 
-@pytest.mark.parametrize("command", [line for line in (shown(README) + shown(PROGRAMS)).splitlines() if re.match("(robots_audit|curl) ", line)])
+COMMANDS = [line for line in (shown(README) + shown(PROGRAMS)).splitlines() if re.match("(robots_audit|curl) ", line)]
+COMMANDS += [re.match(r"`(.*?)`", row[1])[1] for row in tables(PROGRAMS) if row[1].startswith("`robots_audit ")]
+
+
+@pytest.mark.parametrize("command", COMMANDS)
 def test_command_runs(command, tmp_path):
     """In a folder with the files that it names; curl is a script here that fetches nothing."""
     files = {"robots.txt": "User-agent: *\nDisallow: /search\n", "old.txt": "User-agent: *\nAllow: /\n", "urls.txt": "/search/tea\n", "expect.txt": "deny B /search\n"}
@@ -281,7 +285,7 @@ def test_documented_warnings_are_those_of_the_table():
 
 LONG_RULE = b"Disallow: /b\nAllow: $" + b"a" * 4096
 USAGE = "usage: robots_audit [OPTIONS] FILE [URL].."
-CURL = "curl -s https://example.com/robots.txt | robots_audit -"
+CURL = "curl -fsSL https://example.com/robots.txt | robots_audit -"
 AUDIT_ERRORS = {
     "missing FILE; " + USAGE: {},
     "arguments must be valid UTF-8; " + USAGE: {"args": [b"\xff"]},
@@ -294,13 +298,15 @@ AUDIT_ERRORS = {
     "--denied needs URLs, as arguments or by --urls FILE; " + USAGE: {"args": ["--denied", "-"]},
     "host-line: --only and --ignore both name this warning": {"args": ["--only", "host-line", "--ignore", "host-line", "-"]},
     "A,B: a comma in a crawler's name; repeat --agent for each crawler": {"args": ["--agent", "A,B", "-"]},
-    "cannot read NAME": {"args": ["NAME"]},
-    "cannot read example.com; for a host, try: " + CURL: {"args": ["example.com"]},
-    "cannot read error; for a level, write --strict=LEVEL": {"args": ["--strict", "error"]},
-    "cannot read /no/tea; before a path to check, write FILE, or - for standard input": {"args": ["/no/tea"]},
-    "cannot read https://example.com; a URL isn't a file, try: " + CURL: {"args": ["https://example.com"]},
+    "cannot read NAME: no such file": {"args": ["NAME"]},
+    "cannot read example.com: no such file; for a host, try: " + CURL: {"args": ["example.com"]},
+    "cannot read error: no such file; for a level, write --strict=LEVEL": {"args": ["--strict", "error"]},
+    "cannot read /no/tea: no such file; before a path to check, write FILE, or - for standard input": {"args": ["/no/tea"]},
+    "cannot read https://example.com: no such file; a URL isn't a file, try: " + CURL: {"args": ["https://example.com"]},
+    "cannot read /: it is a folder; before a path to check, write FILE, or - for standard input": {"args": ["/"]},
     "cannot read standard input": {"args": ["-"], "stdin": "/"},
-    "cannot write the report": {"args": ["-"], "stdout": "/dev/full"},
+    "standard input is empty; did the download fail? To audit an empty file, give its name": {"args": ["-"]},
+    "cannot write the report": {"args": ["-"], "text": b"#", "stdout": "/dev/full"},
     "out of memory": {"args": ["-"], "text": LONG_RULE, "fails": True},
 }
 VERDICT_ERRORS = {

@@ -1,5 +1,7 @@
 """`robots_audit --expect`: a line for each expectation that fails, in order, or how many hold if none fails."""
 
+from itertools import permutations
+
 import pytest
 from support import run
 
@@ -167,7 +169,42 @@ FRAGMENT = {
     "robots.txt": (b"deny FerrisBot https://example.com/robots.txt#b", "FerrisBot must be denied https://example.com/robots.txt#b, but /robots.txt is always allowed"),
 }
 
-FORM = 'write "allow AGENT URL" or "deny AGENT URL"'
+# rules below `User-agent: *`, an expectation about all paths that a pattern matches, and what is reported on it
+PATTERNS = {
+    "denied": (b"Disallow: /private/", b"deny-all B /private/*", None),
+    "without a star": (b"Disallow: /private/", b"deny-all B /private/", None),
+    "an exception": (b"Disallow: /private/\nAllow: /private/press", b"deny-all B /private/", "B must be denied all of /private/, but line 3 allows /private/press"),
+    "a longer pattern than the exception": (b"Disallow: /private/\nAllow: /private/press", b"deny-all B /private/post", None),
+    "another path": (b"Disallow: /private/", b"deny-all B /private", "B must be denied all of /private, but no rule matches /private"),
+    "allowed": (b"Disallow: /*?sort=", b"allow-all B /products/*", "B must be allowed all of /products/*, but line 2 denies /products/?sort="),
+    "allowed by a longer rule": (b"Disallow: /*?sort=\nAllow: /products/", b"allow-all B /products/*", None),
+    "allowed by a rule that is as long": (b"Disallow: /*?sort=\nAllow: /product", b"allow-all B /products*a", None),
+    "an end": (b"Disallow: /*.pdf$", b"deny-all B *.pdf$", None),
+    "another end": (b"Disallow: /*.pdf", b"allow-all B /*.png$", "B must be allowed all of /*.png$, but line 2 denies /.pdf.png"),
+    "a single path": (b"Disallow: /a", b"deny-all B /a$", None),
+    "which is allowed": (b"Disallow: /a$", b"deny-all B /a/$", "B must be denied /a/, but no rule matches it"),
+    "a dollar inside": (b"", b"deny-all B /a$b", None),
+    "stars side by side": (b"Disallow: /*a", b"deny-all B /**a*$", None),
+    "everything": (b"Disallow: *", b"deny-all B *", None),
+    "robots.txt and more": (b"Disallow: /", b"deny-all B /robots.txt", None),
+    "without rules": (b"", b"allow-all B *", None),
+    "an escape": (b"Disallow: /t%C3%A9", b"deny-all B /t\xc3\xa9e", None),
+    "lowercase digits, which are compared as they are": (b"Disallow: /t%c3%a9", b"deny-all B /t\xc3\xa9", "B must be denied all of /té, but no rule matches /t%C3%A9"),
+    "an empty Disallow": (b"Disallow: /\nDisallow:", b"deny-all B /", "B must be denied all of /, but line 3 allows /"),
+    "which is an Allow": (b"Disallow: /\nDisallow:", b"allow-all B /a", None),
+    "the group of Googlebot": (b"Disallow: /b\n\nUser-agent: Googlebot\nDisallow: /a", b"allow-all Googlebot-News /a", f"Googlebot-News must be allowed all of /a, {GOOGLEBOT}, and line 5 denies /a"),
+    "no group": (b"Disallow: /", b"deny-all AdsBot-Google /a", f"AdsBot-Google must be denied all of /a, {NOBODY}"),
+    "a rejected file": (b"Disallow: /" + b"x" * 4096 + b"$", b"deny-all B /", "B must be denied all of /, but the file is rejected for B: line 2"),
+    "a pattern of 4,096 bytes": (b"Disallow: /a", b"deny-all B /" + b"a" * 4_093 + b"*$", None),
+    "many stars": (b"Disallow: /\n" + b"".join(b"Allow: /x*%c*%c*%c*%c\n" % letters for letters in permutations(b"abcdefgh", 4)), b"deny-all B /x", "B must be denied all of /x, but that isn't decided, since there are many stars"),
+}
+
+# a name, and which one it probably means
+WRONG_NAMES = {"Google": "Googlebot", "google": "Googlebot", '"Chat GPT"': "ChatGPT-User", "all": "*"}
+NEAR_NAMES = {"googlebott": "Googlebot", "GTPBot": "GPTBot", "GPT-Bot": "GPTBot"}
+
+FORM = 'write "allow AGENT URL" or "deny AGENT URL", or for a pattern allow-all or deny-all'
+PATTERN = "a pattern starts with / or *, has no #, and if it has a $ at most 4,096 bytes"
 NOT_UTF_8 = "the line isn't valid UTF-8"
 NAME = "a crawler's name is a product token without a version, such as Googlebot"
 PATH = "URL has a . or .. segment or a #, which crawlers resolve or drop; write the path that they ask for"
@@ -202,6 +239,12 @@ MALFORMED = {
     "a path without a slash": (b"allow Googlebot products/tea", 1, URL),
     "a host without a scheme": (b"allow Googlebot example.com/tea", 1, URL),
     "another scheme": (b"allow Googlebot ftp://example.com/tea", 1, URL),
+    "a pattern without a slash": (b"deny-all Googlebot private/*", 1, PATTERN),
+    "a URL for a pattern": (b"allow-all Googlebot https://example.com/tea", 1, PATTERN),
+    "a # in a pattern": (b"allow-all Googlebot *#top", 1, PATTERN),
+    "a long pattern": (b"deny-all Googlebot /*" + b"a" * 4_094 + b"$", 1, PATTERN),
+    "one that is long with escapes": (b"deny-all Googlebot /*" + b"\xc3\xa9" * 683 + b"$", 1, PATTERN),
+    "a .. segment of a pattern": (b"deny-all Googlebot /private/../*", 1, PATH),
     "a URL that can't be parsed": (b"allow Googlebot https://exa%mple.com/tea", 1, URL),
 }
 
@@ -224,7 +267,7 @@ def test_holding_expectations(tmp_path, text):
     assert outcome(check(tmp_path, text)) == (0, HOLD, "")
 
 
-@pytest.mark.parametrize("agent", [b"*", b"MJ12bot", b"archive.org_bot", b"Google-Extended"])
+@pytest.mark.parametrize("agent", [b"*", b"MJ12bot", b"archive.org_bot", b"Google-Extended", b"AmazonAdBot"])
 def test_one_expectation(tmp_path, agent):
     assert outcome(check(tmp_path, b"allow " + agent + b" /tea")) == (0, "1 expectation holds\n", "")
 
@@ -264,6 +307,26 @@ def test_other_reading_of_an_empty_disallow(tmp_path, robots, text, line):
 def test_normal_forms(tmp_path, rules, text, line):
     expected = (1, f"expect.txt:1: {line}\n", "") if line else (0, "1 expectation holds\n", "")
     assert outcome(check(tmp_path, text, robots=b"User-agent: *\n" + rules)) == expected
+
+
+@pytest.mark.parametrize("rules, text, line", PATTERNS.values(), ids=PATTERNS)
+def test_pattern(tmp_path, rules, text, line):
+    expected = (1, f"expect.txt:1: {line}\n", "") if line else (0, "1 expectation holds\n", "")
+    assert outcome(check(tmp_path, text, robots=b"User-agent: *\n" + rules)) == expected
+
+
+@pytest.mark.parametrize("name, meant", WRONG_NAMES.items())
+def test_name_that_no_crawler_has(tmp_path, name, meant):
+    error = f"robots_audit: expect.txt:1: no crawler has this name; did you mean {meant}?\n"
+    assert outcome(check(tmp_path, f"allow {name} /tea".encode())) == (2, "", error)
+
+
+@pytest.mark.parametrize("name, meant", NEAR_NAMES.items())
+def test_misspelled_name(tmp_path, name, meant):
+    note = f"expect.txt:1: note: no known crawler and no group is called {name}; did you mean {meant}?\n"
+    text = f"allow {name} /tea".encode()
+    assert outcome(check(tmp_path, text)) == (0, note + "1 expectation holds\n", "")
+    assert outcome(check(tmp_path, text, robots=f"User-agent: {name}\nDisallow: /b\n".encode())) == (0, "1 expectation holds\n", "")
 
 
 @pytest.mark.parametrize("char", "-._~:/?[]@!&'()+,;=")
@@ -338,22 +401,23 @@ def test_a_file_that_is_no_robots_file(tmp_path, text, why):
 @pytest.mark.parametrize("text", [b"", b"# nothing", b"\n \n"], ids=["empty", "a comment", "blank lines"])
 def test_a_file_without_directives(tmp_path, text):
     """It is valid, and allows everything."""
-    assert outcome(check(tmp_path, b"allow GPTBot /tea", robots=text)) == (0, "1 expectation holds\n", "")
+    (tmp_path / "robots.txt").write_bytes(text)
+    assert outcome(check(tmp_path, b"allow GPTBot /tea", file="robots.txt")) == (0, "1 expectation holds\n", "")
 
 
 def test_files_by_name(tmp_path):
     (tmp_path / "robots.txt").write_bytes(ROBOTS)
     assert outcome(check(tmp_path, HOLDING, robots=b"User-agent: *\nDisallow: /", file="robots.txt")) == (0, HOLD, "")
-    assert outcome(check(tmp_path, HOLDING, file="missing")) == (2, "", "robots_audit: cannot read missing\n")
+    assert outcome(check(tmp_path, HOLDING, file="missing")) == (2, "", "robots_audit: cannot read missing: no such file\n")
     missing = run("robots_audit", ["--expect", "missing.txt", "-"], ROBOTS, cwd=tmp_path)
-    assert outcome(missing) == (2, "", "robots_audit: cannot read missing.txt\n")
+    assert outcome(missing) == (2, "", "robots_audit: cannot read missing.txt: no such file\n")
 
 
 def test_folders_in_place_of_files(tmp_path):
     """They can be opened, but each read fails."""
     (tmp_path / "folder").mkdir()
-    assert outcome(check(tmp_path, HOLDING, file="folder")) == (2, "", "robots_audit: cannot read folder\n")
-    assert outcome(run("robots_audit", ["--expect", "folder", "-"], ROBOTS, cwd=tmp_path)) == (2, "", "robots_audit: cannot read folder\n")
+    assert outcome(check(tmp_path, HOLDING, file="folder")) == (2, "", "robots_audit: cannot read folder: it is a folder\n")
+    assert outcome(run("robots_audit", ["--expect", "folder", "-"], ROBOTS, cwd=tmp_path)) == (2, "", "robots_audit: cannot read folder: it is a folder\n")
 
 
 def test_expectations_from_standard_input(tmp_path):

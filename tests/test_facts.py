@@ -55,7 +55,7 @@ def test_the_limit_of_the_header():
 def test_the_numbers_of_listed_warnings():
     assert [int(it) for it in re.findall(r"the first (\d+) warnings", joined(PROGRAMS))] == [constant("LISTED_WARNINGS")]
     assert constant("MOST") == 20
-    assert "with one name, the first twenty have a line" in joined(PROGRAMS)
+    assert "Of each name and level, the first twenty have a line" in joined(PROGRAMS)
 
 
 def test_what_the_longest_file_can_hold():

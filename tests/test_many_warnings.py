@@ -1,4 +1,4 @@
-"""Notes with one message are one. Of more than twenty warnings with one name and level the text has the first twenty, and then how many more
+"""They are in the order of lines, and those with one message are one. Of more than twenty warnings with one name and level the text has the first twenty, and then how many more
 there are. The last line has the numbers of all."""
 
 import json
@@ -25,42 +25,54 @@ def more(level, number, name="unrecognized-line", file="robots.txt"):
     return f"{file}: {level}: and {number} more [{name}]\n"
 
 
+def pairs(count):
+    """Each has a warning of its own, since the message names the other line."""
+    return "".join(f"Disallow: /{n}\nAllow: /{n}\n" for n in range(count))
+
+
+def conflicts(*numbers, file="robots.txt"):
+    return "".join(warning_line(f"{number} allowed-and-disallowed {number + 1}", file) for number in numbers)
+
+
+def joined(first, *others, file="robots.txt"):
+    return warning_line(first, file, others)
+
+
 def test_twenty_are_listed():
-    result = audit(FRONT + "hello\n" * 20)
-    assert (result.status, result.err) == (0, lines(*range(3, 23)) + total("20 warnings"))
+    result = audit(FRONT + pairs(20))
+    assert (result.status, result.err) == (0, conflicts(*range(3, 43, 2)) + total("20 warnings"))
 
 
 def test_the_others_are_counted():
-    assert audit(FRONT + "hello\n" * 62).err == lines(*range(3, 23)) + more("warning", 42) + total("62 warnings")
+    assert audit(FRONT + pairs(62)).err == conflicts(*range(3, 43, 2)) + more("warning", 42, "allowed-and-disallowed") + total("62 warnings")
 
 
-def test_causes_with_one_name_are_counted_together():
+def test_causes_with_one_name_have_a_line_each():
     text = FRONT + "hello\nDisalow; /a\n" * 11
-    listed = "".join(lines(2 * n + 3) + warning_line(f"{2 * n + 4} unrecognized-line Disallow") for n in range(10))
-    assert audit(text).err == listed + more("warning", 2) + total("22 warnings")
+    wanted = joined("3 unrecognized-line", *range(5, 25, 2)) + joined("4 unrecognized-line Disallow", *range(6, 26, 2))
+    assert audit(text).err == wanted + total("22 warnings")
 
 
-def test_each_name_is_counted():
+def test_each_name_has_a_line():
     text = FRONT + "".join(f"Nofollow: a\nDisallow: b{n}\nNoindex: c\n" for n in range(21)) + "Noindex: d\n"
-    listed = "".join(lines(3 * n + 3, name="nofollow-line") + lines(3 * n + 4, name="missing-slash") + lines(3 * n + 5, name="noindex-line") for n in range(20))
-    others = more("warning", 1, "nofollow-line") + more("error", 1, "missing-slash") + more("warning", 2, "noindex-line")
-    assert audit(text).err == listed + others + total("21 errors, 43 warnings")
+    names = {3: "nofollow-line", 4: "missing-slash", 5: "noindex-line"}
+    wanted = "".join(joined(f"{n} {name}", *range(n + 3, 66, 3), *[66] * (n == 5)) for n, name in names.items())
+    assert audit(text).err == wanted + total("21 errors, 43 warnings")
 
 
-def test_the_levels_of_a_name_are_counted_separately():
+def test_the_levels_of_a_name_have_a_line_each():
     """So an error that leads to status 3 is listed, even after many warnings with its name."""
     text = "User-agent: *\n" + "Disallow: /a#b\n" * 21 + "Disallow: /#/admin\n" * 22
-    listed = [warning_line(f"{n} hash-cuts-rule warning") for n in range(2, 22)] + [warning_line(f"{n} hash-cuts-rule error") for n in range(23, 43)]
-    others = [more("warning", 1, "hash-cuts-rule"), more("error", 2, "hash-cuts-rule"), total("22 errors, 21 warnings")]
+    wanted = joined("2 hash-cuts-rule", *range(3, 23)) + joined("23 hash-cuts-rule error", *range(24, 45))
     result = audit(text, "--only=hash-cuts-rule", "--strict=error")
-    assert (result.status, result.err) == (3, "".join(listed + others))
+    assert (result.status, result.err) == (3, wanted + total("22 errors, 21 warnings"))
 
 
 def test_the_file_is_named(tmp_path):
-    (tmp_path / "a\x07.txt").write_text(FRONT + "hello\n" * 21)
+    (tmp_path / "a\x07.txt").write_text(FRONT + pairs(21))
     result = run("robots_audit", ["-q", "--agent", "Ferris", "a\x07.txt"], cwd=tmp_path)
     name = "a%07.txt"
-    assert result.err == lines(*range(3, 23), file=name) + more("warning", 1, file=name) + total("21 warnings", name)
+    assert result.err == conflicts(*range(3, 43, 2), file=name) + more("warning", 1, "allowed-and-disallowed", file=name) + total("21 warnings", name)
 
 
 def test_those_left_out_do_not_count():
@@ -80,16 +92,20 @@ def test_all_count_for_strict():
 ALSO = ["", " (also in line 4)", " (also in lines 4 and 5)", " (also in lines 4, 5 and 6)", " (also in lines 4, 5, 6 and 1 more)", " (also in lines 4, 5, 6 and 2 more)"]
 
 
+LINES = {"clean-param-line": "Clean-param: a /", "unrecognized-line": "hello", "missing-slash": "Disallow: a"}
+
+
+@pytest.mark.parametrize("name", LINES)
 @pytest.mark.parametrize("count", range(1, 7))
-def test_notes_with_one_message_are_one(count):
-    *_, text = parts_of("3 clean-param-line")
-    wanted = f"robots.txt:3: note: {text}{ALSO[count - 1]} [clean-param-line]\n"
-    assert audit(FRONT + "Clean-param: a /\n" * count).err == wanted + total(f"{count} note{'s' * (count > 1)}")
+def test_those_with_one_message_are_one(count, name):
+    *_, level, text = parts_of(f"3 {name}")
+    wanted = f"robots.txt:3: {level}: {text}{ALSO[count - 1]} [{name}]\n"
+    assert audit(FRONT + f"{LINES[name]}\n" * count, "--ignore=repeated-rule").err == wanted + total(f"{count} {level}{'s' * (count > 1)}")
 
 
-def test_notes_with_other_messages_between_them():
+def test_those_with_other_messages_between_them():
     text = FRONT + "Clean-param: a /\nhello\nContent-usage: a\nClean-param: b /\nhello\nContent-usage: a\n"
-    wanted = warning_line("3 clean-param-line", also=["6"]) + lines(4) + warning_line("5 content-usage-line", also=["8"]) + lines(7)
+    wanted = joined("3 clean-param-line", 6) + joined("4 unrecognized-line", 7) + joined("5 content-usage-line", 8)
     assert audit(text).err == wanted + total("2 warnings, 4 notes")
 
 
@@ -115,6 +131,6 @@ def test_a_file_of_a_hundred_closed_groups():
 
 
 def test_a_file_of_short_lines():
-    *shown, last, counts = audit("a\n" * 250_000 + "Disallow: /\n").err.splitlines()
-    assert len(shown) < 30 and last == "robots.txt: warning: and 249980 more [unrecognized-line]"
+    *shown, counts = audit("a\n" * 250_000 + "Disallow: /\n").err.splitlines()
+    assert len(shown) < 30 and any("(also in lines 2, 3, 4 and 249996 more) [unrecognized-line]" in line for line in shown)
     assert counts.startswith("robots.txt: ") and "250" in counts

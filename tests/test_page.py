@@ -9,7 +9,7 @@ from html.parser import HTMLParser
 import page_style
 import pytest
 from browser import Browser
-from support import ROOT, level_and_text, run
+from support import ROOT, also_in, level_and_text, run
 
 SOURCE, STYLE = page_style.SOURCE.read_text(), page_style.STYLE.read_text()
 
@@ -140,6 +140,22 @@ def delay(micros):
     return "none" if micros is None else f"{micros / 1e6:g} s"
 
 
+def in_order(warnings):
+    """By line, and for one line errors first."""
+    return sorted(warnings, key=lambda it: (it["line"] or 0, ["error", "warning", "note"].index(it["level"])))
+
+
+def joined(warnings):
+    """The items of the list of findings: those about lines with one message are one."""
+    found = {}
+    for at, it in enumerate(in_order(warnings)):
+        is_alone = it["line"] is None or "(see line" in it["text"]
+        found.setdefault(at if is_alone else (it["name"], it["text"]), []).append(it)
+    for first, *others in found.values():
+        text = words({**first, "text": first["text"] + also_in([it["line"] for it in others])})
+        yield f"line {first['line']}: {text}" if first["line"] else text
+
+
 def rows_of(found):
     """The rows that the lines and the warnings of a report have."""
     rows = []
@@ -148,7 +164,7 @@ def rows_of(found):
         value += f"  {line['comment']}" if line["comment"] else ""
         cells = [str(line["number"]), line["membership"], line["kind"], value]
         rows.append(({"id": f"L{line['number']}", "class": line["membership"]}, cells))
-        rows += [({"class": it["level"]}, [words(it)]) for it in found["warnings"] if it["line"] == line["number"]]
+        rows += [({"class": it["level"]}, [words(it)]) for it in in_order(found["warnings"]) if it["line"] == line["number"]]
     return rows
 
 
@@ -159,16 +175,16 @@ SMALL = """<!DOCTYPE html><html lang="en"><head><meta charset="utf-8"/>
 <body><main><h1>robots.txt for Ferris</h1>
 <dl><dt>File</dt><dd><code dir="ltr">robots.txt</code></dd>
 <dt>Date</dt><dd>27 &amp; 28 November</dd>
+<dt>Findings</dt><dd><b class="error">1 error</b><ul><li class="error"><a href="#L2">line 2</a>: {warning}</li></ul></dd>
 <dt>Group</dt><dd>* (Ferris has no group of its own), <a href="#L1">line 1</a></dd>
-<dt>Rules</dt><dd>1</dd><dt>Crawl delay</dt><dd>none</dd><dt>May fetch</dt><dd class="see rules">see rules</dd>
-<dt>Sitemaps</dt><dd><ul></ul></dd><dt>Syntax</dt><dd>not RFC 9309 syntax: line 2</dd>
-<dt>Warnings</dt><dd>1 error<ul><li><a href="#L2">line 2</a>: {warning}</li></ul></dd></dl>
+<dt>Rules</dt><dd>1</dd><dt>Crawl delay</dt><dd>none</dd><dt>May fetch</dt><dd class="everything">everything</dd>
+<dt>Sitemaps</dt><dd><ul></ul></dd><dt>Syntax</dt><dd>not RFC 9309 syntax: line 2</dd></dl>
 <h2>URLs</h2><table class="urls"><caption>May the crawler fetch it?</caption>
 <thead><tr><th scope="col">URL</th><th scope="col">Verdict</th></tr></thead>
 <tbody><tr><th scope="row"><code dir="ltr">/a&amp;b</code></th><td class="allowed">allowed, no line</td></tr></tbody></table>
 <h2>File</h2><table class="lines"><caption>Lines, and whether they are in the group of Ferris</caption>
 <thead><tr><th scope="col">Line</th><th scope="col">Group</th><th scope="col">Directive</th><th scope="col">Value</th></tr></thead>
-<tbody><tr id="L1" class="own"><th scope="row">1</th><td>own</td><td>user-agent</td><td>*</td></tr>
+<tbody><tr id="L1" class="own"><th scope="row">1</th><td>own</td><td class="agent">user-agent</td><td>*</td></tr>
 <tr id="L2" class="own"><th scope="row">2</th><td>own</td><td>disallow</td><td>search  # &lt;b&gt;</td></tr>
 <tr class="error"><td colspan="4">{warning}</td></tr></tbody></table><footer>robots_audit {version}</footer></main></body></html>"""
 
@@ -193,9 +209,9 @@ CRAWLERS = """
 <th scope="col">Rules</th><th scope="col">Crawl delay</th><th scope="col">May fetch</th>
 <th scope="col"><code dir="ltr">/b</code></th></tr></thead><tbody>
 <tr><th scope="row"><code dir="ltr">Long</code></th><td>Long, <a href="#L4">line 4</a>; rejected: <a href="#L5">line 5</a></td>
-<td>1</td><td>none</td><td class="see rules">see rules</td></tr>
+<td>1</td><td>none</td><td class="some">not decided</td></tr>
 <tr><th scope="row"><code dir="ltr">B</code></th><td>* (B has no group of its own), <a href="#L1">line 1</a></td>
-<td>1</td><td>2.5 s</td><td class="see rules">see rules</td>
+<td>1</td><td>2.5 s</td><td class="some">some, by its rules</td>
 <td class="denied"><code dir="ltr">/b</code>denied, <a href="#L2">line 2</a></td></tr></tbody></table></div><h2>File</h2>
 """
 
@@ -210,22 +226,17 @@ def test_page_has_the_lines_and_warnings_of_the_json():
     elements, found = Reader(page(*FERRIS, *URLS)).elements, audit(*FERRIS, *URLS)
     rows = rows_of(found)
     assert len(rows) > len(found["lines"]) and [row for row in children(elements, "tr") if row[0]] == rows
-    listed = [f"line {it['line']}: {words(it)}" if it["line"] else words(it) for it in found["warnings"]]
-    assert texts(elements, "li") == [*found["sitemaps"], *listed]
+    assert texts(elements, "li") == [*joined(found["warnings"]), *found["sitemaps"]]
 
 
-SYNTAX = "the file has RFC 9309 syntax"
-VERDICTS = "verdicts are those of RFC 9309 for URLs in normal form (reserved characters as in RFC 3986, octets counted in normal form)"
-
-
-APART, OTHER = "verdicts may not be those of RFC 9309: line 2", "not RFC 9309 syntax: line 2"
-
-
-@pytest.mark.parametrize("rule, syntax, verdicts", [("/a", SYNTAX, VERDICTS), ("/", SYNTAX, VERDICTS), ("/a$b", SYNTAX, APART), ("a", OTHER, None)])
-def test_page_has_the_sentences_about_the_standard(rule, syntax, verdicts):
-    elements = Reader(page("-", file=f"User-agent: *\nDisallow: {rule}".encode())).elements
-    entries = dict(zip(texts(elements, "dt"), texts(elements, "dd")))
-    assert (entries.get("Syntax"), entries.get("Verdicts")) == (syntax, verdicts)
+@pytest.mark.parametrize("file, sentence", [
+    (b"User-agent: *\nDisallow: /", "RFC 9309 syntax and verdicts, for URLs in normal form"),
+    (b"User-agent: *\nDisallow: /a$b", "RFC 9309 syntax; verdicts may differ: line 2"),
+    (b"User-agent: *\nDisallow: a", "not RFC 9309 syntax: line 2"),
+    (b"# nothing", None),
+])
+def test_page_has_the_sentence_about_the_standard(file, sentence):
+    assert entries_of("-", file=file).get("Syntax") == sentence
 
 
 def verdict(it):
@@ -243,8 +254,8 @@ def test_page_about_all_crawlers():
     rows = [["Crawler", "Group", "Rules", "Crawl delay", "May fetch", *URLS]]
     for it in found["agents"]:
         verdicts = [one["url"] + verdict(one) for one in it["verdicts"]]
-        rows.append([it["agent"], f"{it['agent']}, line {it['group_line']}", str(it["rules"]), delay(it["delay"]), it["may_fetch"] or "see rules", *verdicts])
-    assert [row[4] for row in rows] == ["May fetch", "see rules", "nothing"]
+        rows.append([it["agent"], f"{it['agent']}, line {it['group_line']}", str(it["rules"]), delay(it["delay"]), it["may_fetch"] or "some, by its rules", *verdicts])
+    assert [row[4] for row in rows] == ["May fetch", "some, by its rules", "nothing"]
     assert [cells for _, cells in children(elements, "tr")][: len(rows)] == rows
     assert [row for row in children(elements, "tr") if row[0]] == rows_of({**audit("--agent=*", "-"), "warnings": found["warnings"]})
 
@@ -256,10 +267,10 @@ def entries_of(*args, **options):
 
 
 FILES = {
-    b"": ("0", "everything"),
+    b"\n": ("0", "everything"),
     b"User-agent: *\nAllow: /a\nAllow: /b": ("2", "everything"),
     b"User-agent: *\nDisallow: /": ("1", "nothing"),
-    b"User-agent: *\nDisallow: /a": ("1", "see rules"),
+    b"User-agent: *\nDisallow: /a": ("1", "some, by its rules"),
 }
 
 
@@ -269,6 +280,11 @@ def test_page_says_what_a_crawler_may_fetch(file):
     assert (entries["Rules"], entries["May fetch"]) == FILES[file]
     (row,) = [cells for _, cells in children(Reader(page("-", file=file)).elements, "tr") if cells[0] == "*"]
     assert (row[2], row[4]) == FILES[file]
+
+
+@pytest.mark.parametrize("file, is_mistake", [(b"<html>", True), (b"\n", True), (b"U\0s\0e\0r\0", True), (b"User-agent: *", False)])
+def test_what_a_mistake_opens_is_not_marked_as_good(file, is_mistake):
+    assert ('<main class="mistake">' in page("-", file=file)) is is_mistake
 
 
 def test_page_has_the_name_of_the_file_and_the_version(tmp_path):
@@ -289,9 +305,8 @@ def test_page_has_the_numbers_of_warnings():
     """They are those of the last line of the text."""
     for file in (EXAMPLE, b"User-agent: *\nDisallow: a\nDisallow: b\nhello\n", b"hello\n", b"User-agent: *\nDisallow: /a"):
         listed = run("robots_audit", ["-"], file).err.splitlines()
-        numbers = listed[-1].removeprefix("robots.txt: ") if listed else "none"
-        elements = Reader(page("-", file=file)).elements
-        assert entries_of("-", file=file)["Warnings"] == numbers + "".join(texts(elements, "li")[len(audit("-", file=file)["sitemaps"]) :])
+        numbers = listed[-1].removeprefix("robots.txt: ").replace(", ", "") if listed else "none"
+        assert entries_of("-", file=file)["Findings"] == numbers + "".join(joined(audit("-", file=file)["warnings"]))
 
 
 @pytest.mark.parametrize("agents", [["-"], FERRIS], ids=["all crawlers", "one crawler"])
@@ -302,7 +317,7 @@ def test_page_has_allowed_urls_too(agents):
 
 
 def test_at_most_100_warnings_are_listed():
-    elements = Reader(page(*FERRIS, file=b"hello there\n" * 103 + b"User-agent: *\n")).elements
+    elements = Reader(page(*FERRIS, file=b"User-agent: *\n" + b"".join(b"Disallow: /%d\nAllow: /%d\n" % (n, n) for n in range(104)))).elements
     assert len(texts(elements, "li")) == 100 and "and 4 more, below their lines" in texts(elements, "p")
     assert len(texts(elements, "tr", **{"class": "warning"})) == 104
 
@@ -317,7 +332,7 @@ def test_all_warnings_without_a_row_are_listed():
     names = b"".join(b"User-agent: a%d\nDisallow: /\n" % number for number in range(150))
     elements = Reader(page(*FERRIS, file=b"User-agent: *\nDisallow: /a\n" + b"#".ljust(511_973, b"x") + b"\n" + names)).elements
     found = [text for text in texts(elements, "li") if "[group-past-size-limit]" in text]
-    assert [text.split(":")[0] for text in found] == [f"line {number}" for number in range(4, 304, 2)]
+    assert [(text.split(":")[0], "(also in lines 6, 8, 10 and 146 more)" in text) for text in found] == [("line 4", True)]
 
 
 def test_line_past_the_size_limit_is_no_link():
@@ -407,7 +422,7 @@ RIGHT_END = "Math.max(...[...document.querySelectorAll('main *')].map(it => it.g
 PAGES = {
     "one crawler": ([*FERRIS, *URLS], EXAMPLE),
     "all crawlers": (["-", *URLS], EXAMPLE),
-    "neither URLs nor lines": (FERRIS, b""),
+    "neither URLs nor lines": (["--agent=FerrisBot", "/dev/null"], b""),
     "several bodies": (FERRIS, b"User-agent: *\n" + b"Disallow: x\nx\n" * 500),
     "a rejected file": ([*FERRIS, "/"], b"User-agent: *\nDisallow: /" + b"a" * 4096 + b"$\n"),
     **{f"hostile text {at}": ([*FERRIS, "/&lt;i"], with_text(text)) for at, text in enumerate(HOSTILE)},

@@ -197,8 +197,7 @@ def test_many_agents():
         verdicts += "".join(f"{f'deny {2 * n}' if m == n else 'allow -'} {name} {url}\n" for m, url in enumerate(urls, 1))
     for n in range(1, 101, 2):
         text += f"User-agent: {'A' * n}_\nAllow: /none/{n}\n"
-    out += verdicts + "the file has RFC 9309 syntax\n"
-    out += "verdicts are those of RFC 9309 for URLs in normal form (reserved characters as in RFC 3986, octets counted in normal form)\n"
+    out += verdicts + "RFC 9309 syntax and verdicts, for URLs in normal form\n"
     assert run("robots_audit", ["-", *urls], text.encode()) == Result(1, out, "")
 
 

@@ -93,7 +93,7 @@ def test_results():
         ("note", "clean-param-line", message("clean-param-line"), "robots.txt", 4),
         ("warning", "noindex-line", message("noindex-line"), "robots.txt", 5),
     ]
-    assert list(results(log("-", file=b""))) == [("warning", "empty-file", message("empty-file"), "robots.txt", 1)]
+    assert list(results(log("-", file=b"#"))) == [("note", "empty-file", message("empty-file"), "robots.txt", 1)]
     named = f"URL '/%c3': {message('url-not-normal')}"
     assert list(results(log("-", "/%c3", file=b"Sitemap: http://a"))) == [("note", "url-not-normal", named, "robots.txt", 1)]
 

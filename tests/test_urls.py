@@ -127,19 +127,19 @@ def test_no_urls(tmp_path, text, more):
     assert outcome(check(tmp_path, text, "Ferris", *more)) == (2, "", "robots_audit: list.txt: there are no URLs\n")
 
 
-CURL = "curl -s https://example.com/robots.txt | robots_audit -"
+CURL = "curl -fsSL https://example.com/robots.txt | robots_audit -"
 FETCH = f"a URL isn't a file, try: {CURL}"
 UNREAD = {
-    "missing": ("missing.txt", "missing.txt"),
-    "a folder": (".", "."),
-    "no name": ("", '""'),
-    "a URL": ("https://example.com", f"https://example.com; {FETCH}"),
-    "a URL in capitals": ("HTTP://example.com/a", f"HTTP://example.com/a; {FETCH}"),
-    "a host": ("example.com", f"example.com; for a host, try: {CURL}"),
-    "a URL without a scheme": ("example.com/robots.txt", f"example.com/robots.txt; for a host, try: {CURL}"),
-    "a hidden file": (".hidden", ".hidden"),
-    "a level": ("note", "note; for a level, write --strict=LEVEL"),
-    "a path": ("/no/tea", "/no/tea; before a path to check, write FILE, or - for standard input"),
+    "missing": ("missing.txt", "missing.txt: no such file"),
+    "a folder": (".", ".: it is a folder"),
+    "no name": ("", '"": no such file'),
+    "a URL": ("https://example.com", f"https://example.com: no such file; {FETCH}"),
+    "a URL in capitals": ("HTTP://example.com/a", f"HTTP://example.com/a: no such file; {FETCH}"),
+    "a host": ("example.com", f"example.com: no such file; for a host, try: {CURL}"),
+    "a URL without a scheme": ("example.com/robots.txt", f"example.com/robots.txt: no such file; for a host, try: {CURL}"),
+    "a hidden file": (".hidden", ".hidden: no such file"),
+    "a level": ("note", "note: no such file; for a level, write --strict=LEVEL"),
+    "a path": ("/no/tea", "/no/tea: no such file; before a path to check, write FILE, or - for standard input"),
 }
 
 
@@ -159,7 +159,7 @@ def test_denied_urls_alone(tmp_path):
 
 
 def test_numbers_are_those_of_all_crawlers(tmp_path):
-    out = "crawler Ferris: group * (line 1), 1 rule\ncrawler GPTBot: group GPTBot (line 4), 2 rules\ncrawler Longbot: group Longbot (line 8), 1 rule\n"
+    out = "crawler Ferris: group * (line 1), 1 rule\ncrawler GPTBot: group GPTBot (line 4), 2 rules, may fetch only what line 6 allows\ncrawler Longbot: group Longbot (line 8), 1 rule\n"
     out += "rejected for Longbot: line 9: a pattern with $ longer than 4,096 bytes isn't supported; shorten it\n"
     out += "deny 2 Ferris /private/\ndeny 5 GPTBot /b\ndeny 5 GPTBot /private/\n"
     out += "3 allowed, 3 denied\n"
@@ -176,4 +176,4 @@ def test_denied_urls_as_json():
 def test_ten_thousand_urls(tmp_path):
     text = b"".join(b"/%d\n/private/%d\n" % (n, n) for n in range(5_000))
     lines = check(tmp_path, text, "Ferris", "--denied").out.splitlines()
-    assert (len(lines), lines[-4], lines[-1]) == (5_005, "deny 2 /private/4999", "5000 allowed, 5000 denied")
+    assert (len(lines), lines[-3], lines[-1]) == (5_004, "deny 2 /private/4999", "5000 allowed, 5000 denied")

@@ -34,7 +34,7 @@ def test_healthy_files_have_notes_at_most(file, for_all):
 
 
 def test_a_misspelled_crawler_is_found_by_an_expectation(tmp_path):
-    """An audit has no warning for it."""
+    """An audit doesn't say to whom the site is open."""
     expected = tmp_path / "expect.txt"
     expected.write_text("deny Google-Extended /\ndeny ChatGPT-User /\n")
     result = run("robots_audit", ["--expect", expected, WILD / "misspelled-names.txt"])

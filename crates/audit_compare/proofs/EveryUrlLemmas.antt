@@ -1,18 +1,13 @@
--- What comparisons of rules on all match targets imply.
-use Rattle.std.proofs.Common.{◌≡◌, ◌≢◌, ℕ, zero, suc, ◌<◌, true, false, List, [], ◌∷◌, ◌++◌, Contains, arith}
-use Rattle.std.proofs.Common.{Err, IfOk, None, Ok, Option, Result, Some, ap, codes, length, refl, string_bytes}
+-- An example of a verdict that changes.
+use Rattle.std.proofs.Common.{ℕ, List, [], ◌∷◌, Err, IfOk, None, Ok, Option, Result, Some, refl, string_bytes}
 use Rattle.std.specs.Option.{IfSome}
-use Rattle.std.proofs.lemmas.{Bool.false≢true}
-use Rattle.texting_robots.specs.Callers.{IsDenied, Matches, Rule, RobotValue, lines_read}
-use Rattle.texting_robots.specs.Callers.{PlacedRule, placed_rules, robots_file, unplaced}
-use Rattle.texting_robots.specs.{Pattern.MatchesWith, Decision.IsDecisionOn, declared.decision.Decision.Decision}
-use Rattle.robots_same.specs.Same.{HaveSameVerdicts}
-use Rattle.robots_warnings.specs.declared.closed.Reach.TheVariants.{Everything, Nothing}
+use Rattle.texting_robots.specs.Callers.{RobotValue, lines_read, placed_rules}
+use Rattle.texting_robots.specs.{Decision.IsDecisionOn, declared.decision.Decision.Decision}
 use Rattle.audit_core.specs.{Asked.asked_target, Internal.IsReading, declared.audit.Reading.TheVariants.Accepted}
 use Rattle.audit_core.specs.declared.fault.Fault.{Fault}
 use Rattle.audit_core.proofs.{AuditLemmas.ruling_made}
 use Rattle.audit_compare.specs.declared.every_url.{Example.Example}
-use Rattle.audit_compare.specs.EveryUrl.{IsExample, IsReach}
+use Rattle.audit_compare.specs.EveryUrl.{IsExample}
 
 decided : (agent file url : List ℕ) (robot : RobotValue) (decision : Decision)
     → IsReading agent file (Accepted robot) → IsDecisionOn robot.rules (asked_target url) decision
@@ -33,32 +28,3 @@ example_read agent older newer was is (Ok (Some example)) old new found = record
   is = decided agent newer (string_bytes example.path) is example.newer new found.is;
   differ = found.differ;
 }
-
-none_denied : (text : List ℕ) → IsDenied [] text → ⊥
-none_denied text (other, pattern, (k, below, at), matches, longer) = absurd (omega arith)
-
-abbrev pub closing : Rule
-closing = (codes "/", false)
-
-no_allow : (pattern text : List ℕ) → Contains (closing ∷ []) (pattern, true) → Matches pattern text
-    → length pattern < 1
-no_allow pattern text (zero, below, at) matches = absurd (false≢true (ap (λ (rule : Rule). rule.1) at))
-no_allow pattern text (suc k, below, at) matches = absurd (omega arith)
-
-all_denied : (rest : List ℕ) → codes "/" ++ rest ≢ robots_file → IsDenied (closing ∷ []) (codes "/" ++ rest)
-unfolding MatchesWith
-all_denied rest other = (
-  other,
-  codes "/",
-  (0, omega arith, refl),
-  (rest, refl, tt),
-  λ pattern has matches. no_allow pattern (codes "/" ++ rest) has matches,
-)
-
-pub everything : (rules others : List PlacedRule) → others ≡ []
-    → HaveSameVerdicts (codes "/") (unplaced rules) (unplaced others) → IsReach (unplaced rules) Everything
-everything rules others none same rest = (same rest true).1 (rw none (none_denied (codes "/" ++ rest)))
-
-pub nothing : (rules others : List PlacedRule) → others ≡ record { rule = closing; line = 0 } ∷ []
-    → HaveSameVerdicts (codes "/") (unplaced rules) (unplaced others) → IsReach (unplaced rules) Nothing
-nothing rules others is same rest other = (same rest false).1 (rw is (all_denied rest other))

@@ -8,7 +8,7 @@ use Rattle.texting_robots.specs.Callers.{LineValue, PlacedRule, Rule, lines_read
 use Rattle.texting_robots.specs.declared.decision.{Decision.Decision}
 use Rattle.printable_text.specs.declared.level.Level.{Level, TheVariants.Error, TheVariants.Note}
 use Rattle.printable_text.specs.declared.level.Level.TheVariants.{Warning}
-use Rattle.robots_warnings.specs.declared.closed.Reach.{Reach, TheVariants.Nothing}
+use Rattle.audit_core.specs.declared.reach.Reach.{Reach, TheVariants.Nothing}
 use Rattle.robots_warnings.specs.{declared.facts.LineKinds.LineKinds, Facts.kinds_of}
 use Rattle.audit_core.specs.declared.group.Group.{Group}
 use Rattle.audit_core.specs.declared.group.Group.TheVariants.{Everyone, Named, Nobody, Star}
@@ -16,7 +16,7 @@ use Rattle.audit_core.specs.Audit.{AgentValue, IsAgentAudit, VerdictValue, agent
 use Rattle.audit_core.specs.Findings.{Found}
 use Rattle.audit_compare.specs.declared.differences.Section.{Section, TheVariants.EveryUrl, TheVariants.Groups}
 use Rattle.audit_compare.specs.declared.differences.Section.TheVariants.{Rejections, Rules, Urls}
-use Rattle.audit_compare.specs.declared.every_url.{Change.Change, Example.Example, Verdicts.Verdicts}
+use Rattle.audit_compare.specs.declared.every_url.{Example.Example, Verdicts.Verdicts}
 use Rattle.audit_compare.specs.declared.every_url.Verdicts.TheVariants.{Other, Same, Undecided}
 use Rattle.audit_compare.specs.EveryUrl.{AreVerdicts, is_same}
 
@@ -192,20 +192,20 @@ level_by reach is_home_closed = if is_home_closed then Warning else Note
 abbrev pub is_home_closed : Example → Bool
 is_home_closed example = bytes_eq (string_bytes example.path) (codes "/") && example.older.allowed
 
-abbrev pub change_level : Change → Level
-change_level change = level_by change.newer (is_home_closed change.example)
+abbrev pub change_level : (newer : Reach) → Example → Level
+change_level newer example = level_by newer (is_home_closed example)
 
-abbrev pub verdict_change : Change → Found
-verdict_change change = record {
-  level = change_level change;
-  line = change.example.newer.line;
+abbrev pub verdict_change : (newer : Reach) → Example → Found
+verdict_change newer example = record {
+  level = change_level newer example;
+  line = example.newer.line;
   name = codes "verdicts";
 }
 
-abbrev pub verdict_changes : Verdicts → List Found
-verdict_changes Same = note (codes "same-verdicts") ∷ []
-verdict_changes (Other change) = verdict_change change ∷ []
-verdict_changes Undecided = note (codes "undecided-verdicts") ∷ []
+abbrev pub verdict_changes : (newer : Reach) → Verdicts → List Found
+verdict_changes newer Same = note (codes "same-verdicts") ∷ []
+verdict_changes newer (Other example) = verdict_change newer example ∷ []
+verdict_changes newer Undecided = note (codes "undecided-verdicts") ∷ []
 
 abbrev pub rejection_name : (is_new : Bool) → List ℕ
 rejection_name is_new = if is_new then codes "rejected" else codes "old-rejected"
@@ -228,7 +228,7 @@ accepted_changes Rules compared =
     map (rule_change false) compared.removed ++ map (rule_change true) compared.added
 accepted_changes Urls compared = map url_change compared.changes
 accepted_changes EveryUrl compared =
-    if is_unchanged compared then [] else verdict_changes compared.verdicts
+    if is_unchanged compared then [] else verdict_changes compared.newer.reach compared.verdicts
 accepted_changes Rejections compared = []
 
 abbrev pub section_changes : Section → ComparedValue → List Found

@@ -19,7 +19,7 @@ use std::alloc::{AllocError, Global};
 use std::marker::Model;
 
 /// Bounds how long the rules of all crawlers are compared.
-const BUDGET: usize = 50_000_000;
+const BUDGET: usize = 30_000_000;
 
 #[derive(Clone, Copy)]
 pub struct NamedFile<'a> {

@@ -10,7 +10,7 @@ use crate::every_url::{Verdicts, verdicts_for};
 use crate::rule_sets::{RuleSet, rules_lacked};
 use audit_core::audit::{AgentAudit, Verdict, audit_for};
 use audit_core::fault::Fault;
-use audit_core::rules::{Rule, rules_for};
+use robots_same::rule::{Rule, rules_of};
 use robots_warnings::read::FileRead;
 use std::alloc::{AllocError, Global};
 use std::marker::Model;
@@ -75,8 +75,8 @@ fn rule_changes(
     ensures added { IfOk result (λ changes. changes.added.items
         ≡ rules_only_in (file_lines newer.now) (file_lines older.now) agent.now) }
 {
-    let old_rules = rules_for(alloc, older, agent)?;
-    let new_rules = rules_for(alloc, newer, agent)?;
+    let old_rules = rules_of(alloc, older, agent)?;
+    let new_rules = rules_of(alloc, newer, agent)?;
     let old_set = RuleSet::of(alloc, &old_rules)?;
     let new_set = RuleSet::of(alloc, &new_rules)?;
     let removed = rules_lacked(&new_set, old_rules);

@@ -9,14 +9,14 @@ ghost use Rattle.audit_compare.specs.Compare.{change_level, is_home_closed, rule
 ghost use Rattle.audit_compare.specs.Compare.{verdict_change};
 
 use crate::compared::{Compared, UrlChange};
-use crate::every_url::{Change, Example, Verdicts};
+use crate::every_url::{Example, Verdicts};
 use audit_core::findings::{Findings, add};
 use audit_core::group::Group;
-use audit_core::rules::Rule;
-use audit_core::texts::{DelayOrNone, Rejected};
+use audit_core::reach::Reach;
+use audit_core::texts::{DelayOrNone, Fetched, Rejected};
 use printable_text::level::Level;
 use printable_text::report::Line;
-use robots_warnings::closed::Reach;
+use robots_same::rule::Rule;
 use std::alloc::Global;
 use std::fmt;
 use std::fmt::Write;
@@ -227,20 +227,6 @@ pub(crate) fn all_unchanged(crawlers: &[Compared<'_>]) -> bool
     crawlers.iter().all(is_unchanged)
 }
 
-/// What a crawler may fetch.
-#[derive(Clone, Copy)]
-struct Fetched(Reach);
-
-impl fmt::Display for Fetched {
-    fn fmt<W: fmt::Write>(&self, f: &mut fmt::Formatter<W>) -> fmt::Result {
-        f.write_str(match self.0 {
-            Reach::Everything => "everything",
-            Reach::Nothing => "nothing",
-            Reach::Part => "a part",
-        })
-    }
-}
-
 fn is_home_closed(example: &Example) -> bool
     ensures { result ≡ is_home_closed example.now }
 {
@@ -248,12 +234,12 @@ fn is_home_closed(example: &Example) -> bool
 }
 
 /// Of a crawler that loses everything, or the home page.
-fn change_level(change: &Change) -> Level
-    ensures { result ≡ change_level change.now }
+fn change_level(newer: Reach, example: &Example) -> Level
+    ensures { result ≡ change_level newer example.now }
 {
-    match change.newer {
+    match newer {
         Reach::Nothing => Level::Error,
-        _ if is_home_closed(&change.example) => Level::Warning,
+        _ if is_home_closed(example) => Level::Warning,
         _ => Level::Note,
     }
 }
@@ -261,25 +247,29 @@ fn change_level(change: &Change) -> Level
 fn add_verdict_change(
     alloc: Global,
     found: &mut Findings,
-    agent: &str,
-    change: &Change,
+    compared: &Compared<'_>,
+    example: &Example,
 ) -> fmt::Result
-    ensures { OnOk result (Adds found.old.items found.new.items (verdict_change change.now ∷ [])) }
+    ensures { OnOk result (Adds found.old.items found.new.items
+        (verdict_change compared.now.newer.reach example.now ∷ [])) }
 {
-    let (older, newer) = (Fetched(change.older), Fetched(change.newer));
-    let (path, line) = (change.example.path.as_str(), change.example.newer.line);
-    let (old, new) = (Decided(change.example.older), Decided(change.example.newer));
+    let (agent, older, newer) = (compared.agent, &compared.older, &compared.newer);
+    let (path, line) = (example.path.as_str(), example.newer.line);
+    let (old, new) = (Decided(example.older), Decided(example.newer));
     let mut message = Line::new(alloc);
-    if change.older == change.newer {
-        write!(message, "crawler {agent}: verdicts change")?;
+    write!(message, "crawler {agent}: ")?;
+    if older.reach == newer.reach {
+        write!(message, "verdicts change")?;
     } else {
-        write!(message, "crawler {agent}: may fetch {older} -> {newer}")?;
+        let was = Fetched(older.reach, &older.allows);
+        let is = Fetched(newer.reach, &newer.allows);
+        write!(message, "may fetch {was} -> {is}")?;
     }
     write!(message, ", for example {path}: {old} -> {new}")?;
     add(
         alloc,
         found,
-        change_level(change),
+        change_level(newer.reach, example),
         line,
         "verdicts",
         &message,
@@ -296,7 +286,7 @@ fn add_verdicts(alloc: Global, found: &mut Findings, compared: &Compared<'_>) ->
     }
     let (mut message, agent) = (Line::new(alloc), compared.agent);
     match &compared.verdicts {
-        Verdicts::Other(change) => return add_verdict_change(alloc, found, agent, change),
+        Verdicts::Other(example) => return add_verdict_change(alloc, found, compared, example),
         Verdicts::Same => {
             write!(message, "crawler {agent}: no URL's verdict changes")?;
             add(alloc, found, Level::Note, None, "same-verdicts", &message)

@@ -1,19 +1,17 @@
-//! Whether the verdict of any URL changes for a crawler, and what the crawler may fetch.
+//! Whether the verdict of any URL changes for a crawler.
 ghost use Rattle.std.specs.Prelude.{◌≡◌, IfErr, IfOk, IsTrue, codes};
 ghost use Rattle.std.specs.Option.{IfSome};
 ghost use Rattle.texting_robots.specs.Callers.{lines_read, placed_rules, unplaced};
-ghost use Rattle.audit_compare.specs.EveryUrl.{AreVerdicts, IsExample, IsReach, is_same};
-ghost use Rattle.robots_same.specs.Same.{HaveSameVerdicts};
+ghost use Rattle.audit_compare.specs.EveryUrl.{AreVerdicts, IsExample, is_same};
 ghost use Rattle.robots_warnings.specs.Read.{IsRead};
 
 use audit_core::asked::decision_on;
 use audit_core::audit::{Reading, read_for};
 use audit_core::fault::Fault;
 use robots_same::compare::{Comparison, compare};
-use robots_same::rule::{Rule, rules_of};
-use robots_warnings::closed::Reach;
+use robots_same::rule::rules_of;
 use robots_warnings::read::FileRead;
-use std::alloc::{AllocError, Global};
+use std::alloc::Global;
 use texting_robots::Robot;
 use texting_robots::robot::Decision;
 
@@ -25,21 +23,13 @@ pub struct Example {
     pub newer: Decision,
 }
 
-/// What the crawler may fetch, and a path whose verdict changes.
-#[derive(Drop)]
-pub struct Change {
-    pub older: Reach,
-    pub newer: Reach,
-    pub example: Example,
-}
-
 /// What becomes of the verdicts of all URLs.
 #[derive(Drop)]
 pub enum Verdicts {
     /// None changes.
     Same,
-    /// Some change.
-    Other(Change),
+    /// Some change, such as that of this path.
+    Other(Example),
     Undecided,
 }
 
@@ -47,41 +37,6 @@ pub(crate) fn is_same(verdicts: &Verdicts) -> bool
     ensures { result ≡ is_same verdicts.now }
 {
     matches!(verdicts, Verdicts::Same)
-}
-
-fn are_same(
-    alloc: Global,
-    rules: &[Rule],
-    others: &[Rule],
-    budget: usize,
-) -> Result<bool, AllocError>
-    ensures { IfOk result (λ same. IsTrue same → HaveSameVerdicts (codes "/") (unplaced rules.now)
-        (unplaced others.now)) }
-{
-    let mut left = budget;
-    match compare(alloc, b"/", rules, others, &mut left)? {
-        Comparison::Same => Ok(true),
-        _ => Ok(false),
-    }
-}
-
-/// A part is also said if the budget is too small.
-fn reach_of(alloc: Global, rules: &[Rule], budget: usize) -> Result<Reach, AllocError>
-    ensures { IfOk result (IsReach (unplaced rules.now)) }
-{
-    let mut others = Vec::new(alloc);
-    if are_same(alloc, rules, &others, budget)? {
-        return Ok(Reach::Everything);
-    }
-    others.push(Rule {
-        pattern: String::from_str(alloc, "/")?,
-        is_allow: false,
-        line: 0,
-    })?;
-    if are_same(alloc, rules, &others, budget)? {
-        return Ok(Reach::Nothing);
-    }
-    Ok(Reach::Part)
 }
 
 /// The path with its decisions, if the verdict changes.
@@ -149,8 +104,8 @@ fn example_for(
     example_among(alloc, &was, &is, text)
 }
 
-/// What becomes of the verdicts if the rules differ. The budget bounds each of three comparisons. That they
-/// change is only said with an example, and of that both robots are asked.
+/// What becomes of the verdicts if the rules differ. That they change is only
+/// said with an example, and of that both robots are asked.
 pub(crate) fn verdicts_for(
     alloc: Global,
     agent: &str,
@@ -172,12 +127,8 @@ pub(crate) fn verdicts_for(
         Comparison::Differ(text) => text,
         Comparison::Undecided => Vec::new(alloc),
     };
-    let Some(example) = example_for(alloc, agent, older, newer, &text)? else {
-        return Ok(Verdicts::Undecided);
-    };
-    Ok(Verdicts::Other(Change {
-        older: reach_of(alloc, &old_rules, budget)?,
-        newer: reach_of(alloc, &new_rules, budget)?,
-        example,
-    }))
+    match example_for(alloc, agent, older, newer, &text)? {
+        Some(example) => Ok(Verdicts::Other(example)),
+        None => Ok(Verdicts::Undecided),
+    }
 }

@@ -1,1 +1,3 @@
 pub mod AuditLemmas
+pub mod ReachLemmas
+pub mod JoinedLemmas

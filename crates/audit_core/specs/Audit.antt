@@ -13,9 +13,10 @@ use Rattle.audit_core.specs.{Needless.needless_warnings, Asked.asked_target, Cho
 use Rattle.rfc9309_laws.specs.{Conformance.conformance_of, declared.conformance.Conformance.Conformance}
 use Rattle.audit_core.specs.declared.group.Group.TheVariants.{Everyone, Named, Nobody, Star}
 use Rattle.robots_needless.specs.{Blocks.AreFoundIn, Needless.NeedlessValue, Needless.nothing}
-use Rattle.robots_warnings.specs.{declared.closed.Reach.Reach, declared.table.Cause.TheVariants.SitemapDenied}
+use Rattle.robots_warnings.specs.{declared.table.Cause.TheVariants.SitemapDenied, Crawlers.other_group}
+use Rattle.audit_core.specs.{Reach.IsReach, declared.reach.Reach.Reach, declared.reach.Reach.TheVariants.Part}
 use Rattle.robots_warnings.specs.{declared.warning.Detail.TheVariants.Line, Closed.line_closing}
-use Rattle.robots_warnings.specs.{Closed.reach_of, Facts.facts_of, Facts.is_too_large, File.labels_for}
+use Rattle.robots_warnings.specs.{Facts.facts_of, Facts.is_too_large, File.labels_for}
 use Rattle.robots_warnings.specs.{Urls.is_absolute_url, Warnings.warnings, Message.WarningValue}
 
 -- a name is appended if it is new and UTF-8, as a crawler's name is a string
@@ -58,6 +59,7 @@ pub record AgentValue : Type 0 where
   pub group_line : Option ℕ
   pub rules : ℕ
   pub reach : Reach
+  pub allows : List ℕ
   pub delay : Option ℕ
   pub rejected : Option ℕ
   pub verdicts : List VerdictValue
@@ -75,14 +77,15 @@ IsRuling urls lines agent None verdicts =
 IsRuling urls lines agent (Some line) verdicts =
     IsFirstOverlong (placed_rules agent lines) line × (verdicts ≡ [])
 
--- what the file means for the crawler
+-- what the file means for the crawler; nothing is said of what it may fetch if its vendor applies another group
 pub record IsAgentAudit (urls : List (List ℕ)) (lines : List LineValue) (agent : List ℕ)
     (value : AgentValue) : Type 0 where
   pub agent_is : value.agent ≡ agent
   pub group_is : value.group ≡ group_of agent lines
   pub line_is : value.group_line ≡ naming_line agent lines
   pub rules_are : value.rules ≡ length (placed_rules agent lines)
-  pub reach_is : value.reach ≡ reach_of lines agent
+  pub reach_is : IsReach (placed_rules agent lines) value.reach value.allows
+  pub reach_elsewhere : is_some (other_group lines agent) ≡ true → value.reach ≡ Part
   pub delay_is : value.delay ≡ delay_for agent lines
   pub ruling : IsRuling urls lines agent value.rejected value.verdicts
 

@@ -35,6 +35,7 @@ status_after (Err Closed) = 141
 status_after (Err fault) = 2
 
 abbrev pub fault_of_read : ReadFault → Fault
+fault_of_read read.Folder = Read
 fault_of_read read.Read = Read
 fault_of_read read.Memory = Memory
 

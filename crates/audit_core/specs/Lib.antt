@@ -1,6 +1,7 @@
 pub mod Request
 pub mod Answer
 pub mod Texts
+pub mod Reach
 pub mod Fault
 pub mod Rows
 pub mod Asked
@@ -10,4 +11,5 @@ pub mod Content
 pub mod Counts
 pub mod Needless
 pub mod Findings
+pub mod Joined
 pub mod Internal

@@ -1,12 +1,14 @@
 //! The audit of a file: its lines, what applies to each requested crawler, and the warnings.
-ghost use Rattle.std.specs.Prelude.{◌≡◌, ◌++◌, ℕ, IfErr, IfOk, List, codes, is_none, length, map};
-ghost use Rattle.std.specs.Prelude.{option_map};
+ghost use Rattle.std.specs.Prelude.{◌≡◌, ◌++◌, ℕ, IfErr, IfOk, List, codes, is_none, is_some, length, map};
+ghost use Rattle.std.specs.Prelude.{option_map, true};
 ghost use Rattle.std.specs.List.{AllZip};
 ghost use Rattle.texting_robots.specs.Callers.{file_lines, label_by_value, lines_read};
 ghost use Rattle.audit_core.specs.Audit.{AreOfSitemaps, IsAgentAudit, IsAuditOf, IsRuling, IsVerdictOn};
 ghost use Rattle.audit_core.specs.Audit.{agents_requested, all_allowed, allows_all, labeling_agent};
 ghost use Rattle.audit_core.specs.Audit.{labels_requested, rejects_some};
 ghost use Rattle.audit_core.specs.{Request.requested_by, Needless.needless_warnings, Internal.IsReading};
+ghost use Rattle.audit_core.specs.Reach.{IsReach};
+ghost use Rattle.robots_warnings.specs.Crawlers.{other_group};
 ghost use Rattle.robots_warnings.specs.{Message.WarningValue, Read.IsRead, Warnings.warnings};
 
 use crate::agents::agents_requested;
@@ -15,21 +17,21 @@ use crate::chosen::choose;
 use crate::fault::Fault;
 use crate::group::{Group, group_of, naming_line};
 use crate::needless::{add_needless, needless_rules};
+use crate::reach::{Reach, reach_of};
 use crate::request::Request;
 use crate::sitemaps::warn_of_sitemaps;
 use rfc9309_laws::conformance::{Conformance, conformance_of};
 use robots_needless::lines::Needless;
-use robots_warnings::closed::{Reach, reach_of};
-use robots_warnings::own_rules::own_rules;
+use robots_same::rule::{Rule, rules_of};
+use robots_warnings::crawlers::other_group;
 use robots_warnings::read::FileRead;
 use robots_warnings::warning::Warning;
 use robots_warnings::warnings::warnings;
-use std::alloc::Global;
+use std::alloc::{AllocError, Global};
 use std::marker::Model;
 use texting_robots::labels::LabeledLine;
 use texting_robots::robot::Decision;
-use texting_robots::site::SiteRule;
-use texting_robots::{Rejection, Robot};
+use texting_robots::{Rejection, Robot, Site};
 
 #[derive(Drop)]
 pub struct Verdict<'a> {
@@ -56,6 +58,8 @@ pub struct AgentAudit<'a> {
     pub rules: usize,
     /// What the crawler may fetch, unless the file is rejected for it.
     pub reach: Reach,
+    /// If that is listed, the lines of the Allows.
+    pub allows: Vec<usize>,
     /// In microseconds.
     pub delay: Option<u64>,
     /// The line of the crawler's first overlong rule, because of which the file is rejected for the crawler.
@@ -144,7 +148,28 @@ pub(crate) fn ruling<'a>(
     }
 }
 
-fn count_of(rules: &[SiteRule<'_>]) -> usize
+/// What the crawler, for which the file is read so and has these rules, may fetch. It is `Part` if its vendor
+/// applies another group.
+fn reach_for(
+    alloc: Global,
+    agent: &str,
+    reading: &Reading,
+    site: &Site,
+    rules: &[Rule],
+) -> Result<(Reach, Vec<usize>), AllocError>
+    ensures reach { IfOk result (λ found. IsReach rules.now found.0 found.1.items) }
+    ensures own { IfOk result (λ found. is_some (other_group (file_lines site.now) agent.now) ≡ true
+        → found.0 ≡ Reach.Part) }
+{
+    match reading {
+        Reading::Accepted(robot) if other_group(site, agent).is_none() => {
+            reach_of(alloc, robot, rules)
+        }
+        _ => Ok((Reach::Part, Vec::new(alloc))),
+    }
+}
+
+fn count_of(rules: &[Rule]) -> usize
     ensures { result ≡ length rules.now }
 {
     rules.len()
@@ -164,8 +189,8 @@ fn agent_audit<'a>(
         (lines_read read.now.bytes.now) agent.now audit) }
     ensures fault { IfErr result (λ fault. fault ≡ Fault.Memory) }
 {
-    let rules = own_rules(alloc, &read.site, agent)?;
-    let reach = reach_of(alloc, &read.site, agent, &rules)?;
+    let rules = rules_of(alloc, &read.site, agent)?;
+    let (reach, allows) = reach_for(alloc, agent, reading, &read.site, &rules)?;
     let (rejected, verdicts) = ruling(alloc, reading, urls)?;
     Ok(AgentAudit {
         agent,
@@ -173,6 +198,7 @@ fn agent_audit<'a>(
         group_line: naming_line(agent, &read.site, &read.labels),
         rules: count_of(&rules),
         reach,
+        allows,
         delay: read.site.delay(agent),
         rejected,
         verdicts,

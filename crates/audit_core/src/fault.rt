@@ -5,7 +5,7 @@ ghost use Rattle.audit_core.specs.Fault.{IsArgument, IsUnknown, near_warning, st
 use crate::answer::Outcome;
 use printable_text::report::{Named, Report};
 use robots_io::streams::{ReadFault, WriteFault};
-use robots_warnings::crawlers::is_near;
+use robots_warnings::crawlers::{is_near, row_at};
 use robots_warnings::rules::{before_byte, has};
 use robots_warnings::table::{Cause, causes};
 use robots_warnings::urls::begins_as_url;
@@ -17,11 +17,15 @@ use std::fmt::Write;
 /// arguments, or with a file that can't be a robots.txt file.
 #[derive(Clone, Copy)]
 pub enum Flaw {
-    /// It isn't of the form `allow AGENT URL` or `deny AGENT URL`.
+    /// It isn't of the form `allow AGENT URL`, or with another of four words.
     Form,
+    /// No rule may have this pattern, or none that is a path or a path after a star.
+    Pattern,
     NotUtf8,
     /// No crawler has this name.
     Agent,
+    /// The same, but this one of the known crawlers is probably meant.
+    Meant(usize),
     /// The text is neither a path nor an http(s) URL that can be parsed.
     Url,
     /// The same, but it may be the name of a crawler.
@@ -66,8 +70,8 @@ pub enum Fault {
     NotUtf8,
     /// The warning with a similar name may be meant.
     UnknownWarning(String, Option<Cause>),
-    /// The file with this name can't be opened or read.
-    File(String),
+    /// The file with this name can't be opened or read, for a reason that may be empty.
+    File(String, &'static str),
     /// These lines, of the file with this name, are malformed.
     Malformed(String, Vec<MalformedLine>),
     /// This argument isn't the name of a crawler, no URL, or the name of a file that can't be a robots.txt
@@ -75,6 +79,8 @@ pub enum Fault {
     Argument(String, Flaw),
     /// The file with this name has none of these entries.
     Empty(String, Entry),
+    /// Standard input has no bytes.
+    NoInput,
     /// Standard input would have to be both the robots.txt file and another one.
     StdinTwice,
     /// A comparison or a check of expectations can't be written in this format.
@@ -130,7 +136,7 @@ impl From<ReadFault> for Fault {
 
     fn from(fault: ReadFault) -> Fault {
         match fault {
-            ReadFault::Read => Fault::Read,
+            ReadFault::Folder | ReadFault::Read => Fault::Read,
             ReadFault::Memory => Fault::Memory,
         }
     }
@@ -150,9 +156,24 @@ impl From<WriteFault> for Fault {
     }
 }
 
+fn write_flaw(out: &mut Report, flaw: Flaw) -> fmt::Result {
+    out.write_str(flaw_text(flaw))?;
+    match flaw {
+        Flaw::Meant(crawler) => {
+            let name = row_at(crawler).0;
+            write!(out, "{name}?")
+        }
+        _ => Ok(()),
+    }
+}
+
 fn flaw_text(flaw: Flaw) -> &'static str {
     match flaw {
-        Flaw::Form => "write \"allow AGENT URL\" or \"deny AGENT URL\"",
+        Flaw::Meant(_) => "no crawler has this name; did you mean ",
+        Flaw::Form =>
+            "write \"allow AGENT URL\" or \"deny AGENT URL\", or for a pattern allow-all or deny-all",
+        Flaw::Pattern =>
+            "a pattern starts with / or *, has no #, and if it has a $ at most 4,096 bytes",
         Flaw::NotUtf8 => "the line isn't valid UTF-8",
         Flaw::Agent => "a crawler's name is a product token without a version, such as Googlebot",
         Flaw::Url =>
@@ -189,7 +210,7 @@ const USAGE: &str = "; usage: robots_audit [OPTIONS] FILE [URL]..";
 
 /// They follow the usage if FILE is missing.
 const EXAMPLES: &str = "example: robots_audit robots.txt /search\n\
-    example: curl -s https://example.com/robots.txt | robots_audit --agent Googlebot -";
+    example: curl -fsSL https://example.com/robots.txt | robots_audit --agent Googlebot -";
 
 fn is_level(name: &[u8]) -> bool {
     name == b"error".as_slice() || (name == b"warning".as_slice() || name == b"note".as_slice())
@@ -202,9 +223,9 @@ fn begins_as_host(name: &[u8]) -> bool {
 
 fn file_hint(name: &[u8]) -> &'static str {
     if begins_as_url(name) {
-        "; a URL isn't a file, try: curl -s https://example.com/robots.txt | robots_audit -"
+        "; a URL isn't a file, try: curl -fsSL https://example.com/robots.txt | robots_audit -"
     } else if begins_as_host(name) {
-        "; for a host, try: curl -s https://example.com/robots.txt | robots_audit -"
+        "; for a host, try: curl -fsSL https://example.com/robots.txt | robots_audit -"
     } else if is_level(name) {
         "; for a level, write --strict=LEVEL"
     } else if name.starts_with(b"/") {
@@ -226,8 +247,8 @@ fn write_unknown(out: &mut Report, name: &str, near: Option<Cause>) -> fmt::Resu
 
 fn write_malformed(out: &mut Report, file: &str, lines: &[MalformedLine]) -> fmt::Result {
     for (line, flaw) in lines {
-        let flaw = flaw_text(*flaw);
-        write!(out, "robots_audit: {file}:{line}: {flaw}")?;
+        write!(out, "robots_audit: {file}:{line}: ")?;
+        write_flaw(out, *flaw)?;
         out.end_line()?;
     }
     Ok(())
@@ -244,18 +265,22 @@ fn write_reason(out: &mut Report, fault: &Fault) -> fmt::Result {
         ),
         Fault::NotUtf8 => write!(out, ": arguments must be valid UTF-8{USAGE}"),
         Fault::UnknownWarning(name, near) => write_unknown(out, name, *near),
-        Fault::File(file) => {
+        Fault::File(file, reason) => {
             let (name, hint) = (Named(file), file_hint(file.as_bytes()));
-            write!(out, ": cannot read {name}{hint}")
+            write!(out, ": cannot read {name}{reason}{hint}")
         }
         Fault::Argument(text, flaw) => {
-            let (text, flaw) = (Named(text), flaw_text(*flaw));
-            write!(out, ": {text}: {flaw}")
+            let text = Named(text);
+            write!(out, ": {text}: ")?;
+            write_flaw(out, *flaw)
         }
         Fault::Empty(file, entry) => {
             let entry = entry_text(*entry);
             write!(out, ": {file}: {entry}")
         }
+        Fault::NoInput => out.write_str(
+            ": standard input is empty; did the download fail? To audit an empty file, give its name",
+        ),
         Fault::StdinTwice => write!(
             out,
             ": standard input can't be two files; give the name of one{USAGE}"

@@ -1,14 +1,34 @@
 //! What a report says of a file by RFC 9309.
 
-/// That the file is in the grammar.
-pub const SYNTAX_SENTENCE: &str = "the file has RFC 9309 syntax";
+use rfc9309_laws::conformance::Conformance;
+use std::fmt;
+use std::fmt::Write;
+use texting_robots::labels::LabeledLine;
+use texting_robots::parser::Line;
 
-/// That each verdict is the standard's.
-pub const VERDICTS_SENTENCE: &str =
-    "verdicts are those of RFC 9309 for URLs in normal form (reserved characters as in RFC 3986, octets counted in normal form)";
+/// If the file is in the grammar, and whether each verdict is the standard's; or the line at fault. Nothing is
+/// said of some files.
+#[derive(Clone, Copy)]
+pub struct Standard(pub Conformance);
 
-/// Before the number of the first line that isn't in the grammar.
-pub const OTHER_LINE: &str = "not RFC 9309 syntax: line ";
+impl fmt::Display for Standard {
+    fn fmt<W: fmt::Write>(&self, f: &mut fmt::Formatter<W>) -> fmt::Result {
+        match self.0 {
+            Conformance::OtherFile => Ok(()),
+            Conformance::OtherLine(line) => write!(f, "not RFC 9309 syntax: line {line}"),
+            Conformance::Syntax(line) => {
+                write!(f, "RFC 9309 syntax; verdicts may differ: line {line}")
+            }
+            Conformance::Verdicts => {
+                f.write_str("RFC 9309 syntax and verdicts, for URLs in normal form")
+            }
+        }
+    }
+}
 
-/// Before the number of a line because of which verdicts may not be the standard's.
-pub const LINE_APART: &str = "verdicts may not be those of RFC 9309: line ";
+/// Whether a line is one of a robots.txt file.
+pub fn has_directive(labels: &[LabeledLine<'_>]) -> bool {
+    labels
+        .iter()
+        .any(|labeled| !matches!(labeled.line, Line::Raw(_)))
+}

@@ -4,20 +4,59 @@ ghost use Rattle.std.specs.Prelude.{◌≡◌, option_map};
 ghost use Rattle.audit_core.specs.Texts.{may_fetch};
 
 use crate::group::Group;
+use crate::reach::Reach;
 use printable_text::delay::Delay;
 use printable_text::report::Report;
-use robots_warnings::closed::Reach;
 use std::fmt;
 use std::fmt::Write;
 
-/// If the file isn't rejected for the crawler, and it may fetch everything or nothing.
+/// If the file isn't rejected for the crawler, and something is said of what it may fetch.
 pub fn may_fetch(rejected: Option<usize>, reach: Reach) -> Option<&'static str>
     ensures { option_map (λ word. word.now) result ≡ may_fetch rejected reach }
 {
     match (rejected, reach) {
         (None, Reach::Everything) => Some("everything"),
         (None, Reach::Nothing) => Some("nothing"),
+        (None, Reach::Listed) => Some("listed"),
         _ => None,
+    }
+}
+
+/// Some lines, of which three are named, such as `lines 3, 5, 8 and 2 more`; nothing if there are none.
+#[derive(Clone, Copy)]
+pub struct Lines<'a>(pub &'a [usize]);
+
+impl<'a> fmt::Display for Lines<'a> {
+    fn fmt<W: fmt::Write>(&self, f: &mut fmt::Formatter<W>) -> fmt::Result {
+        match self.0 {
+            [] => Ok(()),
+            [one] => write!(f, "line {one}"),
+            [one, two] => write!(f, "lines {one} and {two}"),
+            [one, two, three] => write!(f, "lines {one}, {two} and {three}"),
+            [one, two, three, more @ ..] => {
+                let more = more.len();
+                write!(f, "lines {one}, {two}, {three} and {more} more")
+            }
+        }
+    }
+}
+
+/// What a crawler may fetch; if that is listed, with the lines of the Allows.
+#[derive(Clone, Copy)]
+pub struct Fetched<'a>(pub Reach, pub &'a [usize]);
+
+impl<'a> fmt::Display for Fetched<'a> {
+    fn fmt<W: fmt::Write>(&self, f: &mut fmt::Formatter<W>) -> fmt::Result {
+        match self.0 {
+            Reach::Everything => f.write_str("everything"),
+            Reach::Nothing => f.write_str("nothing"),
+            Reach::Listed => {
+                let lines = Lines(self.1);
+                let end = if self.1.len() == 1 { "s" } else { "" };
+                write!(f, "only what {lines} allow{end}")
+            }
+            Reach::Part => f.write_str("some"),
+        }
     }
 }
 

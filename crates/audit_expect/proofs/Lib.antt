@@ -1,2 +1,3 @@
 pub mod ExpectationsLemmas
 pub mod OtherReadingLemmas
+pub mod PatternLemmas

@@ -198,16 +198,24 @@ module _ (bodies : List (List ℕ)) (rules : List PlacedRule) (text : List ℕ) 
           let verdict = verdict_by others text placed decision.allowed alike (sym kind) differs in
           (verdict, (differs, placed, alike, at))
 
+each_accepted : (agent : List ℕ) (lines : List LineValue) → ¬ IsRejected agent lines → (placed : PlacedRule)
+    → Contains (placed_rules agent lines) placed → ¬ IsOverlong placed.rule.0
+each_accepted agent lines accepted placed (place, less, at) overlong =
+    accepted ((rejection_is_computed agent lines).1 (any_unplaced (λ (rule : Rule). IsOverlong rule.0)
+    (placed_rules agent lines) (place, placed, less, at, overlong)))
+
+pub all_accepted : (agent : List ℕ) (lines : List LineValue) → ¬ IsRejected agent lines
+    → All (λ (placed : PlacedRule). ¬ IsOverlong placed.rule.0) (placed_rules agent lines)
+all_accepted agent lines accepted k d below =
+    each_accepted agent lines accepted _ (Contains-get_or (placed_rules agent lines) k d below)
+
 pub others_accepted : (bodies : List (List ℕ)) (agent : List ℕ) (lines : List LineValue)
     → ¬ IsRejected agent lines
     → All (λ (placed : PlacedRule). ¬ IsOverlong placed.rule.0) (others_of bodies (placed_rules agent lines))
-others_accepted bodies agent lines accepted k d below overlong =
-    let rules = placed_rules agent lines in
-    let others = others_of bodies rules in
-    let ((place, less, at), _) =
-    in_filter _ rules (slice_index_or others k d) (Contains-get_or others k d below) in
-    accepted ((rejection_is_computed agent lines).1 (any_unplaced (λ (rule : Rule). IsOverlong rule.0) rules
-    (place, slice_index_or others k d, less, at, overlong)))
+others_accepted bodies agent lines accepted k d below =
+    let others = others_of bodies (placed_rules agent lines) in
+    each_accepted agent lines accepted _ (in_filter _ (placed_rules agent lines) (slice_index_or others k d)
+    (Contains-get_or others k d below)).0
 
 -- a rule in normal form isn't overlong if it wasn't before
 normal_short : (placed : PlacedRule) → ¬ IsOverlong placed.rule.0 → ¬ IsOverlong (normal_rule placed).rule.0

@@ -1,15 +1,17 @@
 -- The lines of a text, the entries in them, and the expectations in the file of `--expect`, one per line.
-use Rattle.std.specs.Prelude.{◌≡◌, ℕ, nat_eq, suc, ◌==◌, Bool, false, not, ◌&&◌, ◌||◌, List, [], ◌∷◌, ◌++◌}
+use Rattle.std.specs.Prelude.{◌≡◌, ℕ, nat_eq, suc, ◌==◌, Bool, true, false, not, ◌&&◌, ◌||◌, List, [], ◌∷◌, ◌++◌}
 use Rattle.std.specs.Prelude.{Option, Some, None, Result, Ok, Err, bytes_eq, codes, filter, if◌then◌else◌}
-use Rattle.std.specs.Prelude.{length, string_bytes}
-use Rattle.std.specs.{List.list_any, List.starts_with, Option.option_to_list, Str.byte, Str.is_utf8}
+use Rattle.std.specs.Prelude.{◌-◌, length, nat_lt, option_map, string_bytes, take}
+use Rattle.std.specs.{List.ends_with, List.list_any, List.starts_with, Option.option_or, Option.option_to_list, Str.byte, Str.is_utf8}
+use Rattle.texting_robots.specs.Callers.{escaped}
 use Rattle.robots_warnings.specs.Rules.{after_byte, before_byte, has}
+use Rattle.robots_warnings.specs.Crawlers.{is_wrong, meant}
 use Rattle.robots_warnings.specs.{Spellings.spelled, Targets.has_dot_segment}
 use Rattle.robots_warnings.specs.declared.spellings.Spelling.{TheVariants.Standard}
 use Rattle.robots_warnings.specs.{Facts.mark, Facts.without_start, Urls.is_absolute_url}
-use Rattle.audit_core.specs.declared.fault.{Entry.Entry, Fault.Fault}
+use Rattle.audit_core.specs.declared.fault.{Entry.Entry, Fault.Fault, Flaw.Flaw}
 use Rattle.audit_core.specs.declared.fault.Fault.TheVariants.{Empty, Malformed, Memory}
-use Rattle.audit_core.specs.declared.fault.Flaw.TheVariants.{Agent, Form, NotUtf8, Path, Url}
+use Rattle.audit_core.specs.declared.fault.Flaw.TheVariants.{Agent, Form, Meant, NotUtf8, Path, Pattern, Url}
 use Rattle.audit_core.specs.{Request.is_crawler_name, Request.is_word, Fault.MalformedLine}
 
 abbrev pub is_in : List ℕ → ℕ → Bool
@@ -97,12 +99,14 @@ IsEntryFault name entry found (Empty file other) =
     (string_bytes file ≡ name) × (found ≡ Ok []) × (other ≡ entry)
 IsEntryFault name entry found fault = IsLineFault name found fault
 
--- the URL must be allowed to the crawler, or denied, by the line with this number
+-- the URL, or each path that the pattern matches, must be allowed to the crawler, or denied, by the line with
+-- this number
 pub record ExpectationValue : Type 0 where
   pub number : ℕ
   pub allowed : Bool
   pub agent : List ℕ
   pub url : List ℕ
+  pub is_pattern : Bool
 
 abbrev pub is_comment : List ℕ → Bool
 is_comment [] = false
@@ -120,18 +124,62 @@ abbrev pub is_asked_otherwise : List ℕ → Bool
 is_asked_otherwise word =
     is_path word && (has (byte "#") word || has_dot_segment (spelled Standard word))
 
--- the first word is `allow` or `deny`; what no crawler calls itself or asks for, such as a name with a
+-- a pattern of a rule, which is a path or begins with a star
+abbrev pub is_pattern : List ℕ → Bool
+is_pattern word =
+    (is_path word || starts_with nat_eq word (codes "*")) && not (has (byte "#") word)
+    && not (nat_lt 4096 (length (escaped word)) && has (byte "$") word)
+
+-- what is wrong with what crawlers may ask for
+abbrev pub asked_flaw : (expects_pattern : Bool) → List ℕ → Option Flaw
+asked_flaw expects_pattern word =
+    if expects_pattern && not (is_pattern word) then Some Pattern
+    else if not expects_pattern && not (is_path_or_url word) then Some Url
+    else if is_asked_otherwise word then Some Path else None
+
+-- whether it is a pattern, and it or the only path that it matches
+abbrev pub asked : (expects_all : Bool) → List ℕ → Bool × List ℕ
+asked expects_all word =
+    if expects_all && (ends_with nat_eq word (codes "$") && not (has (byte "*") word))
+    then (false, take (length word - 1) word) else (expects_all, word)
+
+-- whether it is to be allowed, and whether all paths of a pattern are meant
+abbrev pub demand_of : List ℕ → Option (Bool × Bool)
+demand_of word =
+    if bytes_eq word (codes "allow") then Some (true, false)
+    else if bytes_eq word (codes "deny") then Some (false, false)
+    else if bytes_eq word (codes "allow-all") then Some (true, true)
+    else if bytes_eq word (codes "deny-all") then Some (false, true) else None
+
+-- a name that no crawler has, or in whose place another is probably meant
+abbrev pub name_flaw : List ℕ → Option Flaw
+name_flaw name =
+    if not (is_crawler_name name) then Some Agent
+    else if is_wrong name then option_map Meant (meant name) else None
+
+-- the entry, unless something is wrong
+abbrev pub unless_flaw : ExpectationValue → Option Flaw → LineOf ExpectationValue
+unless_flaw one None = Ok (Some one)
+unless_flaw one (Some flaw) = Err (one.number, flaw)
+
+-- the first word is one of four; what no crawler calls itself or asks for, such as a name with a
 -- version or a path without a slash at its start, could be allowed whatever the file says about the crawler
 -- or the page that is meant
+unfoldable pub demanded : ℕ → (agent url : List ℕ) → Option (Bool × Bool) → LineOf ExpectationValue
+demanded number agent url None = Err (number, Form)
+demanded number agent url (Some (allowed, expects_all)) =
+    let (is_pattern, text) = asked expects_all url in
+    if not (is_utf8 agent && is_utf8 text) then Err (number, NotUtf8)
+    else unless_flaw (record {
+      number = number;
+      allowed = allowed;
+      agent = agent;
+      url = text;
+      is_pattern = is_pattern;
+    }) (option_or (name_flaw agent) (asked_flaw is_pattern text))
+
 abbrev pub expects : ℕ → List ℕ → List ℕ → List ℕ → LineOf ExpectationValue
-expects number word agent url =
-    let allowed = bytes_eq word (codes "allow") in
-    if not (allowed || bytes_eq word (codes "deny")) then Err (number, Form)
-    else if not (is_utf8 agent && is_utf8 url) then Err (number, NotUtf8)
-    else if not (is_crawler_name agent) then Err (number, Agent)
-    else if not (is_path_or_url url) then Err (number, Url)
-    else if is_asked_otherwise url then Err (number, Path)
-    else Ok (Some (record { number = number; allowed = allowed; agent = agent; url = url }))
+expects number word agent url = demanded number agent url (demand_of word)
 
 -- any other line than one with three words is malformed
 abbrev pub three_words : ℕ → List (List ℕ) → LineOf ExpectationValue

@@ -1,18 +1,20 @@
 -- Expectations checked against a robots.txt file, and those that fail.
-use Rattle.std.specs.Prelude.{◌≡◌, ℕ, ◌==◌, Bool, true, false, not, ◌||◌, List, Some, None, Ok, [], codes}
-use Rattle.std.specs.Prelude.{filter, if◌then◌else◌, length, map}
+use Rattle.std.specs.Prelude.{◌≡◌, ℕ, ◌==◌, Bool, true, false, not, ◌||◌, List, Some, None, Ok, []}
+use Rattle.std.specs.Prelude.{codes, filter, if◌then◌else◌, length, map}
 use Rattle.std.specs.{List.AllByRecursion as Each}
-use Rattle.texting_robots.specs.Callers.{IsFirstOverlong, IsRejected, bodies_read, lines_read, placed_rules}
+use Rattle.texting_robots.specs.Callers.{IsFirstOverlong, IsRejected, bodies_read, escaped}
+use Rattle.texting_robots.specs.Callers.{lines_read, placed_rules}
 use Rattle.texting_robots.specs.{Decision.IsDecisionOn, declared.decision.Decision.Decision}
 use Rattle.printable_text.specs.declared.level.Level.TheVariants.{Error}
 use Rattle.robots_warnings.specs.{Crawlers.other_group, Targets.normal_target, Targets.written_target}
 use Rattle.audit_expect.specs.declared.checks.AtVendor.{AtVendor}
 use Rattle.audit_expect.specs.declared.checks.Judgment.{Judgment, TheVariants.Decided, TheVariants.Rejected}
-use Rattle.audit_expect.specs.declared.checks.Judgment.{TheVariants.Rewritten}
+use Rattle.audit_expect.specs.declared.checks.Judgment.{TheVariants.Everywhere, TheVariants.Rewritten}
 use Rattle.audit_expect.specs.declared.checks.AtVendor.TheVariants.{Group, Nobody, Same}
 use Rattle.audit_core.specs.{Asked.asked_target, Findings.Found}
 use Rattle.audit_expect.specs.Expect.{ExpectationValue, expectations_in}
 use Rattle.audit_expect.specs.OtherReading.{IsNormalDecision, IsOtherDecision}
+use Rattle.audit_expect.specs.{Patterns.IsOnPaths, Patterns.holds}
 
 -- What is written and what is compared here have the same normal form. They don't if `url` changes what RFC
 -- 9309 compares, such as dot segments, a backslash, or an apostrophe in a query.
@@ -21,26 +23,31 @@ IsAskedAsWritten url = normal_target (asked_target url) ≡ normal_target (writt
 
 -- the file is rejected for the crawler, and this is the line of its first overlong rule; or `url` changes the
 -- URL; or these are the decisions: on what is compared here, where an empty Disallow is an Allow of `/`, as
--- here, and where it is no rule; and on what is written, where it is no rule and normal forms are compared
-abbrev pub IsJudgmentOn : List ℕ → List ℕ → List ℕ → Judgment → Type 0
-IsJudgmentOn file agent url (Rejected line) = IsFirstOverlong (placed_rules agent (lines_read file)) line
-IsJudgmentOn file agent url Rewritten =
-    (¬ IsRejected agent (lines_read file)) × ¬ IsAskedAsWritten url
-IsJudgmentOn file agent url (Decided decision other normal) =
+-- here, and where it is no rule; and on what is written, where it is no rule and normal forms are compared; or
+-- it is a pattern, and this is found of the paths that it matches
+abbrev pub IsJudgmentOn : List ℕ → List ℕ → ExpectationValue → Judgment → Type 0
+IsJudgmentOn file agent one (Rejected line) = IsFirstOverlong (placed_rules agent (lines_read file)) line
+IsJudgmentOn file agent one Rewritten =
+    (¬ IsRejected agent (lines_read file)) × (¬ IsAskedAsWritten one.url) × (one.is_pattern ≡ false)
+IsJudgmentOn file agent one (Decided decision other normal) =
     let rules = placed_rules agent (lines_read file) in
-    (¬ IsRejected agent (lines_read file)) × IsDecisionOn rules (asked_target url) decision
-    × IsOtherDecision (bodies_read file) rules (asked_target url) other
-    × IsNormalDecision (bodies_read file) rules (normal_target (written_target url)) normal
-    × IsAskedAsWritten url
+    (¬ IsRejected agent (lines_read file)) × IsDecisionOn rules (asked_target one.url) decision
+    × IsOtherDecision (bodies_read file) rules (asked_target one.url) other
+    × IsNormalDecision (bodies_read file) rules (normal_target (written_target one.url)) normal
+    × IsAskedAsWritten one.url × (one.is_pattern ≡ false)
+IsJudgmentOn file agent one (Everywhere found) =
+    (¬ IsRejected agent (lines_read file))
+    × IsOnPaths one.allowed (escaped one.url) (placed_rules agent (lines_read file)) found
+    × (one.is_pattern ≡ true)
 
 -- the vendor of the crawler applies the group that applies here; or the one with this name, for which this is
 -- the judgment, as names are compared here; or none, so everything is allowed
-abbrev pub IsAtVendor : List ℕ → List ℕ → List ℕ → AtVendor → Type 0
-IsAtVendor file agent url Same = other_group (lines_read file) agent ≡ None
-IsAtVendor file agent url (Group name judgment) =
-    ((length name.now == 0) ≡ false) × (other_group (lines_read file) agent ≡ Some name.now)
-    × IsJudgmentOn file name.now url judgment
-IsAtVendor file agent url Nobody = other_group (lines_read file) agent ≡ Some []
+abbrev pub IsAtVendor : List ℕ → ExpectationValue → AtVendor → Type 0
+IsAtVendor file one Same = other_group (lines_read file) one.agent ≡ None
+IsAtVendor file one (Group name judgment) =
+    ((length name.now == 0) ≡ false) × (other_group (lines_read file) one.agent ≡ Some name.now)
+    × IsJudgmentOn file name.now one judgment
+IsAtVendor file one Nobody = other_group (lines_read file) one.agent ≡ Some []
 
 -- an expectation and what the file says, here and at the vendor of its crawler
 pub record CheckedValue : Type 0 where
@@ -49,8 +56,8 @@ pub record CheckedValue : Type 0 where
   pub vendor : AtVendor
 
 pub record IsChecked (file : List ℕ) (checked : CheckedValue) : Type 0 where
-  pub here : IsJudgmentOn file checked.expectation.agent checked.expectation.url checked.judgment
-  pub at_vendor : IsAtVendor file checked.expectation.agent checked.expectation.url checked.vendor
+  pub here : IsJudgmentOn file checked.expectation.agent checked.expectation checked.judgment
+  pub at_vendor : IsAtVendor file checked.expectation checked.vendor
 
 abbrev pub is_unexpected : Bool → Decision → Bool
 is_unexpected allowed decision = if allowed then not decision.allowed else decision.allowed
@@ -62,6 +69,7 @@ fails_at allowed (Rejected line) = true
 fails_at allowed Rewritten = true
 fails_at allowed (Decided decision other normal) =
     is_unexpected allowed decision || (is_unexpected allowed other || is_unexpected allowed normal)
+fails_at allowed (Everywhere found) = not (holds found)
 
 abbrev pub fails_here : CheckedValue → Bool
 fails_here checked = fails_at checked.expectation.allowed checked.judgment

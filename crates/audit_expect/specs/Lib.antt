@@ -1,5 +1,6 @@
 pub mod Expect
 pub mod Expectations
 pub mod OtherReading
+pub mod Patterns
 pub mod UrlList
 pub mod Internal

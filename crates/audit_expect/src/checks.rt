@@ -1,18 +1,20 @@
 //! What a robots.txt file says about an expectation, here and at the crawler's vendor, and whether it fails.
-ghost use Rattle.std.specs.Prelude.{◌≡◌, IfErr, IfOk, take};
-ghost use Rattle.texting_robots.specs.Callers.{IsRobotWithoutSitemaps, file_limit};
+ghost use Rattle.std.specs.Prelude.{◌≡◌, IfErr, IfOk, false, take, true};
+ghost use Rattle.texting_robots.specs.Callers.{IsRejected, IsRobotWithoutSitemaps, file_limit, lines_read};
 ghost use Rattle.audit_expect.specs.Expectations.{IsAtVendor, IsChecked, IsJudgmentOn, fails, fails_at};
 ghost use Rattle.audit_expect.specs.Expectations.{fails_at_vendor, fails_here, is_unexpected};
 ghost use Rattle.audit_core.specs.Internal.{IsReading};
 ghost use Rattle.robots_warnings.specs.Read.{IsRead};
-ghost use Rattle.audit_expect.specs.Internal.Expectations.{checked_value};
+ghost use Rattle.audit_expect.specs.Internal.Expectations.{checked_value, expectation_value};
 
 use crate::expect::Expectation;
 use crate::normal_form::written_form;
 use crate::other_reading::{normal_decision, other_decision};
+use crate::patterns::{OnPaths, holds, on_paths};
 use audit_core::asked::decision_on;
 use audit_core::audit::{Reading, read_for};
 use audit_core::fault::Fault;
+use robots_same::rule::rules_of;
 use robots_warnings::crawlers::other_group;
 use robots_warnings::read::FileRead;
 use std::alloc::Global;
@@ -28,6 +30,8 @@ pub(crate) enum Judgment {
     Rewritten,
     /// The decision, the one where an empty Disallow is no rule, and the same of normal forms.
     Decided(Decision, Decision, Decision),
+    /// The first of these for all paths that `url` matches.
+    Everywhere(OnPaths),
 }
 
 /// Which group the vendor of a crawler applies.
@@ -49,18 +53,40 @@ pub(crate) struct Checked<'a> {
     pub(crate) vendor: AtVendor<'a>,
 }
 
+fn on_pattern(
+    alloc: Global,
+    agent: &str,
+    expectation: &Expectation<'_>,
+    read: &FileRead<'_>,
+) -> Result<Judgment, Fault>
+    requires read { IsRead read.now }
+    requires accepted { ¬ IsRejected agent.now (lines_read read.now.bytes.now) }
+    requires pattern { expectation.now.is_pattern ≡ true }
+    ensures ok { IfOk result (IsJudgmentOn read.now.bytes.now agent.now (expectation_value expectation.now)) }
+    ensures fault { IfErr result (λ fault. fault ≡ Fault.Memory) }
+{
+    let rules = rules_of(alloc, &read.site, agent)?;
+    let copy = rules_of(alloc, &read.site, agent)?;
+    let found = on_paths(alloc, expectation.allowed, expectation.url, &rules, copy)?;
+    Ok(Judgment::Everywhere(found))
+}
+
 fn decided_on(
     alloc: Global,
     agent: &str,
-    url: &str,
+    expectation: &Expectation<'_>,
     robot: &Robot,
     read: &FileRead<'_>,
 ) -> Result<Judgment, Fault>
     requires read { IsRead read.now }
     requires robot { IsRobotWithoutSitemaps agent.now (take file_limit read.now.bytes.now) robot.now }
-    ensures ok { IfOk result (IsJudgmentOn read.now.bytes.now agent.now url.now) }
+    ensures ok { IfOk result (IsJudgmentOn read.now.bytes.now agent.now (expectation_value expectation.now)) }
     ensures fault { IfErr result (λ fault. fault ≡ Fault.Memory) }
 {
+    if expectation.is_pattern {
+        return on_pattern(alloc, agent, expectation, read);
+    }
+    let url = expectation.url;
     let form = written_form(alloc, url)?;
     let Some(target) = form else {
         return Ok(Judgment::Rewritten);
@@ -75,39 +101,38 @@ fn decided_on(
 fn judgment_on(
     alloc: Global,
     agent: &str,
-    url: &str,
+    expectation: &Expectation<'_>,
     reading: &Reading,
     read: &FileRead<'_>,
 ) -> Result<Judgment, Fault>
     requires read { IsRead read.now }
     requires reading { IsReading agent.now read.now.bytes.now reading.now }
-    ensures ok { IfOk result (IsJudgmentOn read.now.bytes.now agent.now url.now) }
+    ensures ok { IfOk result (IsJudgmentOn read.now.bytes.now agent.now (expectation_value expectation.now)) }
     ensures fault { IfErr result (λ fault. fault ≡ Fault.Memory) }
 {
     match reading {
         Reading::Rejected(line) => Ok(Judgment::Rejected(*line)),
-        Reading::Accepted(robot) => decided_on(alloc, agent, url, robot, read),
+        Reading::Accepted(robot) => decided_on(alloc, agent, expectation, robot, read),
     }
 }
 
 fn at_vendor<'a>(
     alloc: Global,
-    agent: &str,
-    url: &str,
+    expectation: &Expectation<'_>,
     read: &'a FileRead<'_>,
 ) -> Result<AtVendor<'a>, Fault>
     requires { IsRead read.now }
-    ensures ok { IfOk result (IsAtVendor read.now.bytes.now agent.now url.now) }
+    ensures ok { IfOk result (IsAtVendor read.now.bytes.now (expectation_value expectation.now)) }
     ensures fault { IfErr result (λ fault. fault ≡ Fault.Memory) }
 {
-    let Some(group) = other_group(&read.site, agent) else {
+    let Some(group) = other_group(&read.site, expectation.agent) else {
         return Ok(AtVendor::Same);
     };
     if group.is_empty() {
         return Ok(AtVendor::Nobody);
     }
     let reading = read_for(alloc, group, read)?;
-    let judgment = judgment_on(alloc, group, url, &reading, read)?;
+    let judgment = judgment_on(alloc, group, expectation, &reading, read)?;
     Ok(AtVendor::Group(group, judgment))
 }
 
@@ -124,9 +149,8 @@ pub(crate) fn checked_on<'a>(
     ensures checked { IfOk result (λ checked. IsChecked read.now.bytes.now (checked_value checked)) }
     ensures fault { IfErr result (λ fault. fault ≡ Fault.Memory) }
 {
-    let (agent, url) = (expectation.agent, expectation.url);
-    let judgment = judgment_on(alloc, agent, url, reading, read)?;
-    let vendor = at_vendor(alloc, agent, url, read)?;
+    let judgment = judgment_on(alloc, expectation.agent, expectation, reading, read)?;
+    let vendor = at_vendor(alloc, expectation, read)?;
     Ok(Checked {
         expectation: *expectation,
         judgment,
@@ -150,6 +174,7 @@ fn fails_at(allowed: bool, judgment: &Judgment) -> bool
                 || is_unexpected(allowed, other)
                 || is_unexpected(allowed, normal)
         }
+        Judgment::Everywhere(found) => !holds(found),
     }
 }
 

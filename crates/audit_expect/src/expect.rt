@@ -1,17 +1,19 @@
 //! The expectations in the file of `--expect`, one per line, and how a text is cut into parts.
 ghost use Rattle.std.specs.Prelude.{◌≡◌, ◌≢◌, ◌<◌, ◌∷◌, ◌++◌, [], IfErr, IfOk, MatchOption, Ok, OnOk};
 ghost use Rattle.std.specs.Prelude.{if◌then◌else◌, length, map};
-ghost use Rattle.audit_expect.specs.Expect.{IsLineFault, entries_at, entries_of, expectation_in};
+ghost use Rattle.audit_expect.specs.Expect.{IsLineFault, asked, asked_flaw, demand_of, entries_at, entries_of, expectation_in};
 ghost use Rattle.audit_expect.specs.Expect.{expectations_in, expects, is_asked_otherwise, is_comment, is_in};
-ghost use Rattle.audit_expect.specs.Expect.{is_path, is_path_or_url, lines, malformed_at, parts, words};
+ghost use Rattle.audit_expect.specs.Expect.{is_path, is_path_or_url, is_pattern, name_flaw, lines, malformed_at, parts, words};
 ghost use Rattle.audit_expect.specs.Expect.{words_with_name};
 ghost use Rattle.audit_core.specs.Request.{is_word};
 ghost use Rattle.audit_expect.specs.Internal.Expectations.{HasNone, IsFirstSeparator, expectation_value};
 ghost use Rattle.audit_expect.specs.Internal.Expectations.{line_by};
 
 use crate::entries::{Line, check_lines};
+use crate::patterns::escaped_text;
 use audit_core::crawler::is_crawler_name;
 use audit_core::fault::{Fault, Flaw, MalformedLine};
+use robots_warnings::crawlers::{is_wrong, meant};
 use robots_warnings::facts::without_mark;
 use robots_warnings::rules::{after_byte, before_byte, has};
 use robots_warnings::spellings::{Spelling, spelled};
@@ -28,6 +30,8 @@ pub(crate) struct Expectation<'a> {
     pub(crate) allowed: bool,
     pub(crate) agent: &'a str,
     pub(crate) url: &'a str,
+    /// Whether `url` is a pattern, and all paths that it matches are meant.
+    pub(crate) is_pattern: bool,
 }
 
 fn is_in(separators: &[u8], byte: u8) -> bool
@@ -133,6 +137,73 @@ fn is_asked_otherwise(alloc: Global, word: &[u8]) -> Result<bool, AllocError>
     Ok(has(b'#', word) || has_dot_segment(&plain))
 }
 
+fn is_pattern(alloc: Global, word: &[u8]) -> Result<bool, AllocError>
+    ensures { IfOk result (λ answer. answer ≡ is_pattern word.now) }
+{
+    let is_long = escaped_text(alloc, word)?.len() > 4096;
+    Ok(
+        (is_path(word) || word.starts_with(b"*"))
+            && !has(b'#', word)
+            && !(is_long && has(b'$', word)),
+    )
+}
+
+/// What is wrong with a pattern or a URL.
+fn asked_flaw(alloc: Global, expects_pattern: bool, word: &[u8]) -> Result<Option<Flaw>, AllocError>
+    ensures { IfOk result (λ flaw. flaw ≡ asked_flaw expects_pattern word.now) }
+{
+    if expects_pattern && !is_pattern(alloc, word)? {
+        Ok(Some(Flaw::Pattern))
+    } else if !expects_pattern && !is_path_or_url(alloc, word)? {
+        Ok(Some(Flaw::Url))
+    } else if is_asked_otherwise(alloc, word)? {
+        Ok(Some(Flaw::Path))
+    } else {
+        Ok(None)
+    }
+}
+
+/// Whether it is to be allowed, and whether all paths of a pattern are meant.
+fn demand_of(word: &[u8]) -> Option<(bool, bool)>
+    ensures { result ≡ demand_of word.now }
+{
+    if word == b"allow".as_slice() {
+        Some((true, false))
+    } else if word == b"deny".as_slice() {
+        Some((false, false))
+    } else if word == b"allow-all".as_slice() {
+        Some((true, true))
+    } else if word == b"deny-all".as_slice() {
+        Some((false, true))
+    } else {
+        None
+    }
+}
+
+/// Whether it is a pattern, and it or the only path that it matches.
+fn asked(expects_all: bool, word: &[u8]) -> (bool, &[u8])
+    ensures { (result.0, result.1.now) ≡ asked expects_all word.now }
+{
+    match word {
+        [path @ .., b'$'] if expects_all && !has(b'*', word) => (false, path),
+        _ => (expects_all, word),
+    }
+}
+
+/// What is wrong with a crawler's name.
+fn name_flaw(alloc: Global, name: &str) -> Result<Option<Flaw>, AllocError>
+    ensures { IfOk result (λ flaw. flaw ≡ name_flaw name.now) }
+{
+    if !is_crawler_name(name) {
+        return Ok(Some(Flaw::Agent));
+    }
+    if !is_wrong(name.as_bytes()) {
+        return Ok(None);
+    }
+    Ok(meant(alloc, name.as_bytes())?.map(Flaw::Meant))
+}
+
+#[tactic(auto, unfolding(crate::specs::Expect::demanded))]
 fn expects<'a>(
     alloc: Global,
     number: usize,
@@ -142,27 +213,25 @@ fn expects<'a>(
 ) -> Result<Line<Expectation<'a>>, AllocError>
     ensures { IfOk result (λ found. line_by expectation_value found ≡ expects number word.now agent.now url.now) }
 {
-    let allowed = word == b"allow".as_slice();
-    if !allowed && word != b"deny".as_slice() {
+    let Some((allowed, expects_all)) = demand_of(word) else {
         return Ok(Err((number, Flaw::Form)));
-    }
+    };
+    let (is_pattern, url) = asked(expects_all, url);
     let (Some(agent), Some(url)) = (as_text(agent), as_text(url)) else {
         return Ok(Err((number, Flaw::NotUtf8)));
     };
-    if !is_crawler_name(agent) {
-        return Ok(Err((number, Flaw::Agent)));
+    if let Some(flaw) = name_flaw(alloc, agent)? {
+        return Ok(Err((number, flaw)));
     }
-    if !is_path_or_url(alloc, url.as_bytes())? {
-        return Ok(Err((number, Flaw::Url)));
-    }
-    if is_asked_otherwise(alloc, url.as_bytes())? {
-        return Ok(Err((number, Flaw::Path)));
+    if let Some(flaw) = asked_flaw(alloc, is_pattern, url.as_bytes())? {
+        return Ok(Err((number, flaw)));
     }
     Ok(Ok(Some(Expectation {
         number,
         allowed,
         agent,
         url,
+        is_pattern,
     })))
 }
 

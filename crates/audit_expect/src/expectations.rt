@@ -10,17 +10,20 @@ ghost use Rattle.audit_expect.specs.Internal.Expectations.{IsReadFor, checked_va
 use crate::checks::{AtVendor, Checked, Judgment, checked_on, fails, fails_here, is_unexpected};
 use crate::entries::without_entries;
 use crate::expect::{Expectation, expectations_in};
+use crate::patterns::OnPaths;
 use audit_core::asked::asked_target;
 use audit_core::audit::{Reading, read_for};
 use audit_core::fault::{Entry, Fault};
 use audit_core::findings::{Finding, Findings, add};
 use printable_text::level::Level;
 use printable_text::report::{Line, Report};
+use robots_warnings::crawlers::{meant, row_at};
 use robots_warnings::read::FileRead;
 use std::alloc::Global;
 use std::fmt;
 use std::fmt::Write;
 use texting_robots::robot::Decision;
+use texting_robots::site::Site;
 
 #[derive(Drop)]
 struct AgentReading<'a> {
@@ -47,15 +50,23 @@ fn reading_for<'a>(
     Ok(AgentReading { agent, reading })
 }
 
-/// `target` is what is compared here, as for the functions below.
-fn write_decision(out: &mut Line, target: &str, decision: &Decision) -> fmt::Result {
+/// `target` is what is compared here, as for the functions below, and `name` a word for it.
+fn write_decision(out: &mut Line, target: &str, name: &str, decision: &Decision) -> fmt::Result {
     match decision.line {
         Some(line) => {
             let how = if decision.allowed { "allows" } else { "denies" };
-            write!(out, "line {line} {how} it")
+            write!(out, "line {line} {how} {name}")
         }
         None if target == "/robots.txt" => out.write_str("/robots.txt is always allowed"),
-        None => out.write_str("no rule matches it"),
+        None => write!(out, "no rule matches {name}"),
+    }
+}
+
+fn write_on_paths(out: &mut Line, found: &OnPaths) -> fmt::Result {
+    match found {
+        OnPaths::Hold => Ok(()),
+        OnPaths::Fail(path, decision) => write_decision(out, path, path, decision),
+        OnPaths::Undecided => out.write_str("that isn't decided, since there are many stars"),
     }
 }
 
@@ -74,15 +85,16 @@ fn write_judgment(
         }
         Judgment::Decided(decision, other, normal) => {
             if is_unexpected(allowed, decision) {
-                return write_decision(out, target, decision);
+                return write_decision(out, target, "it", decision);
             }
             if is_unexpected(allowed, other) {
                 out.write_str("where an empty Disallow is no rule, as for RFC 9309 and Google, ")?;
-                return write_decision(out, target, other);
+                return write_decision(out, target, "it", other);
             }
             out.write_str("by RFC 9309, which compares normal forms, ")?;
-            write_decision(out, target, normal)
+            write_decision(out, target, "it", normal)
         }
+        Judgment::Everywhere(found) => write_on_paths(out, found),
     }
 }
 
@@ -107,10 +119,11 @@ fn message_of(alloc: Global, checked: &Checked<'_>) -> Result<Line, Fault>
 {
     let (agent, url) = (checked.expectation.agent, checked.expectation.url);
     let target = asked_target(alloc, url)?;
-    let demand = if checked.expectation.allowed {
-        "allowed"
-    } else {
-        "denied"
+    let demand = match (checked.expectation.allowed, checked.expectation.is_pattern) {
+        (true, false) => "allowed",
+        (true, true) => "allowed all of",
+        (false, false) => "denied",
+        (false, true) => "denied all of",
     };
     let mut message = Line::new(alloc);
     write!(message, "{agent} must be {demand} {url}, but ")?;
@@ -174,16 +187,42 @@ fn write_failure(out: &mut Report, name: &str, finding: &Finding) -> fmt::Result
     out.end_line()
 }
 
-/// The number is that of all expectations.
+/// Writes a note for a name that is like that of a known crawler, if the file doesn't have it.
+fn write_note(
+    alloc: Global,
+    out: &mut Report,
+    name: &str,
+    expectation: &Expectation<'_>,
+    site: &Site,
+) -> fmt::Result {
+    let (line, agent) = (expectation.number, expectation.agent);
+    if site.is_named(agent) {
+        return Ok(());
+    }
+    if let Some(crawler) = meant(alloc, agent.as_bytes())? {
+        let meant = row_at(crawler).0;
+        write!(
+            out,
+            "{name}:{line}: note: no known crawler and no group is called {agent}; did you mean {meant}?"
+        )?;
+        out.end_line()?;
+    }
+    Ok(())
+}
+
 fn report_on(
     alloc: Global,
     name: &str,
-    number: usize,
+    expectations: &[Expectation<'_>],
+    site: &Site,
     found: &[Finding],
 ) -> Result<Report, fmt::Error> {
     let mut out = Report::new(alloc);
+    for expectation in expectations {
+        write_note(alloc, &mut out, name, expectation, site)?;
+    }
     if found.is_empty() {
-        write_holding(&mut out, number)?;
+        write_holding(&mut out, expectations.len())?;
     }
     for finding in found {
         write_failure(&mut out, name, finding)?;
@@ -224,6 +263,6 @@ pub fn check(
     let expectations = parsed(alloc, name, text)?;
     let read = FileRead::new(alloc, "*", file)?;
     let found = failures(alloc, &expectations, &read)?;
-    let report = report_on(alloc, name, expectations.len(), &found)?;
+    let report = report_on(alloc, name, &expectations, &read.site, &found)?;
     Ok((report, found))
 }

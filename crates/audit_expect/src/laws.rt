@@ -3,10 +3,11 @@ ghost use Rattle.std.specs.Prelude.{◌≡◌, ℕ, List, false};
 ghost use Rattle.robots_warnings.specs.Targets.{normal_target, written_target};
 ghost use Rattle.audit_expect.specs.Expectations.{CheckedValue, IsChecked, fails};
 
-/// For one crawler and one file, no two opposite expectations hold about URLs or paths if the normal forms of
-/// their paths and queries, as they are written, are the same.
+/// For one crawler and one file, no two opposite expectations hold about URLs or paths, which aren't patterns, if
+/// the normal forms of their paths and queries, as they are written, are the same.
 pub fn no_opposite_expectations_hold()
     ensures { (file : List ℕ) (one other : CheckedValue) → IsChecked file one → IsChecked file other
+        → one.expectation.is_pattern ≡ false → other.expectation.is_pattern ≡ false
         → one.expectation.agent ≡ other.expectation.agent
         → normal_target (written_target one.expectation.url) ≡ normal_target (written_target other.expectation.url)
         → fails one ≡ false → fails other ≡ false → one.expectation.allowed ≡ other.expectation.allowed }

@@ -8,4 +8,5 @@ pub mod expectations;
 pub mod laws;
 mod normal_form;
 mod other_reading;
+mod patterns;
 pub mod url_list;

@@ -5,8 +5,8 @@ ghost use Rattle.audit_expect.specs.{Expectations.IsAskedAsWritten, OtherReading
 
 use audit_core::asked::asked_target;
 use audit_core::fault::Fault;
-use audit_core::rules::Rule;
 use percent_encoding::{AsciiSet, ascii_set};
+use robots_same::rule::Rule;
 use robots_warnings::targets::{IN_TARGETS, normal_target, normal_text, written_target};
 use std::alloc::{AllocError, Global};
 

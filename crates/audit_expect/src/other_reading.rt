@@ -14,7 +14,7 @@ ghost use Rattle.audit_expect.specs.Internal.Expectations.{is_marked, others_of}
 use crate::normal_form::normal_rules;
 use audit_core::asked::asked_target;
 use audit_core::fault::Fault;
-use audit_core::rules::{Rule, rules_for};
+use robots_same::rule::{Rule, rules_of};
 use robots_warnings::empty_disallows::is_empty_disallow;
 use robots_warnings::read::FileRead;
 use std::alloc::{AllocError, Global};
@@ -42,7 +42,7 @@ fn other_rules(alloc: Global, agent: &str, read: &FileRead<'_>) -> Result<Vec<Ru
         (placed_rules agent.now (lines_read read.now.bytes.now))) }
 {
     let labels: &[LabeledLine<'_>] = &read.labels;
-    let mut rules = rules_for(alloc, &read.site, agent)?;
+    let mut rules = rules_of(alloc, &read.site, agent)?;
     rules.retain(|rule| !is_marked(labels, rule.line));
     Ok(rules)
 }
@@ -114,7 +114,7 @@ fn decision_with(rule: Option<&Rule>) -> Decision
     }
 }
 
-fn decision_of(alloc: Global, rules: &[Rule], target: &str) -> Result<Decision, Fault>
+pub(crate) fn decision_of(alloc: Global, rules: &[Rule], target: &str) -> Result<Decision, Fault>
     requires { All (λ (placed : PlacedRule). ¬ IsOverlong placed.rule.0) rules.now }
     ensures ok { IfOk result (IsDecisionOn rules.now target.now) }
     ensures fault { IfErr result (λ fault. fault ≡ Fault.Memory) }

@@ -10,14 +10,15 @@ mod style;
 mod verdicts;
 mod warnings;
 
-use audit_core::audit::Audit;
+use audit_core::audit::{AgentAudit, Audit};
 use audit_core::request::Request;
-use audit_core::syntax::{LINE_APART, OTHER_LINE, SYNTAX_SENTENCE, VERDICTS_SENTENCE};
+use audit_core::syntax::{Standard, has_directive};
 use audit_core::version::VERSION;
 use elements::Page;
 use file::{write_file_table, write_sitemap_entry};
 use printable_text::report::Named;
 use rfc9309_laws::conformance::Conformance;
+use robots_warnings::table::Cause;
 use std::alloc::Global;
 use std::fmt;
 use std::fmt::Write;
@@ -26,15 +27,30 @@ use verdicts::{write_crawler_entries, write_verdict_part};
 use warnings::write_warning_entry;
 
 #[derive(Clone, Copy)]
-struct Title<'a>(Option<&'a str>);
+struct Title<'a>(&'a [AgentAudit<'a>]);
 
 impl<'a> fmt::Display for Title<'a> {
     fn fmt<W: fmt::Write>(&self, f: &mut fmt::Formatter<W>) -> fmt::Result {
         match self.0 {
-            Some(agent) => write!(f, "robots.txt for {agent}"),
-            None => f.write_str("robots.txt for several crawlers"),
+            [audit] => {
+                let agent = audit.agent;
+                write!(f, "robots.txt for {agent}")
+            }
+            audits => {
+                let count = audits.len();
+                write!(f, "robots.txt for {count} crawlers")
+            }
         }
     }
+}
+
+/// Else the file was probably put in its place by mistake, so what it opens isn't marked as good.
+fn is_robots_file(audit: &Audit<'_>) -> bool {
+    has_directive(&audit.labels)
+        && !audit.warnings.iter().any(|found| matches!(
+            found.cause,
+            Cause::LooksLikeHtml | Cause::LooksLikeUtf16
+        ))
 }
 
 fn write_head(page: &mut Page, title: Title<'_>) -> fmt::Result {
@@ -61,31 +77,12 @@ fn write_head(page: &mut Page, title: Title<'_>) -> fmt::Result {
     page.html.close()
 }
 
-fn write_entry(page: &mut Page, name: &str, text: &str) -> fmt::Result {
-    page.element("dt", name)?;
-    page.element("dd", text)
-}
-
-fn write_line_at_fault(page: &mut Page, name: &str, front: &str, line: usize) -> fmt::Result {
-    page.element("dt", name)?;
-    page.html.open("dd", &[])?;
-    write!(page.html, "{front}{line}")?;
-    page.html.close()
-}
-
 fn write_syntax_entry(page: &mut Page, syntax: Conformance) -> fmt::Result {
-    match syntax {
-        Conformance::OtherFile => Ok(()),
-        Conformance::OtherLine(line) => write_line_at_fault(page, "Syntax", OTHER_LINE, line),
-        Conformance::Syntax(line) => {
-            write_entry(page, "Syntax", SYNTAX_SENTENCE)?;
-            write_line_at_fault(page, "Verdicts", LINE_APART, line)
-        }
-        Conformance::Verdicts => {
-            write_entry(page, "Syntax", SYNTAX_SENTENCE)?;
-            write_entry(page, "Verdicts", VERDICTS_SENTENCE)
-        }
-    }
+    let standard = Standard(syntax);
+    page.element("dt", "Syntax")?;
+    page.html.open("dd", &[])?;
+    write!(page.html, "{standard}")?;
+    page.html.close()
 }
 
 fn write_file_entry(page: &mut Page, name: &str) -> fmt::Result {
@@ -115,10 +112,12 @@ fn write_summary(
     page.html.open("dl", &[])?;
     write_file_entry(page, request.shown_name())?;
     write_date_entry(page, request.date)?;
+    write_warning_entry(alloc, page, audit.labels.len(), &audit.warnings)?;
     write_crawler_entries(page, request.agent, &audit.agents)?;
     write_sitemap_entry(alloc, page, &audit.labels)?;
-    write_syntax_entry(page, audit.syntax)?;
-    write_warning_entry(alloc, page, audit.labels.len(), &audit.warnings)?;
+    if has_directive(&audit.labels) {
+        write_syntax_entry(page, audit.syntax)?;
+    }
     page.html.close()
 }
 
@@ -131,11 +130,15 @@ pub fn page_text(
     ensures { IfOk result (λ page. IsSomePage page.items) }
 {
     let mut page = Page::new(alloc);
-    let title = Title(request.agent);
+    let title = Title(&audit.agents);
     page.html.open("html", &[("lang", "en")])?;
     write_head(&mut page, title)?;
     page.html.open("body", &[])?;
-    page.html.open("main", &[])?;
+    if is_robots_file(audit) {
+        page.html.open("main", &[])?;
+    } else {
+        page.html.open("main", &[("class", "mistake")])?;
+    }
     page.html.open("h1", &[])?;
     write!(page.html, "{title}")?;
     page.html.close()?;

@@ -1,4 +1,3 @@
-pub mod Joined
 pub mod Listed
 pub mod Explain
 pub mod Github

@@ -2,8 +2,8 @@
 -- number of the others.
 use Rattle.std.specs.Prelude.{ℕ, ◌-◌, ◌==◌, ◌&&◌, Bool, List, [], bytes_eq, count_by, map}
 use Rattle.std.specs.{Bool.nat_lt}
-use Rattle.audit_core.specs.{Counts.rank}
-use Rattle.audit_text.specs.{Joined.joined, Joined.placed, declared.listed.More.More}
+use Rattle.audit_core.specs.{Counts.rank, Joined.joined, Joined.placed}
+use Rattle.audit_text.specs.{declared.listed.More.More}
 use Rattle.printable_text.specs.{declared.level.Level.Level}
 use Rattle.robots_warnings.specs.{declared.table.Cause.Cause, Message.WarningValue}
 use Rattle.robots_warnings.specs.Table.{level_of, name_of}

@@ -2,7 +2,7 @@
 use crate::verdicts::write_verdicts;
 use audit_core::audit::AgentAudit;
 use audit_core::group::Group;
-use audit_core::texts::{may_fetch, write_rejected};
+use audit_core::texts::{Fetched, may_fetch, write_rejected};
 use printable_text::delay::Delay;
 use printable_text::report::Report;
 use std::fmt;
@@ -14,6 +14,7 @@ fn write_group(out: &mut Report, agent: &AgentAudit<'_>) -> fmt::Result {
         Group::Named => write!(out, ": group {name}")?,
         Group::Star => write!(out, ": group *")?,
         Group::Nobody => write!(out, ": no group")?,
+        Group::Everyone if agent.rules == 0 => write!(out, ": no rules (no User-agent line)")?,
         Group::Everyone => write!(out, ": all rules (no User-agent line)")?,
     }
     match agent.group_line {
@@ -24,7 +25,7 @@ fn write_group(out: &mut Report, agent: &AgentAudit<'_>) -> fmt::Result {
 
 fn write_rules(out: &mut Report, group: Group, rules: usize) -> fmt::Result {
     match (group, rules) {
-        (Group::Nobody, _) => Ok(()),
+        (Group::Nobody, _) | (Group::Everyone, 0) => Ok(()),
         (_, 0) => write!(out, ", no rules"),
         (_, 1) => write!(out, ", 1 rule"),
         _ => write!(out, ", {rules} rules"),
@@ -41,8 +42,9 @@ fn write_crawler(out: &mut Report, agent: &AgentAudit<'_>) -> fmt::Result {
         let delay = Delay(micros);
         write!(out, ", delay {delay}")?;
     }
-    if let Some(word) = may_fetch(agent.rejected, agent.reach) {
-        write!(out, ", may fetch {word}")?;
+    if may_fetch(agent.rejected, agent.reach).is_some() {
+        let fetched = Fetched(agent.reach, &agent.allows);
+        write!(out, ", may fetch {fetched}")?;
     }
     out.end_line()
 }

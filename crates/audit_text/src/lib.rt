@@ -7,7 +7,6 @@ mod crawlers;
 pub mod denied;
 pub mod explain;
 pub mod github;
-mod joined;
 pub mod laws;
 mod listed;
 pub mod report;

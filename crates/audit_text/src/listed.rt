@@ -6,7 +6,7 @@ ghost use Rattle.audit_text.specs.Listed.{first_many, is_like, listed, more, mor
 ghost use Rattle.printable_text.specs.declared.level.{Level.Level};
 ghost use Rattle.robots_warnings.specs.{Table.level_of, Table.name_of, Message.WarningValue};
 
-use crate::joined::{joined, push_if};
+use audit_core::joined::{joined, push_if};
 use robots_warnings::table::Cause;
 use robots_warnings::warning::Warning;
 use std::alloc::{AllocError, Global};

@@ -1,15 +1,15 @@
 //! The audit as lines of text, and the warnings.
 use crate::crawlers::write_crawlers;
 use crate::denied::Totals;
-use crate::joined::{AlsoIn, shared_lines};
 use crate::listed::{More, listing_of};
 use crate::verdicts::write_verdicts;
 use audit_core::audit::{AgentAudit, Audit};
 use audit_core::counts::counts_of;
+use audit_core::joined::{AlsoIn, in_order, shared_lines};
 use audit_core::request::Request;
 use audit_core::rows::write_rows;
-use audit_core::syntax::{LINE_APART, OTHER_LINE, SYNTAX_SENTENCE, VERDICTS_SENTENCE};
-use audit_core::texts::{Applied, DelayOrNone, write_rejected};
+use audit_core::syntax::{Standard, has_directive};
+use audit_core::texts::{Applied, DelayOrNone, Fetched, may_fetch, write_rejected};
 use printable_text::level::Level;
 use printable_text::report::Report;
 use rfc9309_laws::conformance::Conformance;
@@ -18,7 +18,16 @@ use std::alloc::Global;
 use std::fmt;
 use std::fmt::Write;
 
-fn write_agent(out: &mut Report, audit: &AgentAudit<'_>) -> fmt::Result {
+fn write_fetched(out: &mut Report, audit: &AgentAudit<'_>) -> fmt::Result {
+    if may_fetch(audit.rejected, audit.reach).is_none() {
+        return Ok(());
+    }
+    let fetched = Fetched(audit.reach, &audit.allows);
+    write!(out, "may fetch: {fetched}")?;
+    out.end_line()
+}
+
+fn write_agent(out: &mut Report, is_quiet: bool, audit: &AgentAudit<'_>) -> fmt::Result {
     let (agent, group) = (audit.agent, audit.group);
     let applied = Applied { agent, group };
     write!(out, "group: {applied}")?;
@@ -26,33 +35,32 @@ fn write_agent(out: &mut Report, audit: &AgentAudit<'_>) -> fmt::Result {
     let delay = DelayOrNone(audit.delay);
     write!(out, "delay: {delay}")?;
     out.end_line()?;
+    if !is_quiet {
+        write_fetched(out, audit)?;
+    }
     write_rejected(out, agent, audit.rejected)?;
     write_verdicts(out, None, &audit.verdicts)
 }
 
-fn write_agents(out: &mut Report, is_single: bool, agents: &[AgentAudit<'_>]) -> fmt::Result {
-    if !is_single {
+fn write_agents(out: &mut Report, request: &Request<'_>, agents: &[AgentAudit<'_>]) -> fmt::Result {
+    if request.agent.is_none() {
         return write_crawlers(out, agents);
     }
     for agent in agents {
-        write_agent(out, agent)?;
+        write_agent(out, !request.has_rows(), agent)?;
     }
     Ok(())
 }
 
-fn write_syntax(out: &mut Report, syntax: Conformance) -> fmt::Result {
-    match syntax {
+/// Nothing of a file that only has comments.
+fn write_syntax(out: &mut Report, audit: &Audit<'_>) -> fmt::Result {
+    match audit.syntax {
         Conformance::OtherFile => return Ok(()),
-        Conformance::OtherLine(line) => write!(out, "{OTHER_LINE}{line}")?,
-        Conformance::Syntax(line) => {
-            out.lines(SYNTAX_SENTENCE)?;
-            write!(out, "{LINE_APART}{line}")?;
-        }
-        Conformance::Verdicts => {
-            out.lines(SYNTAX_SENTENCE)?;
-            out.write_str(VERDICTS_SENTENCE)?;
-        }
+        Conformance::Verdicts if !has_directive(&audit.labels) => return Ok(()),
+        _ => {}
     }
+    let standard = Standard(audit.syntax);
+    write!(out, "{standard}")?;
     out.end_line()
 }
 
@@ -61,8 +69,8 @@ pub fn write_report(out: &mut Report, request: &Request<'_>, audit: &Audit<'_>) 
     if request.has_rows() {
         write_rows(out, &audit.labels)?;
     }
-    write_agents(out, request.agent.is_some(), &audit.agents)?;
-    write_syntax(out, audit.syntax)
+    write_agents(out, request, &audit.agents)?;
+    write_syntax(out, audit)
 }
 
 /// Writes the line with the numbers of allowed and denied URLs.
@@ -82,7 +90,7 @@ fn write_front(out: &mut Report, file: &str, line: Option<usize>, level: Level) 
     out.write_str(": ")
 }
 
-/// `lines` are those of all notes that are written as this one.
+/// `lines` are those of all warnings that are written as this one.
 fn write_warning(
     out: &mut Report,
     file: &str,
@@ -111,9 +119,10 @@ pub fn write_warnings(
     if warnings.is_empty() {
         return Ok(());
     }
-    let found = listing_of(alloc, warnings)?;
+    let all = in_order(alloc, warnings)?;
+    let found = listing_of(alloc, &all)?;
     for warning in &found.warnings {
-        let lines = shared_lines(alloc, warning, warnings)?;
+        let lines = shared_lines(alloc, warning, &all)?;
         write_warning(out, file, &lines, warning)?;
     }
     for more in &found.more {

@@ -190,7 +190,7 @@ HasWords fault = fault ≡ Memory
 
 -- the error shows this name of the file that can't be read, or an allocation failed
 abbrev pub IsFileUnreadable : List ℕ → Fault → Type 0
-IsFileUnreadable name (File text) = string_bytes text ≡ name
+IsFileUnreadable name (File text reason) = string_bytes text ≡ name
 IsFileUnreadable name fault = fault ≡ Memory
 
 -- ---- what no request and no file can change

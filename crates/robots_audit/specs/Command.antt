@@ -7,11 +7,11 @@ use Rattle.clap.specs.Words.{first_value, found_of, matched_of, one_text, raw_va
 use Rattle.clap.specs.declared.parser.matches.{ArgMatches.ArgMatches}
 use Rattle.audit_core.specs.Request.{requested_colors, IsNoCrawlerIn, is_crawler_name, single, format_named}
 use Rattle.audit_core.specs.declared.request.{Format.Format, Request.Request}
-use Rattle.audit_core.specs.declared.request.Format.TheVariants.{Html, Json, Text}
+use Rattle.audit_core.specs.declared.request.Format.TheVariants.{Github, Html, Json, Sarif, Text}
 use Rattle.audit_core.specs.declared.fault.Fault.{Fault}
 use Rattle.audit_core.specs.declared.fault.Fault.TheVariants.{Memory, NoUrl, StdinTwice, Usage}
 use Rattle.printable_text.specs.declared.level.{Level.Level}
-use Rattle.robots_warnings.specs.{Table.is_name}
+use Rattle.robots_warnings.specs.{Crawlers.Row, Crawlers.crawlers, Table.is_name}
 use Rattle.audit_core.specs.{Chosen.IsInBoth, Chosen.share_a_name, Fault.IsUnknown}
 use Rattle.audit_expect.specs.UrlList.{IsUrlFault, first_malformed}
 use Rattle.printable_text.specs.declared.level.Level.TheVariants as level
@@ -54,15 +54,17 @@ level_named word =
     if bytes_eq word (codes "error") then level.Error
     else if bytes_eq word (codes "note") then level.Note else level.Warning
 
--- what `--json` and `--html`, if they are given, and the value of `--format` request
-abbrev pub requested_format : (is_json is_html : Bool) → Option (List ℕ) → Format
-requested_format is_json is_html name =
-    if is_json then Json else if is_html then Html else option_map_or format_named name Text
+-- what `--json`, `--html`, `--github` and `--sarif`, if they are given, and the value of `--format` request
+abbrev pub requested_format : (is_json is_html is_github is_sarif : Bool) → Option (List ℕ) → Format
+requested_format is_json is_html is_github is_sarif name =
+    if is_json then Json else if is_html then Html else if is_github then Github else if is_sarif then Sarif
+    else option_map_or format_named name Text
 
 abbrev pub IsFormatOf : ArgMatches → Format → Type 0
-IsFormatOf matches format = (is_json is_html : Bool) × IsOn matches (codes "json") is_json
-    × IsOn matches (codes "html") is_html
-    × (format ≡ requested_format is_json is_html (value_of matches (codes "format")))
+IsFormatOf matches format = (is_json is_html is_github is_sarif : Bool)
+    × IsOn matches (codes "json") is_json × IsOn matches (codes "html") is_html
+    × IsOn matches (codes "github") is_github × IsOn matches (codes "sarif") is_sarif
+    × (format ≡ requested_format is_json is_html is_github is_sarif (value_of matches (codes "format")))
 
 abbrev pub has_urls : ArgMatches → Bool
 has_urls matches = is_some (value_of matches (codes "url")) || is_some (value_of matches (codes "urls"))
@@ -86,10 +88,23 @@ IsFileFault matches fault =
     ⊎ (((reads_stdin_twice matches ≡ true) × (fault ≡ StdinTwice))
     ⊎ (LacksUrls matches true × (fault ≡ NoUrl)))
 
+abbrev pub known_names : List (List ℕ)
+known_names = map (λ (row : Row). row.0) crawlers
+
+-- with `--known`, all crawlers that are known
+pub record AreGiven (matches : ArgMatches) (agents : List (List ℕ)) : Type 0 where
+  pub is_known : Bool
+  pub known : IsOn matches (codes "known") is_known
+  pub all : agents ≡ (if is_known then known_names else values_of matches (codes "agent"))
+
 -- crawlers have such names
 pub record AreAgentsOf (matches : ArgMatches) (agents : List (List ℕ)) : Type 0 where
-  pub all : agents ≡ values_of matches (codes "agent")
+  pub given : AreGiven matches agents
   pub named : IsTrue (list_all is_crawler_name agents)
+
+-- the error if one of the given names is none
+abbrev pub IsNoCrawlerOf : ArgMatches → Fault → Type 0
+IsNoCrawlerOf matches fault = (agents : List (List ℕ)) × AreGiven matches agents × IsNoCrawlerIn agents fault
 
 -- the arguments after FILE, which are paths or URLs, as they are asked for
 pub record AreUrlsOf (matches : ArgMatches) (urls : List (List ℕ)) : Type 0 where
@@ -133,7 +148,7 @@ abbrev pub Asks : (by_default : Bool) → ArgMatches → Result Request Fault �
 Asks by_default matches (Ok request) = IsRequestOf by_default matches request
 Asks by_default matches (Err fault) =
     IsFileFault matches fault
-    ⊎ (IsNoCrawlerIn (values_of matches (codes "agent")) fault
+    ⊎ (IsNoCrawlerOf matches fault
     ⊎ (IsUrlFault (values_of matches (codes "url")) fault
     ⊎ (IsUnknownIn (values_of matches (codes "only")) fault
     ⊎ (IsUnknownIn (values_of matches (codes "ignore")) fault

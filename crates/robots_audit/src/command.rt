@@ -2,11 +2,10 @@
 ghost use Rattle.std.specs.Prelude.{◌≡◌, IfErr, IfOk, IsTrue, OnOk, codes, is_some, map, option_map, ◌||◌};
 ghost use Rattle.std.specs.List.{list_all};
 ghost use Rattle.robots_warnings.specs.Table.{is_name};
-ghost use Rattle.audit_core.specs.Request.{IsNoCrawlerIn};
 ghost use Rattle.audit_expect.specs.UrlList.{IsUrlFault};
-ghost use Rattle.robots_audit.specs.Command.{AreAgentsOf, AreNamesOf, AreUrlsOf, Asks, HasFile, LacksUrls};
-ghost use Rattle.robots_audit.specs.Command.{file_read, IsFileFault, IsFormatOf, has_urls, is_stdin, IsUnknownIn};
-ghost use Rattle.robots_audit.specs.Command.{level_named, reads_stdin_twice, requested_format, values_of};
+ghost use Rattle.robots_audit.specs.Command.{AreAgentsOf, AreGiven, AreNamesOf, IsNoCrawlerOf, AreUrlsOf, Asks, HasFile, LacksUrls};
+ghost use Rattle.robots_audit.specs.Command.{file_read, IsFileFault, IsFormatOf, requested_format, has_urls, is_stdin, IsUnknownIn, known_names};
+ghost use Rattle.robots_audit.specs.Command.{level_named, reads_stdin_twice, values_of};
 
 use crate::options::with_options;
 use audit_core::chosen::are_apart;
@@ -18,12 +17,14 @@ use audit_core::version::VERSION_AND_TOOLCHAIN;
 use audit_expect::url_list::are_paths_or_urls;
 use clap::{ArgMatches, Command};
 use printable_text::level::Level;
+use robots_warnings::crawlers::crawlers;
 use robots_warnings::table::is_name;
 use std::alloc::{AllocError, Global};
 
 const AFTER_HELP: &str = "\
-With --expect, give only FILE; with --compare only FILE, URLs, --urls, --agent and --verdicts; with either also
---json or --format; with --list-warnings or --explain nothing else. With --denied, give URLs or --urls.
+With --expect, give only FILE; with --compare only FILE, URLs, --urls, --agent, --known and --verdicts; with
+either also --json, --github or --format; with --list-warnings or --explain nothing else. With --denied, give
+URLs or --urls.
 
 Exit status, the first that applies:
   2  if the program couldn't do its work, or the file is rejected for a crawler
@@ -33,7 +34,7 @@ Exit status, the first that applies:
 
 Examples:
   robots_audit robots.txt
-  curl -s https://example.com/robots.txt | robots_audit --agent Googlebot - /search
+  curl -fsSL https://example.com/robots.txt | robots_audit --agent Googlebot - /search
   robots_audit --denied --urls urls.txt robots.txt
   robots_audit --compare old.txt robots.txt /search /products/tea
   robots_audit --expect expect.txt robots.txt
@@ -126,12 +127,21 @@ fn strict_level(word: Option<&str>) -> Option<Level>
     }
 }
 
-fn requested_format(is_json: bool, is_html: bool, name: Option<&str>) -> Format
-    ensures { result ≡ requested_format is_json is_html (option_map (λ name. name.now) name.entry) }
+fn requested_format(
+    is_json: bool,
+    is_html: bool,
+    is_github: bool,
+    is_sarif: bool,
+    name: Option<&str>,
+) -> Format
+    ensures { result ≡ requested_format is_json is_html is_github is_sarif
+        (option_map (λ name. name.now) name.entry) }
 {
     match name {
         _ if is_json => Format::Json,
         _ if is_html => Format::Html,
+        _ if is_github => Format::Github,
+        _ if is_sarif => Format::Sarif,
         Some(name) => Format::named(name),
         None => Format::Text,
     }
@@ -141,7 +151,9 @@ pub fn format_of(matches: &ArgMatches<'_>) -> Format
     ensures { IsFormatOf matches.now result }
 {
     let (is_json, is_html) = (matches.get_flag("json"), matches.get_flag("html"));
-    requested_format(is_json, is_html, matches.get_str("format"))
+    let (is_github, is_sarif) = (matches.get_flag("github"), matches.get_flag("sarif"));
+    let name = matches.get_str("format");
+    requested_format(is_json, is_html, is_github, is_sarif, name)
 }
 
 fn values_of<'a>(
@@ -181,12 +193,32 @@ fn names_of<'a>(alloc: Global, matches: &ArgMatches<'a>, id: &str) -> Result<Vec
     Ok(names)
 }
 
+/// The names of the known crawlers, and `*`.
+fn known_names(alloc: Global) -> Result<Vec<&'static str>, AllocError>
+    ensures { IfOk result (λ names. map (λ name. name.now) names.items ≡ known_names) }
+{
+    let mut names = Vec::new(alloc);
+    for row in crawlers() {
+        names.push(row.0)?;
+    }
+    Ok(names)
+}
+
+fn agents_given<'a>(alloc: Global, matches: &ArgMatches<'a>) -> Result<Vec<&'a str>, AllocError>
+    ensures { IfOk result (λ agents. AreGiven matches.now (map (λ agent. agent.now) agents.items)) }
+{
+    if matches.get_flag("known") {
+        return known_names(alloc);
+    }
+    values_of(alloc, matches, "agent")
+}
+
 /// Fails with the first name that no crawler has.
 fn agents_of<'a>(alloc: Global, matches: &ArgMatches<'a>) -> Result<Vec<&'a str>, Fault>
     ensures ok { IfOk result (λ agents. AreAgentsOf matches.now (map (λ agent. agent.now) agents.items)) }
-    ensures fault { IfErr result (IsNoCrawlerIn (values_of matches.now (codes "agent"))) }
+    ensures fault { IfErr result (IsNoCrawlerOf matches.now) }
 {
-    let agents = values_of(alloc, matches, "agent")?;
+    let agents = agents_given(alloc, matches)?;
     are_crawlers(alloc, &agents)?;
     Ok(agents)
 }

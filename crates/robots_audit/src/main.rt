@@ -11,7 +11,7 @@
 //! With `--list-warnings` or `--explain` it writes what warnings there are, or what one means, and reads nothing.
 #![tactic(auto)]
 
-ghost use Rattle.std.specs.Prelude.{◌≡◌, ◌≢◌, IfErr, IfOk, IsErr, None, option_map, string_bytes};
+ghost use Rattle.std.specs.Prelude.{◌≡◌, ◌≢◌, [], IfErr, IfOk, IsErr, None, option_map, string_bytes};
 ghost use Rattle.std.specs.Process.{exit_status};
 ghost use Rattle.printable_text.specs.Text.{IsReport};
 ghost use Rattle.audit_core.specs.Fault.{status_after};
@@ -55,22 +55,43 @@ fn words(rt: &HostRuntime) -> Result<Vec<String>, Fault> {
     }
 }
 
+fn reason(kind: ErrorKind) -> &'static str {
+    match kind {
+        ErrorKind::NotFound => ": no such file",
+        ErrorKind::PermissionDenied => ": permission denied",
+        _ => "",
+    }
+}
+
 fn read_named(rt: &HostRuntime, name: &str) -> Result<Vec<u8>, Fault> {
-    let Ok(mut file) = File::open(rt, name) else {
-        return Err(unread(rt.alloc(), name));
+    let mut file = match File::open(rt, name) {
+        Ok(file) => file,
+        Err(error) => return Err(unread(rt.alloc(), name, reason(error.kind()))),
     };
     match read_all(rt.alloc(), &mut file) {
         Ok(bytes) => Ok(bytes),
-        Err(ReadFault::Read) => Err(unread(rt.alloc(), name)),
+        Err(ReadFault::Folder) => Err(unread(rt.alloc(), name, ": it is a folder")),
+        Err(ReadFault::Read) => Err(unread(rt.alloc(), name, "")),
         Err(ReadFault::Memory) => Err(Fault::Memory),
     }
+}
+
+/// Fails if there are none, as after a failed download.
+fn read_stdin(rt: &HostRuntime) -> Result<Vec<u8>, Fault>
+    ensures { IfOk result (λ bytes. bytes.items ≢ []) }
+{
+    let bytes = read_all(rt.alloc(), &mut rt.stdin())?;
+    if bytes.is_empty() {
+        return Err(Fault::NoInput);
+    }
+    Ok(bytes)
 }
 
 /// The bytes of the file with this name, or of standard input for `-` or without a name.
 fn read(rt: &HostRuntime, name: Option<&str>) -> Result<Vec<u8>, Fault> {
     match file_read(name) {
         Some(name) => read_named(rt, name),
-        None => Ok(read_all(rt.alloc(), &mut rt.stdin())?),
+        None => read_stdin(rt),
     }
 }
 

@@ -16,6 +16,8 @@ enum Value {
     AbsentWith(&'static str),
     /// One each time that the option is given.
     Repeated(&'static str),
+    /// The same, and another name of the option.
+    RepeatedAs(&'static str, &'static str),
     /// One of these words.
     OneOf(&'static str, &'static [&'static str]),
     /// They can only follow a `=`, as FILE may follow the option. Without a `=`, the last field is the value.
@@ -35,15 +37,15 @@ struct Parameter {
     excludes: &'static [&'static [&'static str]],
 }
 
-const OF_QUERIES: &[&str] = &["url", "agent", "urls"];
+const OF_QUERIES: &[&str] = &["url", "agent", "known", "urls"];
 
 /// The options of an audit that are about warnings and the form of the report.
 const OF_AUDITS: &[&str] = &[
-    "denied", "quiet", "html", "date", "color", "strict", "needless", "only", "ignore",
+    "denied", "quiet", "html", "sarif", "date", "color", "strict", "needless", "only", "ignore",
 ];
 
 /// What every report on a file can have.
-const OF_FILES: &[&str] = &["file", "format", "json", "expect", "compare"];
+const OF_FILES: &[&str] = &["file", "format", "json", "github", "expect", "compare"];
 
 /// The arguments in their order, and the options in that of the help.
 const PARAMETERS: &[Parameter] = &[
@@ -83,9 +85,17 @@ const PARAMETERS: &[Parameter] = &[
         id: "agent",
         short: None,
         long: Some("agent"),
-        value: Value::Repeated("NAME"),
+        value: Value::RepeatedAs("NAME", "user-agent"),
         help: "Report on this crawler; may be repeated (default: * and every crawler that FILE names)",
         excludes: &[],
+    },
+    Parameter {
+        id: "known",
+        short: None,
+        long: Some("known"),
+        value: Value::Absent,
+        help: "Report on * and all crawlers that this program knows, such as Googlebot and GPTBot",
+        excludes: &[&["agent"]],
     },
     Parameter {
         id: "quiet",
@@ -118,6 +128,22 @@ const PARAMETERS: &[Parameter] = &[
         value: Value::Absent,
         help: "The same as --format html",
         excludes: &[&["format", "json"]],
+    },
+    Parameter {
+        id: "github",
+        short: None,
+        long: Some("github"),
+        value: Value::Absent,
+        help: "The same as --format github",
+        excludes: &[&["format", "json", "html"]],
+    },
+    Parameter {
+        id: "sarif",
+        short: None,
+        long: Some("sarif"),
+        value: Value::Absent,
+        help: "The same as --format sarif",
+        excludes: &[&["format", "json", "html", "github"]],
     },
     Parameter {
         id: "date",
@@ -173,7 +199,9 @@ const PARAMETERS: &[Parameter] = &[
         short: None,
         long: Some("expect"),
         value: Value::Text("FILE"),
-        help: "Check instead the lines \"allow AGENT URL\" and \"deny AGENT URL\" of this file (-: standard input)",
+        help: "Check instead the lines \"allow AGENT URL\", \"deny AGENT URL\", \"allow-all AGENT PATTERN\" and \
+            \"deny-all AGENT PATTERN\" of this file (-: standard input); AGENT * is a crawler without a group of \
+            its own",
         excludes: &[OF_QUERIES, OF_AUDITS],
     },
     Parameter {
@@ -228,6 +256,10 @@ fn with_value<'a>(arg: Arg<'a>, value: Value) -> Result<Arg<'a>, AllocError> {
         Value::Text(name) => arg.value_name(name),
         Value::TextWith(name, other) => arg.value_name(name).requires_arg(other)?,
         Value::Texts(name) => arg.value_name(name).num_args(0..),
+        Value::RepeatedAs(name, other) => arg
+            .value_name(name)
+            .action(ArgAction::Append)
+            .visible_alias(other)?,
         Value::Repeated(name) => arg.value_name(name).action(ArgAction::Append),
         Value::OneOf(name, words) => arg.value_name(name).value_parser(ValueParser::Names(words)),
         Value::OneOfAfterEquals(name, words, missing) => arg

@@ -223,12 +223,12 @@ pub fn given_name<'a>(file: Option<&'a str>) -> &'a str
     }
 }
 
-/// The error for a file that can't be opened or read.
-pub fn unread(alloc: Global, name: &str) -> Fault
+/// The error for a file that can't be opened or read, for this reason.
+pub fn unread(alloc: Global, name: &str, reason: &'static str) -> Fault
     ensures { IsFileUnreadable name.now result }
 {
     match String::from_str(alloc, name) {
-        Ok(text) => Fault::File(text),
+        Ok(text) => Fault::File(text, reason),
         Err(AllocError) => Fault::Memory,
     }
 }

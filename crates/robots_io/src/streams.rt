@@ -14,6 +14,8 @@ const MOST_READS: u32 = 1_048_576;
 /// Why an input couldn't be read to its end.
 #[derive(Debug, PartialEq, Eq, Drop)]
 pub enum ReadFault {
+    /// The input is a folder.
+    Folder,
     /// A read failed, or the input didn't end within the maximum number of reads.
     Read,
     Memory,
@@ -26,6 +28,16 @@ pub enum WriteFault {
     Closed,
     /// A write or a flush failed in another way, or a write accepted no bytes.
     Write,
+}
+
+fn read_fault(error: Error) -> ReadFault
+    ensures folder { (result ≡ ReadFault.Folder) ↔ (error_kind error ≡ ErrorKind.IsADirectory) }
+    ensures other { result ≢ ReadFault.Memory }
+{
+    match error.kind() {
+        ErrorKind::IsADirectory => ReadFault::Folder,
+        _ => ReadFault::Read,
+    }
 }
 
 fn write_fault(error: Error) -> WriteFault
@@ -48,12 +60,12 @@ impl From<AllocError> for ReadFault {
     }
 }
 
-/// `ReadFault::Read` if the read fails, or if none is left.
+/// `ReadFault::Read` if the read fails, or if none is left; `ReadFault::Folder` if it is of a folder.
 fn read_chunk<R: Read>(reader: &mut R, left: &mut u32, chunk: &mut [u8]) -> Result<usize, ReadFault>
     ensures counted { OnOk result (left.new + 1 ≡ left.old) }
     ensures bound { ReadsAtMost result chunk.new }
     ensures bytes { ReadConsumes (R.remaining reader.old) (R.remaining reader.new) result chunk.new }
-    ensures fault { IfErr result (λ fault. fault ≡ ReadFault.Read) }
+    ensures fault { IfErr result (λ fault. fault ≢ ReadFault.Memory) }
 {
     if *left == 0 {
         return Err(ReadFault::Read);
@@ -61,7 +73,7 @@ fn read_chunk<R: Read>(reader: &mut R, left: &mut u32, chunk: &mut [u8]) -> Resu
     *left -= 1;
     match reader.read(chunk) {
         Ok(count) => Ok(count),
-        Err(_) => Err(ReadFault::Read),
+        Err(error) => Err(read_fault(error)),
     }
 }
 
@@ -69,8 +81,8 @@ fn read_chunk<R: Read>(reader: &mut R, left: &mut u32, chunk: &mut [u8]) -> Resu
 ///
 /// # Errors
 ///
-/// `ReadFault::Read` if a read fails or more than 1,048,576 are needed, and `ReadFault::Memory` if an
-/// allocation fails.
+/// `ReadFault::Folder` if the input is a folder, `ReadFault::Read` if a read fails otherwise or more than
+/// 1,048,576 are needed, and `ReadFault::Memory` if an allocation fails.
 pub fn read_all<R: Read>(alloc: Global, reader: &mut R) -> Result<Vec<u8>, ReadFault>
     ensures all { IfOk result (λ all. IfSome (R.remaining reader.old) (λ input. all.items ≡ input)) }
     ensures memory { IsErrOf result ReadFault.Memory → IfSome (R.remaining reader.old) (λ input. input ≢ []) }

@@ -25,7 +25,7 @@ use Rattle.robots_needless.proofs.TogetherLemmas.{cons_cases, reason_among, unpl
 plain_step : (b : ℕ) (q t : List ℕ) → b ≢ star → b ≢ dollar → Matches (b ∷ q) t
     → (s : List ℕ) × (t ≡ b ∷ s) × Matches q s
 unfolding MatchesWith
-plain_step b q t no_star no_dollar m = rw (ne_eqb b star no_star, ne_eqb b dollar no_dollar) at m
+plain_step b q t no_star no_dollar m = grind (arith, ne_eqb)
 
 abbrev pub IsPlain : ℕ → Type 0
 IsPlain b = (b ≢ star) × (b ≢ dollar)
@@ -35,10 +35,7 @@ pub differ_at : (k : ℕ) (p q t : List ℕ) → k < length p → k < length q
     → IsPlain (get_or q k 0) → get_or p k 0 ≢ get_or q k 0 → Matches p t → ¬ Matches q t
 differ_at k [] q t in_p in_q same plain other differ m n = absurd (omega arith)
 differ_at k (a ∷ p) [] t in_p in_q same plain other differ m n = absurd (omega arith)
-differ_at zero (a ∷ p) (b ∷ q) t in_p in_q same plain other differ m n =
-    let (s, is, _) = plain_step a p t plain.0 plain.1 m in
-    let (u, too, _) = plain_step b q t other.0 other.1 n in
-    differ (cc)
+differ_at zero (a ∷ p) (b ∷ q) t in_p in_q same plain other differ m n = grind (arith, plain_step)
 differ_at (suc k) (a ∷ p) (b ∷ q) t in_p in_q same plain other differ m n =
     let (here, equal) = same 0 (omega arith) in
     let (s, is, first) = plain_step a p t here.0 here.1 m in
@@ -145,14 +142,7 @@ only_near near others rule are outcomes.Undecided goes = tt
 
 pub near_apart : (near : List PlacedRule) (other rule : PlacedRule) → AreApart other.rule.0 rule.rule.0
     → AddsNear near near (other ∷ []) rule
-near_apart near other rule apart = record {
-  more = λ x has. has;
-  among = λ x has. inl has;
-  only = λ x has. elim (cons_cases other [] x has) [
-    | inl same ↦ inr (subst (λ (y : PlacedRule). AreApart y.rule.0 rule.rule.0) same apart)
-    | inr (k, below, at) ↦ absurd (omega arith)
-  ];
-}
+near_apart near other rule apart = grind (arith, cons_cases)
 
 pub near_pushed : (near : List PlacedRule) (other rule : PlacedRule)
     → AddsNear near (near ++ other ∷ []) (other ∷ []) rule
@@ -163,8 +153,7 @@ near_pushed near other rule = record {
 }
 
 pub near_none : (near : List PlacedRule) (rule : PlacedRule) → AddsNear near near [] rule
-near_none near rule =
-    record { more = λ x has. has; among = λ x has. inl has; only = λ x (k, below, at). absurd (omega arith) }
+near_none near rule = grind arith
 
 pub near_more : (old now new some others : List PlacedRule) (rule : PlacedRule) → AddsNear old now some rule
     → AddsNear now new others rule → AddsNear old new (some ++ others) rule
@@ -184,28 +173,22 @@ near_more old now new some others rule first second = record {
 }
 
 rank_low : (rule : Rule) → 2 * length rule.0 ≤ rank_of rule
-rank_low (p, true) = omega arith
-rank_low (p, false) = omega arith
+rank_low rule = grind arith
 
 rank_high : (rule : Rule) → rank_of rule ≤ 2 * length rule.0 + 1
-rank_high (p, true) = omega arith
-rank_high (p, false) = omega arith
+rank_high rule = grind arith
 
 pub longer_precedes : (other rule : PlacedRule) → length rule.rule.0 < length other.rule.0
     → TakesPrecedence other rule
-longer_precedes other rule less = record {
-  above = omega (arith, rank_high rule.rule, rank_low other.rule);
-  first = λ same. absurd (omega (arith, rank_high rule.rule, rank_low other.rule));
-}
+longer_precedes other rule less = grind (arith, rank_high, rank_low)
 
 pub allow_precedes : (other rule : PlacedRule) → length other.rule.0 ≡ length rule.rule.0
     → other.rule.1 ≡ true → rule.rule.1 ≡ false → TakesPrecedence other rule
-allow_precedes other rule same allows denies =
-    record { above = rw (allows, denies) (omega arith); first = rw (allows, denies) (λ equal. absurd (omega arith)) }
+allow_precedes other rule same allows denies = grind arith
 
 pub above_precedes : (other rule : PlacedRule) → length other.rule.0 ≡ length rule.rule.0
     → other.rule.1 ≡ rule.rule.1 → other.line < rule.line → TakesPrecedence other rule
-above_precedes other rule same kind less = record { above = rw kind (omega arith); first = λ equal. less }
+above_precedes other rule same kind less = grind arith
 
 -- ---- What Disallows alone say of their patterns.
 
@@ -217,18 +200,13 @@ same_pattern p q same = grind arith
 
 no_allow : (p q : List ℕ) (others : List Rule) → ¬ Contains {X = Rule} others (q, true)
     → ¬ Contains {X = Rule} ((p, false) ∷ others) (q, true)
-no_allow p q others none has = elim (cons_cases {A = Rule} (p, false) others (q, true) has) [
-  | inl same ↦ kinds_differ p q same
-  | inr other ↦ none other
-]
+no_allow p q others none has = grind (arith, cons_cases, kinds_differ)
 
 no_allows : (p q : List ℕ) → ¬ Contains {X = Rule} ((p, false) ∷ []) (q, true)
 no_allows p q = no_allow p q [] (λ (k, below, at). omega arith)
 
 matched_by : (w text : List ℕ) → IsDenied ((w, false) ∷ []) text → Matches w text
-matched_by w text (differs, p, (zero, below, at), fits, longest) =
-    subst (λ r. Matches r text) (sym (same_pattern w p at)) fits
-matched_by w text (differs, p, (suc k, below, at), fits, longest) = absurd (omega arith)
+matched_by w text h = grind (arith, same_pattern)
 
 pub covers_by : (w n : List ℕ) → HaveSameVerdicts [] ((w, false) ∷ (n, false) ∷ []) ((w, false) ∷ [])
     → Covers w n

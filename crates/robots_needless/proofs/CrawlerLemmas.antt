@@ -1,6 +1,6 @@
 -- Crawlers with the same rules.
 use Rattle.std.proofs.lemmas.Grind.{common_steps}
-use Rattle.std.proofs.Common.{◌≡◌, inl, inr, List, ℕ, ap, codes, false, refl, sym, ◌<◌, ◌≤◌, zero}
+use Rattle.std.proofs.Common.{◌≡◌, inl, inr, List, ℕ, ap, codes, false, refl, sym, ◌<◌, ◌≤◌}
 use Rattle.std.proofs.Common.{[]}
 use Rattle.std.proofs.Common.{suc, true, ◌∷◌, ◌++◌, Contains, IsAscii, IsUtf8, ap₂, subst, arith, get_or}
 use Rattle.std.proofs.Common.{encode_utf8, encode_utf8_all, filter_map, length, map}
@@ -48,8 +48,7 @@ high_bytes (a ∷ one) (b ∷ other) same high =
     (high_bytes one other later (λ k below. high (suc k) (omega arith)))
 
 ascii_byte : (b : ℕ) → b < 128 → IsAscii (b ∷ [])
-ascii_byte b less zero = less
-ascii_byte b less (suc k) = omega arith
+ascii_byte b h = grind arith
 
 one_ascii : (one : List ℕ) (c : ℕ) → c < 128 → map to_ascii_lowercase one ≡ to_ascii_lowercase c ∷ []
     → IsUtf8 one

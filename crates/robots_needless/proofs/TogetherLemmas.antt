@@ -171,8 +171,7 @@ module _ {all left : List PlacedRule} {start found : Reasons} (is : IsReducing a
 
   pub rule_stays : (kept rest : List PlacedRule) (rule : PlacedRule) → left ≡ kept ++ (rest ++ rule ∷ [])
       → IsReducing all ((kept ++ rule ∷ []) ++ rest) start found
-  rule_stays kept rest rule last =
-      reordered ((kept ++ rule ∷ []) ++ rest) (rw last (rest_to_front kept rest rule))
+  rule_stays kept rest rule last = grind (arith, reordered, rest_to_front)
 
   pub rule_gone : (kept rest : List PlacedRule) (rule : PlacedRule) → left ≡ kept ++ (rest ++ rule ∷ [])
       → (reason : Reason) (new : Reasons) → Goes (kept ++ rest) rule reason

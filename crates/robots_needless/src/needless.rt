@@ -13,6 +13,9 @@ use std::collections::{BTreeMap, BTreeSet};
 /// Bounds how long the rules of all crawlers are compared.
 pub(crate) const BUDGET: usize = 50_000_000;
 
+/// Among more others, a rule isn't decided: each is compared with each.
+const MOST_OTHERS: usize = 4_000;
+
 /// Why a rule is needless.
 #[derive(Clone, Copy, Debug, Eq, PartialEq)]
 pub enum Reason {
@@ -304,8 +307,9 @@ fn outcome_of(
     if stays.contains(&rule.line) || rule.is_allow && rule.pattern.as_str() == "/" {
         return Ok(Outcome::Stays);
     }
-    *budget = budget.saturating_sub(kept.len().saturating_add(rest.len()) / 8);
-    if *budget == 0 {
+    let others = kept.len().saturating_add(rest.len());
+    *budget = budget.saturating_sub(others / 8);
+    if *budget == 0 || others > MOST_OTHERS {
         return Ok(Outcome::Undecided);
     }
     let mut near = Vec::new(alloc);

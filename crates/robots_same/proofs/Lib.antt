@@ -2,5 +2,4 @@ pub mod MatchLemmas
 pub mod SideLemmas
 pub mod ClosureLemmas
 pub mod PoolLemmas
-pub mod ChainLemmas
 pub mod VerdictLemmas

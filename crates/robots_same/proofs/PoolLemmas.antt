@@ -1,100 +1,98 @@
 -- Rules that are chosen from a pool.
-use Rattle.std.proofs.Common.{◌≡◌, inl, inr, ℕ, ◌+◌, ◌<◌, ◌≤◌, Bool, true, false, not, ◌&&◌, ◌||◌, List}
+use Rattle.std.proofs.Common.{◌≡◌, ℕ, ◌+◌, ◌<◌, ◌≤◌, Bool, true, false, List}
 use Rattle.std.proofs.Common.{[], ◌∷◌, ◌++◌}
 use Rattle.std.specs.Prelude.{if◌then◌else◌}
-use Rattle.std.proofs.Common.{add-zero, arith, take, get_or, length, refl, sym, ap, ◌∙◌}
+use Rattle.std.proofs.Common.{add-one, drop}
+use Rattle.std.proofs.Math.{Seq.drop-cons}
+use Rattle.std.proofs.Common.{arith, take, get_or, length, refl, ap, ◌∙◌}
 use Rattle.std.proofs.{lemmas.Bool.cases_Bool, lemmas.List.append-nil, lemmas.List.take_all}
 use Rattle.std.proofs.{lemmas.List.take_more}
 use Rattle.texting_robots.specs.{Rules.Rule}
 use Rattle.robots_same.specs.declared.pool.Entry.{Entry}
-use Rattle.robots_same.specs.declared.compare.Comparison.{Comparison}
 use Rattle.robots_same.specs.declared.compare.Comparison.TheVariants.{Differ, Same, Undecided}
-use Rattle.robots_same.specs.Internal.{IsAnswer, chosen, is_in, is_shared, last_kind}
+use Rattle.robots_same.specs.Internal.{IsAnswer, Leads, LeavesAgree, StartsAgree, chosen, is_in}
+use Rattle.robots_same.specs.Internal.{is_shared, last_kind}
 use Rattle.robots_same.proofs.SideLemmas.{last_kind_append}
 
 pub chosen_append : (all new : Bool) (pool more : List Entry)
     → chosen all new (pool ++ more) ≡ chosen all new pool ++ chosen all new more
 chosen_append all new [] more = refl
-chosen_append all new (entry ∷ pool) more =
-    elim (cases_Bool ((all || not (is_shared entry)) && is_in new entry)) [
-      | inl is ↦ rw is (ap (λ (l : List Rule). entry.item ∷ l) (chosen_append all new pool more))
-      | inr isnt ↦ rw isnt (chosen_append all new pool more)
-    ]
+chosen_append all new (entry ∷ pool) more = grind (arith, cases_Bool, chosen_append all new pool more)
 
-chosen_more : (all new : Bool) (pool : List Entry) (i : ℕ) (d : Entry) → i < length pool
-    → chosen all new (take (i + 1) pool) ≡ chosen all new (take i pool) ++ chosen all new (get_or pool i d
-    ∷ [])
-chosen_more all new pool i d below =
-    ap (λ (l : List Entry). chosen all new l) (take_more pool i d below)
-    ∙ chosen_append all new (take i pool) (get_or pool i d ∷ [])
+chosen_more : (all new : Bool) (pool : List Entry) (i : ℕ) (entry : Entry) → i < length pool
+    → entry ≡ get_or pool i entry
+    → chosen all new (take (i + 1) pool) ≡ chosen all new (take i pool) ++ chosen all new (entry ∷ [])
+chosen_more all new pool i entry below at =
+    rw (take_more pool i entry below, ← at) (chosen_append all new (take i pool) (entry ∷ []))
 
 -- one more entry of a loop that makes a side
-pub side_more : (all new start : Bool) (pool : List Entry) (i : ℕ) (entry : Entry) (t : List ℕ) (made more
-    : Bool)
-    → i < length pool → entry ≡ get_or pool i entry → made ≡ last_kind start (chosen all new (take i pool))
-    t
+pub side_more : (all new start : Bool) (pool : List Entry) (i : ℕ) (entry : Entry) (t : List ℕ)
+    (made more : Bool) → i < length pool → entry ≡ get_or pool i entry
+    → made ≡ last_kind start (chosen all new (take i pool)) t
     → more ≡ last_kind made (chosen all new (entry ∷ [])) t
     → more ≡ last_kind start (chosen all new (take (i + 1) pool)) t
 side_more all new start pool i entry t made more below at kept is =
-    is ∙ ap (λ (v : Bool). last_kind v (chosen all new (entry ∷ [])) t) kept
-    ∙ ap (λ (e : Entry). last_kind (last_kind start (chosen all new (take i pool)) t) (chosen all new (e ∷
-    [])) t) at
-    ∙ sym (last_kind_append (chosen all new (take i pool)) (chosen all new (get_or pool i entry ∷ []))
-    start t)
-    ∙ ap (λ (l : List Rule). last_kind start l t) (sym (chosen_more all new pool i entry below))
+    rw (chosen_more all new pool i entry below at, last_kind_append, ← kept) is
 
-same_entry : (new : Bool) (one other : Entry) → one.item ≡ other.item → one.old ≡ other.old
-    → one.new ≡ other.new
-    → chosen true new (one ∷ []) ≡ chosen true new (other ∷ [])
-same_entry true one other item old is = rw (item, is) refl
-same_entry false one other item old is = rw (item, old) refl
+-- one more entry of two lists of entries
+pub extended : (x y : Bool) (made more : List Entry) (one : Entry) (other others : List Entry) (two : Entry)
+    → more ≡ made ++ one ∷ [] → others ≡ other ++ two ∷ [] → one.item ≡ two.item
+    → is_in x one ≡ is_in y two → chosen true x made ≡ chosen true y other
+    → chosen true x more ≡ chosen true y others
+extended x y made more one other others two added added_too item flag kept =
+    let same : chosen true x (one ∷ []) ≡ chosen true y (two ∷ []) = rw (item, flag) refl in
+    cc (chosen_append true x made (one ∷ []), chosen_append true y other (two ∷ []))
 
 -- one more entry of a loop that copies them
 pub copy_more : (new : Bool) (pool made more : List Entry) (i : ℕ) (entry copy : Entry) → i < length pool
-    → entry ≡ get_or pool i entry → copy.item ≡ entry.item → copy.old ≡ entry.old → copy.new ≡ entry.new
+    → entry ≡ get_or pool i entry → copy.item ≡ entry.item → is_in new copy ≡ is_in new entry
     → more ≡ made ++ copy ∷ [] → chosen true new made ≡ chosen true new (take i pool)
     → chosen true new more ≡ chosen true new (take (i + 1) pool)
-copy_more new pool made more i entry copy below at item old is added kept =
-    ap (λ (l : List Entry). chosen true new l) added ∙ chosen_append true new made (copy ∷ [])
-    ∙ ap (λ (l : List Rule). l ++ chosen true new (copy ∷ [])) kept
-    ∙ ap (λ (l : List Rule). chosen true new (take i pool) ++ l) (same_entry new copy entry item old is
-    ∙ ap (λ (e : Entry). chosen true new (e ∷ [])) at)
-    ∙ sym (chosen_more true new pool i entry below)
+copy_more new pool made more i entry copy below at item flag added kept =
+    extended new new made more copy (take i pool) (take (i + 1) pool) entry added
+    (rw (take_more pool i entry below, ← at) refl) item flag kept
 
 -- one more entry of a loop that merges two lists
 module _ (new : Bool) (pool more : List Entry) (entry : Entry) (added : more ≡ pool ++ entry ∷ []) where
   pub appended : chosen true new more ≡ chosen true new pool ++ chosen true new (entry ∷ [])
-  appended = ap (λ (l : List Entry). chosen true new l) added ∙ chosen_append true new pool (entry ∷ [])
+  appended = grind (arith, chosen_append)
 
   pub one_taken : (list : List Rule) (i : ℕ)
       → (is_in new entry ≡ true → (i < length list) × (entry.item ≡ get_or list i entry.item))
       → chosen true new pool ≡ take i list
       → chosen true new more ≡ take (i + (if is_in new entry then 1 else 0)) list
-  one_taken list i at kept = elim (cases_Bool (is_in new entry)) [
-    | inl is ↦ rw is (appended ∙ rw is (ap (λ (l : List Rule). l ++ entry.item ∷ []) kept
-        ∙ ap (λ (r : Rule). take i list ++ r ∷ []) (at is).1 ∙ sym (take_more list i entry.item (at is).0)))
-    | inr isnt ↦ rw isnt (rw add-zero (appended ∙ rw isnt (append-nil (chosen true new pool) ∙ kept)))
-  ]
+  one_taken list i at kept = grind (arith, append-nil, appended, cases_Bool, take_more)
 
--- an answer about other entries with the same rules
-pub same_answer : (front : List ℕ) (one other : List Entry) → chosen true false one ≡ chosen true false
-    other
-    → chosen true true one ≡ chosen true true other → (answer : Comparison) → IsAnswer front one answer
-    → IsAnswer front other answer
-same_answer front one other old new Same is = λ t.
-    ap (λ (l : List Rule). last_kind true l (front ++ t)) (sym old) ∙ is t
-    ∙ ap (λ (l : List Rule). last_kind true l (front ++ t)) new
-same_answer front one other old new (Differ text) (rest, begins, differ) = (
-  rest,
-  begins,
-  λ same. differ (ap (λ (l : List Rule). last_kind true l text.items) old ∙ same
-      ∙ ap (λ (l : List Rule). last_kind true l text.items) (sym new)),
-)
-same_answer front one other old new Undecided is = tt
+module _ (front : List ℕ) (pool first second : List Entry)
+    (old : chosen true false first ≡ chosen true false pool)
+    (between : chosen true true first ≡ chosen true false second)
+    (new : chosen true true second ≡ chosen true true pool) where
+  -- a step of the old list changes no verdict
+  pub old_leads : IsAnswer front first Same → Leads front second pool
+  old_leads is Same = λ agree t. cc (is t, agree t)
+  old_leads is (Differ text) = λ (t, begins, differ). (t, begins, λ same. differ (cc (is t)))
+  old_leads is Undecided = λ _. tt
+
+  -- a step of the new one
+  pub new_leads : IsAnswer front second Same → Leads front first pool
+  new_leads is Same = λ agree t. cc (is t, agree t)
+  new_leads is (Differ text) = λ (t, begins, differ). (t, begins, λ same. differ (cc (is t)))
+  new_leads is Undecided = λ _. tt
+
+-- ---- States above shared rules
+
+pub shared_next : (pool : List Entry) (i : ℕ) (entry : Entry) (kind : Bool) (t : List ℕ) → i < length pool
+    → entry ≡ get_or pool i entry → is_shared entry ≡ true → LeavesAgree t (drop i pool)
+    → (StartsAgree kind t (drop (i + 1) pool) → StartsAgree kind t (drop i pool))
+    × LeavesAgree t (drop (i + 1) pool)
+shared_next pool i entry kind t below at is leaves =
+    let next : drop i pool ≡ entry ∷ drop (i + 1) pool =
+    rw (add-one, drop-cons pool i entry below, ← at) refl in
+    let has : LeavesAgree t (entry ∷ drop (i + 1) pool) = rw next at leaves in
+    (λ starts. rw (next, is) starts, has.1)
 
 pub one_room : (b : Bool) (i n : ℕ) → i ≤ n → (b ≡ true → i < n) → i + (if b then 1 else 0) ≤ n
-one_room true i n most less = let below : i < n = less refl in omega arith
-one_room false i n most less = rw add-zero most
+one_room b i n h h2 = grind arith
 
 -- the last entry of a pool
 pub last_added : (new : Bool) (pool more : List Entry) (last : Entry) → more ≡ pool ++ last ∷ []

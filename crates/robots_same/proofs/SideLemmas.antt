@@ -22,39 +22,28 @@ cond_same false a = refl
 
 -- the item changes nothing
 pub cond_kept : (b kind a : Bool) → (b ≡ true → a ≡ kind) → a ≡ cond b kind a
-cond_kept true kind a is = is refl
-cond_kept false kind a is = refl
+cond_kept b kind a h = grind arith
 
 -- one more item of a loop over items: `t` is the text of the items, `more` the verdict that was made of them
 pub one_more : (start : Bool) (items : List Rule) (i : ℕ) (item : Rule) (t : List ℕ) (made more : Bool)
     → i < length items → item ≡ get_or items i item → made ≡ last_kind start (take i items) t
     → more ≡ cond (matches true item.0 t) item.1 made → more ≡ last_kind start (take (i + 1) items) t
 one_more start items i item t made more below at kept is =
-    is ∙ ap (λ (v : Bool). cond (matches true item.0 t) item.1 v) kept
-    ∙ ap (λ (x : Rule). cond (matches true x.0 t) x.1 (last_kind start (take i items) t)) at
-    ∙ sym (last_kind_append (take i items) (get_or items i item ∷ []) start t)
-    ∙ ap (λ (l : List Rule). last_kind start l t) (sym (take_more items i item below))
+    cc (take_more items i item below, last_kind_snoc start (take i items) (get_or items i item) t)
 
 pub last_fits : (items : List Rule) (k : ℕ) (x item : Rule) (start : Bool) (t : List ℕ)
     → length items ≡ k + 1
     → x ≡ get_or items k x → x ≡ item → matches true item.0 t ≡ true → last_kind start items t ≡ item.1
 last_fits [] k x item start t len at same fits = absurd (omega arith)
-last_fits (a ∷ []) zero x item start t len at same fits =
-    let is : a ≡ item = sym at ∙ same in rw (is, fits) refl
+last_fits (a ∷ []) zero x item start t len at same fits = grind arith
 last_fits (a ∷ []) (suc k) x item start t len at same fits = absurd (omega arith)
 last_fits (a ∷ b ∷ items) zero x item start t len at same fits = absurd (omega arith)
 last_fits (a ∷ b ∷ items) (suc k) x item start t len at same fits =
     last_fits (b ∷ items) k x item (cond (matches true a.0 t) a.1 start) t (omega arith) at same fits
 
-pub take_same : (xs ys : List Rule) (i : ℕ) (x y : Rule) → i < length xs → i < length ys → x ≡ get_or xs i x
-    → y ≡ get_or ys i y → x ≡ y → take i xs ≡ take i ys → take (i + 1) xs ≡ take (i + 1) ys
-take_same xs ys i x y in_xs in_ys at_x at_y here same =
-    take_more xs i x in_xs ∙ ap (λ (l : List Rule). l ++ get_or xs i x ∷ []) same
-    ∙ ap (λ (r : Rule). take i ys ++ r ∷ []) (sym at_x ∙ here ∙ at_y) ∙ sym (take_more ys i y in_ys)
-
 pub all_same : (xs ys : List Rule) (i : ℕ) → length xs ≡ length ys → length xs ≤ i
     → take i xs ≡ take i ys → xs ≡ ys
-all_same xs ys i lengths most same = sym (take_all i xs most) ∙ same ∙ take_all i ys (omega arith)
+all_same xs ys i lengths most same = grind (arith, take_all)
 
 pub alike_kept : (old new : List ℕ) (items : List Rule) → Adds old new → AreAlike old items
     → AreAlike new items

@@ -106,27 +106,6 @@ IsSameOn text pool =
 abbrev pub AgreeFrom : List ℕ → List Entry → Type 0
 AgreeFrom front pool = (text : List ℕ) → IsSameOn (front ++ text) pool
 
--- the rules of both lists
-abbrev pub in_either : List Entry → List Rule
-in_either [] = []
-in_either (entry ∷ pool) = if entry.old || entry.new then entry.item ∷ in_either pool else in_either pool
-
--- the rules of one list, and from this position on those of the other one, too
-abbrev pub joined : Bool → List Entry → ℕ → List Rule
-joined new pool at = chosen true new (take at pool) ++ in_either (drop at pool)
-
-abbrev pub AgreeJoined : List ℕ → Bool → List Entry → ℕ → Type 0
-AgreeJoined front new pool at = (text : List ℕ) → last_kind true (chosen true new pool) (front ++ text)
-    ≡ last_kind true (joined new pool at) (front ++ text)
-
-abbrev pub AgreeNext : List ℕ → Bool → List Entry → ℕ → Type 0
-AgreeNext front new pool at = (text : List ℕ) → last_kind true (joined new pool (at + 1)) (front ++ text)
-    ≡ last_kind true (joined new pool at) (front ++ text)
-
-abbrev pub IfSame : Type 0 → Comparison → Type 0
-IfSame P Same = P
-IfSame P answer = Unit {0}
-
 -- the text begins with `front`, and the lists have opposite verdicts on it
 abbrev pub Disagree : List ℕ → List ℕ → List Entry → Type 0
 Disagree front text pool = (rest : List ℕ) × (text ≡ front ++ rest) × (¬ IsSameOn text pool)
@@ -135,6 +114,10 @@ abbrev pub IsAnswer : List ℕ → List Entry → Comparison → Type 0
 IsAnswer front pool Same = AgreeFrom front pool
 IsAnswer front pool (Differ text) = Disagree front text.items pool
 IsAnswer front pool Undecided = Unit {0}
+
+-- an answer about the first rules is one about the others
+abbrev pub Leads : List ℕ → List Entry → List Entry → Type 0
+Leads front made pool = (answer : Comparison) → IsAnswer front made answer → IsAnswer front pool answer
 
 abbrev pub StartsAgree : Bool → List ℕ → List Entry → Type 0
 StartsAgree start text pool =

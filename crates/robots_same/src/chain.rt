@@ -1,102 +1,162 @@
-//! Compares two lists by way of the rules of both, which are added one at a time.
-ghost use Rattle.std.specs.Prelude.{◌≡◌, ◌+◌, ◌<◌, ◌||◌, IfOk, false, if◌then◌else◌, length, true};
-ghost use Rattle.robots_same.specs.Internal.{AgreeJoined, AgreeNext, IfSame, IsAnswer, chosen, is_in, joined};
+//! Compares two lists by steps: each changes some rules of one list, but none of its verdicts.
+ghost use Rattle.std.specs.Prelude.{◌≡◌, IfOk, OnOk, false, true};
+ghost use Rattle.robots_same.specs.Internal.{IsAnswer, Leads, chosen};
 
 use crate::compare::Comparison;
 use crate::pool::Entry;
-use crate::refine::{compare_pool, differ_on};
+use crate::refine::{compare_pool, differ_on, refined};
+use crate::search::spend;
 use std::alloc::{AllocError, Global};
 
-/// Whether one list has the rule, or if they are joined, whether one of both has it.
-fn has(entry: &Entry<'_>, new: bool, are_joined: bool) -> bool
-    ensures { result ≡ (if are_joined then entry.now.old || entry.now.new else is_in new entry.now) }
-{
-    if are_joined {
-        entry.old || entry.new
-    } else {
-        entry.is_in(new)
-    }
-}
+/// At most so many rounds of steps are tried.
+const ROUNDS: usize = 64;
 
-/// One list with the other one's rules above this position; and that list with the rule at it, too.
-fn stage<'a>(
+/// If no more rules are in one list alone, all are changed in the first step.
+const FEW: usize = 5;
+
+/// A list between both: two pools, of the old list and this one, and of this and the new one. The rules from
+/// one position to another are those of the new list, and the others those of the old one, or contrariwise.
+fn split<'a>(
     alloc: Global,
     pool: &[Entry<'a>],
-    new: bool,
-    at: usize,
-) -> Result<Vec<Entry<'a>>, AllocError>
-    ensures old { IfOk result (λ made. chosen true false made.items ≡ joined new pool.now (at + 1)) }
-    ensures new { IfOk result (λ made. chosen true true made.items ≡ joined new pool.now at) }
+    from: usize,
+    to: usize,
+    others_new: bool,
+) -> Result<(Vec<Entry<'a>>, Vec<Entry<'a>>), AllocError>
+    ensures old { IfOk result (λ made. chosen true false made.0.items ≡ chosen true false pool.now) }
+    ensures between { IfOk result (λ made. chosen true true made.0.items ≡ chosen true false made.1.items) }
+    ensures new { IfOk result (λ made. chosen true true made.1.items ≡ chosen true true pool.now) }
 {
-    let mut made = Vec::new(alloc);
+    let mut first = Vec::new(alloc);
+    let mut second = Vec::new(alloc);
     for (k, entry) in pool.iter().enumerate() {
-        let before = has(entry, new, k > at);
-        let after = has(entry, new, k >= at);
-        made.push(entry.copy(before, after, false))?;
+        let between = entry.is_in((from <= k && k < to) != others_new);
+        first.push(entry.copy(entry.old, between, false))?;
+        second.push(entry.copy(between, entry.new, false))?;
     }
-    Ok(made)
+    Ok((first, second))
 }
 
-/// Whether the rule at this position changes no verdict, if the other list has it alone.
-fn compare_step(
+/// Changes these rules in one of the lists, if that changes no verdict. Else both lists may differ on the text
+/// that was found.
+#[tactic(auto, using(crate::proofs::PoolLemmas::old_leads, crate::proofs::PoolLemmas::new_leads))]
+fn step<'a>(
     alloc: Global,
-    pool: &[Entry<'_>],
+    pool: &mut Vec<Entry<'a>>,
     front: &[u8],
-    new: bool,
-    at: usize,
+    from: usize,
+    to: usize,
+    of_new: bool,
     budget: &mut usize,
 ) -> Result<Comparison, AllocError>
-    requires { at < length pool.now }
-    ensures { IfOk result (IfSame (AgreeNext front.now new pool.now at)) }
+    ensures leads { OnOk result (Leads front.now pool.new.items pool.old.items) }
+    ensures answer { IfOk result (IsAnswer front.now pool.new.items) }
 {
-    let entry = &pool[at];
-    let either = has(entry, new, true);
-    let own = has(entry, new, false);
-    if either == own {
-        return Ok(Comparison::Same);
+    if !spend(budget, pool.len()) {
+        return Ok(Comparison::Undecided);
     }
-    let staged = stage(alloc, pool, new, at)?;
-    let answer = compare_pool(alloc, staged, front, budget)?;
-    Ok(answer)
-}
-
-/// Whether one list has the same verdicts with the other one's rules added.
-fn compare_joined(
-    alloc: Global,
-    pool: &[Entry<'_>],
-    front: &[u8],
-    new: bool,
-    budget: &mut usize,
-) -> Result<Comparison, AllocError>
-    ensures { IfOk result (IfSame (AgreeJoined front.now new pool.now 0)) }
-{
-    let mut k = pool.len();
-    while k > 0 {
-        k -= 1;
-        match compare_step(alloc, pool, front, new, k, budget)? {
-            Comparison::Same => {}
-            answer => return Ok(answer),
+    let (first, second) = split(alloc, pool, from, to, of_new)?;
+    let answer = if of_new {
+        let answer = compare_pool(alloc, second, front, budget)?;
+        if matches!(answer, Comparison::Same) {
+            *pool = first;
         }
-    }
-    Ok(Comparison::Same)
-}
-
-fn tried(
-    alloc: Global,
-    pool: &[Entry<'_>],
-    front: &[u8],
-    text: Vec<u8>,
-) -> Result<Comparison, AllocError>
-    ensures { IfOk result (IsAnswer front.now pool.now) }
-{
-    if differ_on(alloc, pool, front, text.as_slice())? {
-        return Ok(Comparison::Differ(text));
+        answer
+    } else {
+        let answer = compare_pool(alloc, first, front, budget)?;
+        if matches!(answer, Comparison::Same) {
+            *pool = second;
+        }
+        answer
+    };
+    if let Comparison::Differ(text) = answer {
+        if differ_on(alloc, pool, front, &text)? {
+            return Ok(Comparison::Differ(text));
+        }
     }
     Ok(Comparison::Undecided)
 }
 
-/// Each list has the same verdicts as both together, or a text on which one hasn't is tried.
-pub(crate) fn compare_by_steps(
+/// How many rules one list alone has.
+fn differences(pool: &[Entry<'_>]) -> usize {
+    pool.iter().filter(|entry| entry.old != entry.new).count()
+}
+
+/// Tries each block of so many rules, from the highest one on, in one of the lists.
+fn steps<'a>(
+    alloc: Global,
+    pool: &mut Vec<Entry<'a>>,
+    front: &[u8],
+    size: usize,
+    of_new: bool,
+    budget: &mut usize,
+) -> Result<Comparison, AllocError>
+    ensures leads { OnOk result (Leads front.now pool.new.items pool.old.items) }
+    ensures answer { IfOk result (IsAnswer front.now pool.new.items) }
+{
+    let mut to = pool.len();
+    let share = *budget / 8 / (to / size.max(1) + 1);
+    while to > 0 {
+        let from = to - size.clamp(1, to);
+        let differs = match pool.get(from..to) {
+            Some(block) => differences(block) > 0,
+            None => false,
+        };
+        if differs {
+            let mut left = share;
+            let answer = step(alloc, pool, front, from, to, of_new, &mut left)?;
+            *budget = budget.saturating_sub(share.saturating_sub(left));
+            if matches!(answer, Comparison::Differ(_)) {
+                return Ok(answer);
+            }
+        }
+        to = from;
+    }
+    Ok(Comparison::Undecided)
+}
+
+/// How much is compared when texts are tried: for each, its length times that of all patterns.
+const TRIALS: usize = 10_000_000;
+
+/// The pattern without its stars, which it matches.
+fn text_of(alloc: Global, rest: &[u8]) -> Result<Vec<u8>, AllocError> {
+    let mut text = Vec::new(alloc);
+    for byte in rest {
+        if *byte != b'*' && *byte != b'$' {
+            text.push(*byte)?;
+        }
+    }
+    Ok(text)
+}
+
+fn total_len(pool: &[Entry<'_>]) -> usize {
+    let mut total: usize = 0;
+    for entry in pool {
+        total = total.saturating_add(entry.item.rest().len());
+    }
+    total
+}
+
+/// Tries texts of rules that one list alone has, if nothing else decides.
+fn tried(alloc: Global, pool: &[Entry<'_>], front: &[u8]) -> Result<Comparison, AllocError>
+    ensures { IfOk result (IsAnswer front.now pool.now) }
+{
+    let (total, mut left) = (total_len(pool), TRIALS);
+    for entry in pool {
+        let cost = entry.item.rest().len().saturating_mul(total);
+        if cost <= left && entry.old != entry.new {
+            left -= cost;
+            let text = text_of(alloc, entry.item.rest())?;
+            if differ_on(alloc, pool, front, text.as_slice())? {
+                return Ok(Comparison::Differ(text));
+            }
+        }
+    }
+    Ok(Comparison::Undecided)
+}
+
+/// All rules at once.
+fn compare_all(
     alloc: Global,
     pool: &[Entry<'_>],
     front: &[u8],
@@ -104,14 +164,53 @@ pub(crate) fn compare_by_steps(
 ) -> Result<Comparison, AllocError>
     ensures { IfOk result (IsAnswer front.now pool.now) }
 {
-    match compare_joined(alloc, pool, front, false, budget)? {
-        Comparison::Same => {}
-        Comparison::Differ(text) => return tried(alloc, pool, front, text),
-        Comparison::Undecided => return Ok(Comparison::Undecided),
+    let copy = refined(alloc, pool, 0, b"", 0)?;
+    let answer = compare_pool(alloc, copy, front, budget)?;
+    if matches!(answer, Comparison::Undecided) {
+        return tried(alloc, pool, front);
     }
-    match compare_joined(alloc, pool, front, true, budget)? {
-        Comparison::Same => Ok(Comparison::Same),
-        Comparison::Differ(text) => tried(alloc, pool, front, text),
-        Comparison::Undecided => Ok(Comparison::Undecided),
+    Ok(answer)
+}
+
+/// How many rules the first steps change: if they aren't few, so many that all steps together stay within a
+/// part of the budget.
+fn first_size(pool: &[Entry<'_>], budget: usize) -> usize {
+    if differences(pool) <= FEW {
+        return pool.len();
     }
+    pool.len().saturating_mul(pool.len()) / (budget / 16 + 1)
+}
+
+/// Smaller and smaller blocks in both lists, and at last what is left, for which half of the budget is kept.
+pub(crate) fn compare_by_steps(
+    alloc: Global,
+    start: Vec<Entry<'_>>,
+    front: &[u8],
+    budget: &mut usize,
+) -> Result<Comparison, AllocError>
+    ensures { IfOk result (IsAnswer front.now start.entry.items) }
+{
+    let half = *budget / 2;
+    let mut left = half;
+    let mut pool = start;
+    let mut size = first_size(&pool, half);
+    let mut before = 0;
+    for round in 0..ROUNDS {
+        let of_new = round % 2 == 1;
+        let count = differences(&pool);
+        if count <= 1 || !of_new && size == 0 && count == before {
+            break;
+        }
+        let answer = steps(alloc, &mut pool, front, size, of_new, &mut left)?;
+        if matches!(answer, Comparison::Differ(_)) {
+            return Ok(answer);
+        }
+        if of_new {
+            size /= 2;
+        } else {
+            before = count;
+        }
+    }
+    *budget = budget.saturating_sub(half.saturating_sub(left));
+    compare_all(alloc, pool.as_slice(), front, budget)
 }

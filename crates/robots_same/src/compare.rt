@@ -2,13 +2,12 @@
 ghost use Rattle.std.specs.Prelude.{◌≡◌, ◌⊎◌, ◌<◌, ◌≤◌, ◌++◌, ◌∷◌, ◌||◌, IfOk, IsTrue, [], true, false};
 ghost use Rattle.std.specs.Prelude.{codes, if◌then◌else◌, length, slice_index_or};
 ghost use Rattle.texting_robots.specs.Callers.{file_lines, placed_rules, unplaced};
-ghost use Rattle.robots_same.specs.Internal.{AreAscending, Decide, IsAnswer, chosen, rank_of, robots_rule};
+ghost use Rattle.robots_same.specs.Internal.{AreAscending, Decide, chosen, rank_of, robots_rule};
 ghost use Rattle.robots_same.specs.Same.{IsComparison};
 
 use crate::chain::compare_by_steps;
 use crate::item::Item;
 use crate::pool::Entry;
-use crate::refine::{compare_pool, refined};
 use crate::rule::{Rule, rules_of};
 use crate::search::spend;
 use std::alloc::{AllocError, Global};
@@ -153,63 +152,6 @@ fn merged<'a>(
     Ok(pool)
 }
 
-/// If more rules are in one list alone, steps come first.
-const FEW: usize = 5;
-
-fn are_few(pool: &[Entry<'_>]) -> bool {
-    let mut left = FEW;
-    for entry in pool {
-        if entry.old != entry.new {
-            if left == 0 {
-                return false;
-            }
-            left -= 1;
-        }
-    }
-    true
-}
-
-/// With all rules of each list at once, or by way of both lists together.
-fn compare_one_way(
-    alloc: Global,
-    pool: &[Entry<'_>],
-    front: &[u8],
-    at_once: bool,
-    budget: &mut usize,
-) -> Result<Comparison, AllocError>
-    ensures { IfOk result (IsAnswer front.now pool.now) }
-{
-    if at_once {
-        let copy = refined(alloc, pool, 0, b"", 0)?;
-        let answer = compare_pool(alloc, copy, front, budget)?;
-        return Ok(answer);
-    }
-    let answer = compare_by_steps(alloc, pool, front, budget)?;
-    Ok(answer)
-}
-
-/// In one of the two ways, and if that is undecided, in the other one.
-fn compare_twice(
-    alloc: Global,
-    pool: &[Entry<'_>],
-    front: &[u8],
-    budget: &mut usize,
-) -> Result<Comparison, AllocError>
-    ensures { IfOk result (IsAnswer front.now pool.now) }
-{
-    let at_once = are_few(pool);
-    let half = *budget / 2;
-    let mut left = half;
-    let first = compare_one_way(alloc, pool, front, at_once, &mut left)?;
-    *budget = budget.saturating_sub(half.saturating_sub(left));
-    match first {
-        Comparison::Undecided => {}
-        answer => return Ok(answer),
-    }
-    let second = compare_one_way(alloc, pool, front, !at_once, budget)?;
-    Ok(second)
-}
-
 /// Compares them on the texts that begin with `front`: `/` for paths, or nothing for all texts. The budget is
 /// a rough bound of the search, in rules that are moved on by a byte, of which what was used is subtracted; a
 /// check afterwards takes as long again.
@@ -234,7 +176,7 @@ pub fn compare<'a>(
         return Ok(Comparison::Undecided);
     }
     let pool = merged(alloc, old_items.as_slice(), new_items.as_slice())?;
-    let answer = compare_twice(alloc, pool.as_slice(), front, budget)?;
+    let answer = compare_by_steps(alloc, pool, front, budget)?;
     Ok(answer)
 }
 

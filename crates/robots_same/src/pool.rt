@@ -1,6 +1,7 @@
 //! The rules of both lists, the lowest first.
-ghost use Rattle.std.specs.Prelude.{◌≡◌, ◌+◌, ◌∷◌, [], IfOk, List, OnOk, drop, false, true, ℕ};
-ghost use Rattle.robots_same.specs.Internal.{LeavesAgree, chosen, is_in, is_shared, last_kind, verdict};
+ghost use Rattle.std.specs.Prelude.{◌≡◌, ◌+◌, ◌∷◌, [], IfOk, IsTrue, List, OnOk, drop, false, true, ℕ};
+ghost use Rattle.robots_same.specs.Internal.{LeavesAgree, StartsAgree, chosen, is_in, is_shared, last_kind};
+ghost use Rattle.robots_same.specs.Internal.{verdict};
 
 use crate::item::Item;
 use crate::side::{Side, push};
@@ -100,7 +101,22 @@ pub(crate) fn state_of<'a>(
     })
 }
 
-/// The rule is shared, and the state above it isn't that of the next rule.
+/// A state of the rules of this kind is known above the next shared one, and all rules until then are shared.
+fn is_known(pool: &[Entry<'_>], kind: bool) -> bool
+    ensures { IsTrue result → (text : List ℕ) → LeavesAgree text pool.now → StartsAgree kind text pool.now }
+{
+    for entry in pool {
+        if !entry.is_shared() {
+            return false;
+        }
+        if entry.item.is_allow() == kind {
+            return true;
+        }
+    }
+    true
+}
+
+/// The rule is shared, and the state above it isn't that of a rule above.
 pub(crate) fn needs_state(pool: &[Entry<'_>], k: usize) -> bool
     ensures { result ≡ false → (text : List ℕ) → LeavesAgree text (drop (k + 1) pool.now)
         → LeavesAgree text (drop k pool.now) }
@@ -108,15 +124,5 @@ pub(crate) fn needs_state(pool: &[Entry<'_>], k: usize) -> bool
     if k >= pool.len() {
         return false;
     }
-    if !pool[k].is_shared() {
-        return false;
-    }
-    if k + 1 == pool.len() {
-        return true;
-    }
-    let next = &pool[k + 1];
-    if !next.is_shared() {
-        return true;
-    }
-    next.item.is_allow() != pool[k].item.is_allow()
+    pool[k].is_shared() && !is_known(&pool[k + 1..], pool[k].item.is_allow())
 }

@@ -76,7 +76,7 @@ impl<'a> Found<'a> {
         Ok(())
     }
 
-    /// Adds the state of the rules from this one on.
+    /// Adds the state of the rules from this one on. False if the budget is spent.
     fn add_first(
         &mut self,
         alloc: Global,
@@ -84,15 +84,19 @@ impl<'a> Found<'a> {
         pool: &[Entry<'a>],
         below: usize,
         start: bool,
-    ) -> Result<(), AllocError> {
-        let whole = state_of(alloc, &pool[below.min(pool.len())..], start, false)?;
-        let state = along(alloc, whole, front)?;
+        budget: &mut usize,
+    ) -> Result<bool, AllocError> {
+        let rules = &pool[below.min(pool.len())..];
+        if !spend(budget, rules.len()) {
+            return Ok(false);
+        }
+        let state = along(alloc, state_of(alloc, rules, start, false)?, front)?;
         if !self.is_settled(&state) {
             let number = self.states.len();
             self.add(state, number, 0)?;
             self.below.push(below)?;
         }
-        Ok(())
+        Ok(true)
     }
 
     /// Adds the states that a text can begin with. False if the budget is spent.
@@ -103,13 +107,13 @@ impl<'a> Found<'a> {
         pool: &[Entry<'a>],
         budget: &mut usize,
     ) -> Result<bool, AllocError> {
-        self.add_first(alloc, front, pool, 0, true)?;
+        if !self.add_first(alloc, front, pool, 0, true, budget)? {
+            return Ok(false);
+        }
         for k in 0..pool.len() {
-            if needs_state(pool, k) {
-                if !spend(budget, pool.len() - k) {
-                    return Ok(false);
-                }
-                self.add_first(alloc, front, pool, k + 1, pool[k].item.is_allow())?;
+            let kind = pool[k].item.is_allow();
+            if needs_state(pool, k) && !self.add_first(alloc, front, pool, k + 1, kind, budget)? {
+                return Ok(false);
             }
         }
         Ok(true)

@@ -156,5 +156,6 @@ run_memory left items bytes r fault read same some is answer =
 
 pub run_unread : {X P : Type 0} (r : Result X Fault) (fault : ReadFault)
     → IsErrAnd r (λ own. own ≡ fault_of_read fault) → (fault ≡ reading.Memory → P) → r ≡ Err Memory → P
+run_unread r reading.Folder is some answer = grind arith
 run_unread r reading.Read is some answer = grind arith
 run_unread r reading.Memory is some answer = some refl

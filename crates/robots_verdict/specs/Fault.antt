@@ -39,5 +39,6 @@ fault_of error.InvalidRule = InvalidRule
 fault_of error.Memory = Memory
 
 abbrev pub fault_of_read : ReadFault → Fault
+fault_of_read read.Folder = Read
 fault_of_read read.Read = Read
 fault_of_read read.Memory = Memory

@@ -92,7 +92,7 @@ impl From<ReadFault> for Fault {
 
     fn from(fault: ReadFault) -> Fault {
         match fault {
-            ReadFault::Read => Fault::Read,
+            ReadFault::Folder | ReadFault::Read => Fault::Read,
             ReadFault::Memory => Fault::Memory,
         }
     }

@@ -17,6 +17,8 @@ use Rattle.texting_robots.proofs.Shared.{each_text_has_its_lines, of_lines, site
 use Rattle.robots_warnings.specs.{Closed.closes, Internal.IsRowAt, Internal.Row}
 use Rattle.robots_warnings.specs.Closed.{is_anything, is_closing, is_rival, is_star_or_dollar, is_literally}
 use Rattle.robots_warnings.specs.Closed.{is_number, is_root, is_whole_site, opened_path, without_stars}
+use Rattle.robots_warnings.specs.Closed.{is_for, is_home, is_home_root}
+use Rattle.robots_warnings.specs.declared.closed.Part.{Part, TheVariants.Home, TheVariants.Site}
 use Rattle.robots_warnings.specs.Internal.{Rules.IsNeeded, Names.AddsName, Names.Key, Names.key_cmp, IsAt}
 use Rattle.std.proofs.Math.{Bool.or-false}
 use Rattle.robots_warnings.specs.contracts.table.{Cause.the_type}
@@ -107,6 +109,13 @@ root_stays (b ∷ pattern) root =
     subst (λ b. escaped (b ∷ pattern) ≡ b ∷ pattern) (sym (eqb-true b (byte "/") is))
     (ap (λ rest. byte "/" ∷ rest) (rest_stays pattern rest))
 
+home_root_stays : (pattern : List ℕ) → is_home_root pattern ≡ true → escaped pattern ≡ pattern
+home_root_stays [] root = refl
+home_root_stays (b ∷ pattern) root =
+    let (is, stars) = and_parts (b == byte "/") _ root in
+    subst (λ b. escaped (b ∷ pattern) ≡ b ∷ pattern) (sym (eqb-true b (byte "/") is))
+    (ap (λ rest. byte "/" ∷ rest) (stars_stay pattern stars))
+
 stars_stay_before : (pattern : List ℕ) → escaped (without_stars pattern) ≡ without_stars pattern
     → escaped pattern ≡ pattern
 stars_stay_before [] rest = refl
@@ -122,6 +131,28 @@ whole_site_stays pattern whole = elim (or_cases (is_anything pattern) _ whole) [
   | inl any ↦ anything_stays pattern any
   | inr root ↦ stars_stay_before pattern (root_stays (without_stars pattern) root)
 ]
+
+home_stays : (pattern : List ℕ) → is_home pattern ≡ true → escaped pattern ≡ pattern
+home_stays pattern home = elim (or_cases (is_anything pattern) _ home) [
+  | inl any ↦ anything_stays pattern any
+  | inr root ↦ stars_stay_before pattern (home_root_stays (without_stars pattern) root)
+]
+
+home_root_escaped : (value : List ℕ) → is_home_root (escaped value) ≡ is_home_root value
+home_root_escaped [] = refl
+home_root_escaped (b ∷ value) = elim (cases_Bool (is_escaped b)) [
+  | inl bad ↦ rw (bad, differs b (byte "/") refl bad) refl
+  | inr good ↦ rw (good, stars_escaped value) refl
+]
+
+pub part_escaped : (part : Part) (value : List ℕ) → is_for part (escaped value) ≡ is_for part value
+part_escaped Site value = whole_site_escaped value
+part_escaped Home value =
+    rw (anything_escaped value, stars_left_out value, home_root_escaped (without_stars value)) refl
+
+part_stays : (part : Part) (pattern : List ℕ) → is_for part pattern ≡ true → escaped pattern ≡ pattern
+part_stays Site pattern is = whole_site_stays pattern is
+part_stays Home pattern is = home_stays pattern is
 
 -- the sitemaps of a site are those in its lines
 pub sitemaps_read : (text : List ℕ) (urls : List (List ℕ)) → HasLines text (λ lines. AreSitemapsOf lines urls)
@@ -178,13 +209,13 @@ closed_next number f agents at item old {line} {new} {all} below of is was =
     taken true agent rest = refl
     taken false agent rest = refl
 
-pub closes_if : (is_exempt : List ℕ → Bool) (rules : List PlacedRule) (needed : ℕ) (placed : PlacedRule)
-    (value : List ℕ) → is_closing placed ≡ true → placed.rule.0 ≡ escaped value
-    → IsNeeded is_exempt rules needed → nat_le needed (length value) ≡ closes is_exempt rules placed
-closes_if is_exempt rules needed placed value closing same is =
+pub closes_if : (part : Part) (is_exempt : List ℕ → Bool) (rules : List PlacedRule) (needed : ℕ)
+    (placed : PlacedRule) (value : List ℕ) → is_closing part placed ≡ true → placed.rule.0 ≡ escaped value
+    → IsNeeded is_exempt rules needed → nat_le needed (length value) ≡ closes part is_exempt rules placed
+closes_if part is_exempt rules needed placed value closing same is =
     let (denies, whole) = and_parts _ _ closing in
-    let stays = whole_site_stays value
-    (sym (whole_site_escaped value) ∙ ap is_whole_site (sym same) ∙ whole) in
+    let stays = part_stays part value
+    (sym (part_escaped part value) ∙ ap (is_for part) (sym same) ∙ whole) in
     at_least needed (length value) _
     (sym (is placed.rule.0) ∙ ap (λ pattern. nat_lt (length pattern) needed) (same ∙ stays))
     ∙ ap (λ closing. closing && not (list_any (is_rival is_exempt placed.rule.0) rules)) (sym closing)

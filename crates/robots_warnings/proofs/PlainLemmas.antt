@@ -14,6 +14,7 @@ use Rattle.std.proofs.lemmas.Str.{IsUtf8-from_ascii, is_utf8-from_IsUtf8}
 use Rattle.robots_warnings.specs.{Internal.Plain.is_plain, Internal.Plain.is_plain_byte}
 use Rattle.robots_warnings.specs.Rules.{after_byte, before_byte, begins_dot_segment, begins_host, from_first}
 use Rattle.robots_warnings.specs.Rules.{begins_lone_percent, begins_quote, begins_sign, begins_wildcard, has}
+use Rattle.robots_warnings.specs.Rules.{begins_question_marks}
 use Rattle.robots_warnings.specs.{Rules.somewhere, Urls.begins_in_any_case, SeveralValues.begins_next_value}
 use Rattle.robots_warnings.specs.{Checks.rule_checks, Warnings.warned}
 use Rattle.robots_warnings.proofs.StepLemmas.{somewhere_first}
@@ -135,6 +136,7 @@ none_warned line text plain =
       none_after (byte "$") value refl plain,
       nothing_from begins_quote (λ b text is. grind (arith, nat_tests)) value plain,
       nowhere begins_lone_percent (λ b text is. grind (arith, nat_tests)) value plain,
+      nowhere begins_question_marks (λ b text is. grind (arith, nat_tests)) value plain,
       nowhere begins_wildcard (λ b text is. grind (arith, nat_tests)) value plain,
       nowhere begins_next_value (λ b text is. grind (arith, nat_tests)) value plain,
       nowhere begins_dot_segment segment value plain,

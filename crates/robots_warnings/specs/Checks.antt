@@ -10,6 +10,9 @@ use Rattle.robots_warnings.specs.Contents.{comment_of, has_odd_comment, has_odd_
 use Rattle.robots_warnings.specs.Contents.{is_cut_short, is_cut_to_root}
 use Rattle.robots_warnings.specs.FieldNames.{begins_inner_field, is_misspelled, is_without_colon, meant_by}
 use Rattle.robots_warnings.specs.Positions.{are_joined, is_above_agents, is_empty_group, is_other_delay}
+use Rattle.robots_warnings.specs.{Positions.is_ignored, Rules.has_question_marks, SeveralValues.has_tag}
+use Rattle.robots_warnings.specs.{Contents.is_cut, Contents.is_emptied}
+use Rattle.texting_robots.specs.Line.{delay_in}
 use Rattle.robots_warnings.specs.Positions.{is_split, name_star}
 use Rattle.robots_warnings.specs.Rules.{before_byte, begins_dot_segment, begins_wildcard, has, has_odd_start}
 use Rattle.robots_warnings.specs.Rules.{has_dollar_inside, has_more_after_dollar, has_odd_character}
@@ -29,7 +32,8 @@ file_checks facts =
     (cause.LooksLikeHtml, facts.is_html)
     ∷ (cause.LooksLikeUtf16, facts.is_utf_16)
     ∷ (cause.NoDirectives, facts.is_other_text)
-    ∷ (cause.EmptyFile, not (facts.kinds.text || facts.is_too_large))
+    ∷ (cause.EmptyFile, not (facts.kinds.text || (facts.is_too_large || facts.has_hash)))
+    ∷ (cause.OnlyComments, facts.has_hash && not (facts.kinds.text || facts.is_too_large))
     ∷ (cause.FileTooLarge, facts.is_too_large)
     ∷ (cause.NoUserAgent, facts.kinds.rule && not facts.kinds.user_agent)
     ∷ (cause.DamagedByteOrderMark, facts.has_damaged_mark)
@@ -52,13 +56,20 @@ abbrev pub raw_rule_checks : Bool → (value tail comment : List ℕ) → List C
 raw_rule_checks is_in_scope value tail comment =
     (cause.SpaceAroundValue, has_odd_space value tail)
     ∷ (cause.HashLeavesRoot, is_in_scope && is_cut_to_root value tail comment)
+    ∷ (cause.HashEmptiesRule, is_in_scope && is_emptied value tail comment)
     ∷ (cause.HashCutsRule, is_in_scope && is_cut_short value tail comment)
     ∷ []
 
+-- another field name follows
+abbrev pub is_one_line : List ℕ → Bool
+is_one_line text = has (byte ":") text && somewhere begins_inner_field text
+
 -- the value of a user-agent line
 abbrev pub user_agent_checks : List ℕ → List Check
-user_agent_checks value =
-    (cause.InvalidProductToken, not (is_product_token value) && not (is_usual_name value))
+user_agent_checks value = (
+  cause.InvalidProductToken,
+  not (is_product_token value) && not (is_usual_name value || is_one_line value),
+)
     ∷ (cause.UnusualProductToken, not (is_product_token value) && is_usual_name value)
     ∷ []
 
@@ -74,8 +85,12 @@ form_checks value =
     )
     ∷ (cause.UrlInPath, is_url_in_path value)
     ∷ (cause.UrlAsRule, begins_as_url value)
-    ∷ (cause.OddCharacter, has_odd_character value && not (holds_otherwise value || is_quoted value))
-    ∷ (cause.UnencodedCharacter, holds_otherwise value)
+    ∷ (
+      cause.OddCharacter,
+      has_odd_character value
+          && not (holds_otherwise value || (is_quoted value || (is_expression value || has_tag value))),
+    )
+    ∷ (cause.UnencodedCharacter, holds_otherwise value && not (is_expression value || has_tag value))
     ∷ (cause.QuoteAtEnd, has_quote_at_end value)
     ∷ (cause.QuotedRule, is_quoted value)
     ∷ []
@@ -89,11 +104,21 @@ content_checks value =
     ∷ (cause.DollarNotAtEnd, has_dollar_inside value)
     ∷ (cause.EscapedWildcard, somewhere begins_wildcard value)
     ∷ (cause.DotSegment, somewhere begins_dot_segment (before_byte (byte "?") value))
-    ∷ (several_values value, is_utf8 value && has_several_values value)
+    ∷ []
+
+-- what it seems to be several of
+abbrev pub plural_checks : List ℕ → List Check
+plural_checks value =
+    (cause.QuestionMarks, has_question_marks value)
+    ∷ (
+      several_values value,
+      (is_utf8 value && has_several_values value)
+          && not (is_one_line value || starts_with nat_eq value (codes "=")),
+    )
     ∷ []
 
 abbrev pub rule_checks : List ℕ → List Check
-rule_checks value = form_checks value ++ content_checks value
+rule_checks value = form_checks value ++ (content_checks value ++ plural_checks value)
 
 -- microseconds per day
 abbrev pub day : ℕ
@@ -109,7 +134,7 @@ sitemap_checks value =
 -- the tail and the comment of any line
 abbrev pub text_checks : (tail comment : List ℕ) → List Check
 text_checks tail comment =
-    (cause.OneLine, has (byte ":") tail && somewhere begins_inner_field tail)
+    (cause.OneLine, is_one_line tail)
     ∷ (cause.ControlInComment, has_odd_comment comment)
     ∷ []
 
@@ -124,6 +149,7 @@ position_checks last preceding above delay label lines =
     ∷ (cause.DelaySplitsGroup, is_split preceding above label lines && not (name_star lines))
     ∷ (cause.DelayAboveStar, is_split preceding above label lines && name_star lines)
     ∷ (cause.JoinedGroups, are_joined lines)
+    ∷ (cause.IgnoredDelay, is_ignored above (delay_in label.line))
     ∷ (cause.TwoDelays, is_other_delay delay label)
     ∷ []
 
@@ -149,7 +175,10 @@ raw_checks is_in_scope (UserAgent value) tail comment =
 raw_checks is_in_scope (Allow value) tail comment = raw_rule_checks is_in_scope value tail comment
 raw_checks is_in_scope (Disallow value) tail comment = raw_rule_checks is_in_scope value tail comment
 raw_checks is_in_scope (CrawlDelay delay) tail comment = (cause.DelayNotation, has_odd_delay tail) ∷ []
-raw_checks is_in_scope (Sitemap value) tail comment = (cause.SpaceAroundValue, has_odd_space value tail) ∷ []
+raw_checks is_in_scope (Sitemap value) tail comment =
+    (cause.SpaceAroundValue, has_odd_space value tail)
+    ∷ (cause.HashCutsSitemap, is_cut value tail comment)
+    ∷ []
 raw_checks is_in_scope (Raw content) tail comment = []
 
 -- what a directive with this content has besides its value

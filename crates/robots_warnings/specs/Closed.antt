@@ -1,16 +1,17 @@
 -- What is closed to a crawler.
 use Rattle.std.specs.Prelude.{ℕ, ◌==◌, Bool, false, not, ◌||◌, ◌&&◌, List, [], ◌∷◌, ◌++◌, Option, Some, None}
-use Rattle.std.specs.Prelude.{bytes_eq, codes, count_by, filter, if◌then◌else◌, is_some, length, nat_le}
-use Rattle.std.specs.Prelude.{nat_lt}
-use Rattle.std.specs.List.{before_first, filter_map, list_all, list_any}
+use Rattle.std.specs.Prelude.{bytes_eq, codes, count_by, drop, filter, if◌then◌else◌, is_none, is_some}
+use Rattle.std.specs.Prelude.{length, nat_eq, nat_le, nat_lt}
+use Rattle.std.specs.List.{before_first, filter_map, list_all, list_any, starts_with}
 use Rattle.std.specs.Str.{byte, str_eq_ignore_ascii_case, str_to_ascii_lowercase}
 use Rattle.texting_robots.specs.Callers.{LineValue, PlacedRule, is_named, placed_rules, prepared, robots_file}
 use Rattle.texting_robots.specs.Callers.{sitemaps_in, Label}
-use Rattle.robots_warnings.specs.{declared.closed.TheConstants.SEARCH_ENGINES, declared.closed.Reach.Reach}
+use Rattle.robots_warnings.specs.declared.closed.{TheConstants.SEARCH_ENGINES, Part.Part}
+use Rattle.robots_warnings.specs.declared.closed.Part.TheVariants.{Home, Site}
+use Rattle.robots_warnings.specs.declared.site_patterns.TheConstants.{STATIC_FILES, WELL_KNOWN}
 use Rattle.robots_warnings.specs.{Conflicts.first_line, File.lines_of, declared.positions.Preceding.Preceding}
 use Rattle.robots_warnings.specs.Crawlers.{meant, other_group, ends_token}
-use Rattle.robots_warnings.specs.Rules.{begins_oddly, has_dollar_inside}
-use Rattle.robots_warnings.specs.declared.closed.Reach.TheVariants.{Everything, Nothing, Part}
+use Rattle.robots_warnings.specs.Rules.{begins_oddly, has_dollar_inside, somewhere}
 use Rattle.texting_robots.specs.Group.{is_agent, is_group}
 use Rattle.robots_warnings.specs.declared.positions.Preceding.TheVariants.{Agent, Delay, Other}
 use Rattle.robots_warnings.specs.Positions.{begin_with_one, name_star, preceding_with}
@@ -38,9 +39,39 @@ without_stars (b ∷ pattern) = if b == byte "*" then without_stars pattern else
 abbrev pub is_whole_site : List ℕ → Bool
 is_whole_site pattern = is_anything pattern || is_root (without_stars pattern)
 
--- a Disallow of the whole site
-abbrev pub is_closing : PlacedRule → Bool
-is_closing placed = not placed.rule.1 && is_whole_site placed.rule.0
+-- `/`, and then only stars and `$`
+abbrev pub is_home_root : List ℕ → Bool
+is_home_root [] = false
+is_home_root (b ∷ pattern) = b == byte "/" && list_all is_star_or_dollar pattern
+
+-- it matches the path `/`, as `/$` does, and each pattern of the whole site
+abbrev pub is_home : List ℕ → Bool
+is_home pattern = is_anything pattern || is_home_root (without_stars pattern)
+
+-- it is for this part of the site
+abbrev pub is_for : Part → List ℕ → Bool
+is_for Site pattern = is_whole_site pattern
+is_for Home pattern = is_home pattern
+
+-- a Disallow of this part
+abbrev pub is_closing : Part → PlacedRule → Bool
+is_closing part placed = not placed.rule.1 && is_for part placed.rule.0
+
+abbrev pub is_file_end : ℕ → Bool
+is_file_end b = is_star_or_dollar b || b == byte "?"
+
+-- such an end of a file's name, and then only stars, `$` and `?`
+abbrev pub is_name_end : List ℕ → List ℕ → Bool
+is_name_end text end = starts_with nat_eq text end && list_all is_file_end (drop (length end) text)
+
+abbrev pub begins_name_end : List ℕ → Bool
+begins_name_end text = list_any (λ end. is_name_end text end.now) STATIC_FILES
+
+-- only static files, paths that are known to every crawler, or the home page and no other one
+abbrev pub opens_little : List ℕ → Bool
+opens_little pattern =
+    (somewhere begins_name_end pattern || bytes_eq pattern (codes "/$"))
+    || list_any (λ start. starts_with nat_eq pattern start.now) WELL_KNOWN
 
 -- it has no slash or star at its start, or a `$` that isn't at its end
 abbrev pub matches_no_path : List ℕ → Bool
@@ -52,29 +83,20 @@ is_rival is_exempt pattern placed =
     (placed.rule.1 && not (is_exempt placed.rule.0 || matches_no_path placed.rule.0))
     && nat_le (length pattern) (length placed.rule.0)
 
--- a Disallow of the whole site without a rival among these rules
-abbrev pub closes : (is_exempt : List ℕ → Bool) → List PlacedRule → PlacedRule → Bool
-closes is_exempt rules placed =
-    is_closing placed && not (list_any (is_rival is_exempt placed.rule.0) rules)
+-- a Disallow of this part of the site without a rival among these rules
+abbrev pub closes : Part → (is_exempt : List ℕ → Bool) → List PlacedRule → PlacedRule → Bool
+closes part is_exempt rules placed =
+    is_closing part placed && not (list_any (is_rival is_exempt placed.rule.0) rules)
 
--- the line of the first of these rules that does
-abbrev pub closing_line : (is_exempt : List ℕ → Bool) → List PlacedRule → Option ℕ
-closing_line is_exempt rules = first_line (closes is_exempt rules) rules
+-- the patterns of Allows that leave this part closed, if those are exempt that open what crawlers may fetch
+-- of a closed site
+abbrev pub leaves_closed : Part → (is_exempt : List ℕ → Bool) → List ℕ → Bool
+leaves_closed Site is_exempt pattern = is_exempt pattern || opens_little pattern
+leaves_closed Home is_exempt pattern = not (is_home pattern)
 
-abbrev pub is_allow : PlacedRule → Bool
-is_allow placed = placed.rule.1
-
--- what a crawler may fetch. `Everything` is only said if each rule is an Allow, and `Nothing` if one closes
--- the site and no Allow is exempt; `Part` says nothing
-abbrev pub reach_by : List PlacedRule → Reach
-reach_by rules =
-    if list_all is_allow rules then Everything
-    else if is_some (closing_line (λ pattern. false) rules) then Nothing else Part
-
--- nothing is said of a crawler to which its vendor applies another group
-abbrev pub reach_of : List LineValue → List ℕ → Reach
-reach_of lines agent =
-    if is_some (other_group lines agent) then Part else reach_by (placed_rules agent lines)
+-- the line of the first of these rules that closes this part
+abbrev pub closing_line : Part → (is_exempt : List ℕ → Bool) → List PlacedRule → Option ℕ
+closing_line part is_exempt rules = first_line (closes part (leaves_closed part is_exempt) rules) rules
 
 -- literally this path, with or without `$`: the path has no star or `$`
 abbrev pub is_literally : List ℕ → List ℕ → Bool
@@ -93,28 +115,52 @@ opened_paths lines = robots_file ∷ filter_map opened_path (sitemaps_in lines)
 abbrev pub is_exempt : List LineValue → List ℕ → Bool
 is_exempt lines pattern = list_any (is_literally pattern) (opened_paths lines)
 
--- ---- `closes-everything`
+-- ---- `closes-everything` and `closes-home-page`
 
--- the line of the first rule that closes the site to the crawler; none if its vendor applies another group,
--- or if a line has its name and another one is probably meant: the group may be of no crawler
-abbrev pub line_closing : List LineValue → List ℕ → Option ℕ
-line_closing lines agent =
+-- the line of the first rule that closes this part of the site to the crawler; none if its vendor applies
+-- another group, or if a line has its name and another one is probably meant: the group may be of no crawler
+abbrev pub part_closing : Part → List LineValue → List ℕ → Option ℕ
+part_closing part lines agent =
     if is_some (other_group lines agent) || (is_named agent lines && is_some (meant agent)) then None
-    else closing_line (is_exempt lines) (placed_rules agent lines)
+    else closing_line part (is_exempt lines) (placed_rules agent lines)
+
+abbrev pub line_closing : List LineValue → List ℕ → Option ℕ
+line_closing lines agent = part_closing Site lines agent
+
+-- the name is that of a large search engine, possibly with a version
+abbrev pub is_engine : List ℕ → Bool
+is_engine agent =
+    list_any (λ name. str_eq_ignore_ascii_case name.now (before_first ends_token agent)) SEARCH_ENGINES
+
+-- the crawler is `*`, or no line names it
+abbrev pub is_any : List LineValue → List ℕ → Bool
+is_any lines agent = bytes_eq agent (codes "*") || not (is_named agent lines)
+
+-- a group of its own leaves the site open to this crawler
+unfoldable pub is_let_in : List LineValue → List ℕ → Bool
+is_let_in lines name = is_named name lines && is_none (line_closing lines name)
+
+abbrev pub lets_in : List LineValue → Bool
+lets_in lines = list_any (λ name. is_let_in lines name.now) SEARCH_ENGINES
+
+-- a closed site is a mistake more often than not: `let_in` if a large search engine may fetch it
+abbrev pub is_major : (let_in : Bool) → List LineValue → List ℕ → Bool
+is_major let_in lines agent = is_engine agent || (not let_in && is_any lines agent)
+
+-- the line that is reported: of the home page alone only to crawlers to which it matters
+abbrev pub line_reported : Part → List LineValue → List ℕ → Option ℕ
+line_reported Home lines agent =
+    if is_some (line_closing lines agent) || not (is_major false lines agent) then None
+    else part_closing Home lines agent
+line_reported Site lines agent = line_closing lines agent
 
 abbrev pub is_number : ℕ → Option ℕ → Bool
 is_number number None = false
 is_number number (Some line) = line == number
 
-abbrev pub closed_at : List LineValue → List (List ℕ) → ℕ → List (List ℕ)
-closed_at lines agents number = filter (λ agent. is_number number (line_closing lines agent)) agents
-
--- the crawler is `*`, or no line names it, or it is that of a large search engine, possibly with a version
-abbrev pub is_major : List LineValue → List ℕ → Bool
-is_major lines agent =
-    bytes_eq agent (codes "*")
-    || (not (is_named agent lines)
-    || list_any (λ name. str_eq_ignore_ascii_case name.now (before_first ends_token agent)) SEARCH_ENGINES)
+abbrev pub closed_at : Part → List LineValue → List (List ℕ) → ℕ → List (List ℕ)
+closed_at part lines agents number =
+    filter (λ agent. is_number number (line_reported part lines agent)) agents
 
 -- ---- Groups of crawlers that have none of the Disallow rules of `*`.
 

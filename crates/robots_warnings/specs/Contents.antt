@@ -1,9 +1,9 @@
 -- What the content of a directive has besides its value: white space, a comment, and the text of a delay. Raw
 -- values are those of directives with a colon.
 use Rattle.std.specs.Prelude.{ℕ, ◌==◌, nat_eq, Bool, not, ◌||◌, ◌&&◌, List, bytes_eq, codes, drop, length}
-use Rattle.std.specs.Prelude.{nat_lt}
+use Rattle.std.specs.Prelude.{nat_lt, slice_index}
 use Rattle.std.specs.List.{ends_with, list_all, list_any, position_or_len, starts_with}
-use Rattle.std.specs.{Char.is_ascii_digit, Str.byte, Str.is_utf8}
+use Rattle.std.specs.{Char.is_ascii_alphanumeric, Char.is_ascii_digit, Str.byte, Str.is_utf8}
 use Rattle.robots_warnings.specs.FieldNames.{without_end, without_front}
 use Rattle.robots_warnings.specs.Rules.{after_byte, before_byte, begins_oddly, has}
 use Rattle.robots_warnings.specs.{Closed.is_whole_site, File.hash, File.tab}
@@ -36,6 +36,11 @@ abbrev pub is_cut_to_root : (value tail comment : List ℕ) → Bool
 is_cut_to_root value tail comment =
     let is_path = starts_with nat_eq comment (codes "#/") || starts_with nat_eq comment (codes "#!/") in
     (is_cut value tail comment || (is_path && length (raw_value tail) == 0)) && is_whole_site value
+
+-- the same if a comment that isn't a path, such as `#top`, is in place of the value
+abbrev pub is_emptied : (value tail comment : List ℕ) → Bool
+is_emptied value tail comment =
+    (length (raw_value tail) == 0 && is_whole_site value) && is_ascii_alphanumeric (slice_index comment 1)
 
 -- a rule that is read and matches some paths, but not the whole site, is left
 abbrev pub is_cut_short : (value tail comment : List ℕ) → Bool

@@ -120,6 +120,9 @@ other_group lines agent =
 unfoldable pub wrong_names : List Row
 wrong_names = map (λ row. (row.0.now, row.1.now)) WRONG_NAMES
 
+abbrev pub is_wrong : List ℕ → Bool
+is_wrong name = is_some (name_for name wrong_names)
+
 -- after how many edits a name is still recognized
 abbrev pub most_edits : List ℕ → ℕ
 most_edits name = if nat_lt (length name) 5 then 0 else if nat_lt (length name) 9 then 1 else 2
@@ -146,11 +149,6 @@ abbrev pub meant : List ℕ → Option ℕ
 meant value =
     if is_known value || is_known (before_first ends_token value) then None
     else position_from (is_meant value (unwrap_or (name_for value wrong_names) [])) 0 crawlers
-
--- the same for any line
-abbrev pub meant_in : LineValue → Option ℕ
-meant_in (UserAgent value) = meant value
-meant_in _ = None
 
 -- ---- Crawlers that a file names only past the size limit.
 

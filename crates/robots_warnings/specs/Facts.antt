@@ -1,11 +1,11 @@
 -- What the warnings have to know about a file as a whole.
 use Rattle.std.specs.Prelude.{ℕ, ◌==◌, Bool, true, false, nat_eq, nat_le, nat_lt, not, ◌||◌, ◌&&◌, List, []}
 use Rattle.std.specs.Prelude.{◌∷◌, codes, drop, if◌then◌else◌, length, slice_index, take}
-use Rattle.std.specs.List.{list_any, starts_with}
+use Rattle.std.specs.{List.list_any, List.starts_with, Str.byte}
 use Rattle.texting_robots.specs.Callers.{Allow, Disallow, LineValue, Label, Raw, UserAgent, file_limit}
 use Rattle.texting_robots.specs.{Cut.cr, Cut.lf, Group.is_agent}
 use Rattle.robots_warnings.specs.declared.facts.{FileFacts.FileFacts, LineKinds.LineKinds}
-use Rattle.robots_warnings.specs.File.{is_blank, lines_of, space, tab}
+use Rattle.robots_warnings.specs.{File.is_blank, File.lines_of, File.space, File.tab, Rules.has}
 
 abbrev pub has_text : LineValue → Bool
 has_text (Raw body) = not (is_blank body)
@@ -98,6 +98,7 @@ facts_of file labels =
       has_cut_line = has_cut_line file;
       has_damaged_mark = has_damaged_mark file;
       has_nul = has_nul file;
+      has_hash = has (byte "#") file;
     }
 
 -- the file seems to be something else than a robots.txt file, so that each of its lines would cause a warning

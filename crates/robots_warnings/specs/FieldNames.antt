@@ -10,7 +10,7 @@ use Rattle.texting_robots.specs.{Statement.field_names, declared.parser.statemen
 use Rattle.robots_warnings.specs.{File.hash, File.space, File.tab, Urls.begins_as_url, Crawlers.is_token_byte}
 use Rattle.robots_warnings.specs.{SeveralValues.begins_unseen, declared.table.Cause.Cause}
 use Rattle.robots_warnings.specs.Rules.{after_byte, before_byte, somewhere, has}
-use Rattle.robots_warnings.specs.declared.field_names.TheConstants.{DIRECTIVES, KINDS, UNSUPPORTED}
+use Rattle.robots_warnings.specs.declared.field_names.TheConstants.{DIRECTIVES, KINDS, OTHER_FORMS, UNSUPPORTED}
 use Rattle.robots_warnings.specs.declared.table.Cause.TheVariants.{HostName, InvalidDelay, UnrecognizedLine}
 use Rattle.robots_warnings.specs.declared.table.Cause.TheVariants.{EqualsSign, UnseenInName}
 use Rattle.texting_robots.specs.declared.parser.statement.Kind.TheVariants as kind
@@ -73,6 +73,10 @@ directives = map (λ row. (row.0.now, row.1)) DIRECTIVES
 abbrev pub unsupported : List Row
 unsupported = map (λ row. (row.0.now, row.1)) UNSUPPORTED
 
+-- other forms of the usual ones
+abbrev pub other_forms : List Row
+other_forms = map (λ row. (row.0.now, row.1)) OTHER_FORMS
+
 -- the warning for the first of these names that passes the test
 abbrev pub first_that : (List ℕ → Bool) → List Row → Option Cause
 first_that test rows = option_map (λ (row : Row). row.1) (find (λ (row : Row). test row.0) rows)
@@ -86,6 +90,9 @@ may_either_mean name word known = may_mean known name || may_mean known word
 -- for a name that other crawlers support or supported, if one of the tokens is such a name
 abbrev pub unsupported_in : List ℕ → List ℕ → Option Cause
 unsupported_in name word = first_that (is_either name word) unsupported
+
+abbrev pub other_form_in : List ℕ → Option Cause
+other_form_in name = first_that (is_either name name) other_forms
 
 -- for a directive, if one of the tokens seems to mean its usual field name
 abbrev pub directive_in : List ℕ → List ℕ → Option Cause
@@ -106,8 +113,8 @@ abbrev pub is_any_accepted : List ℕ → Bool
 is_any_accepted word = list_any (λ kind. is_accepted kind word) KINDS
 
 -- for an invisible character in the first word before the colon, for `=` after the name of a directive, for
--- an invalid delay, for the name of a host, for a name that other crawlers support or supported, for a
--- directive, or else for an unrecognized line
+-- an invalid delay, for the name of a host, for a name that other crawlers support or supported, for another
+-- form of a directive's name, for a directive, or else for an unrecognized line
 abbrev pub meant_by : List ℕ → Cause
 meant_by body =
     let name = name_in body in
@@ -116,7 +123,8 @@ meant_by body =
     else (if has (byte "=") body && is_any_accepted (name_before (byte "=") body) then EqualsSign
     else (if is_accepted kind.CrawlDelay name || is_accepted kind.CrawlDelay word then InvalidDelay
     else (if (is_name (codes "host") name || is_name (codes "host") word) && has_host body then HostName
-    else unwrap_or (option_or (unsupported_in name word) (directive_in name word)) UnrecognizedLine)))
+    else unwrap_or (option_or (unsupported_in name word) (option_or (other_form_in name)
+    (directive_in name word))) UnrecognizedLine)))
 
 -- the line starts with none of the usual names
 abbrev pub is_misspelled : List ℕ → Bool

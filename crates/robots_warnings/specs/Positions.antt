@@ -8,6 +8,9 @@ use Rattle.texting_robots.specs.declared.labels.Membership.{Membership, TheVaria
 use Rattle.robots_warnings.specs.declared.positions.Preceding.{Preceding}
 use Rattle.robots_warnings.specs.declared.positions.Preceding.TheVariants.{Agent, Delay, Other}
 use Rattle.robots_warnings.specs.{Facts.has_text, Facts.is_rule, File.hash, File.is_blank, Rules.has}
+use Rattle.robots_warnings.specs.{Rules.somewhere, FieldNames.begins_with}
+use Rattle.robots_warnings.specs.declared.positions.TheConstants.{IGNORE_DELAYS}
+use Rattle.std.specs.List.{list_any}
 
 -- what precedes the next line: a user-agent line with no rule or delay after it, with only delays, or neither
 abbrev pub preceding_with : Preceding → LineValue → Preceding
@@ -111,6 +114,14 @@ are_different _ _ = false
 abbrev pub is_other_delay : Option ℕ → Label → Bool
 is_other_delay first label =
     not (is_outside label.membership) && are_different first (delay_in label.line)
+
+abbrev pub begins_ignoring : List ℕ → Bool
+begins_ignoring text = list_any (λ part. begins_with part.now text) IGNORE_DELAYS
+
+-- a crawler with this name ignores the delay
+abbrev pub is_ignored : (name : Option (List ℕ)) → (delay : Option ℕ) → Bool
+is_ignored (Some name) (Some delay) = somewhere begins_ignoring name
+is_ignored _ _ = false
 
 -- a user-agent line with no rule or delay after it
 abbrev pub is_empty_group : Option ℕ → Label → Bool

@@ -119,6 +119,12 @@ is_expression value =
     || (ends_with nat_eq value (codes ".+")
     || (ends_with nat_eq value (codes "]+") || ends_with nat_eq value (codes ")+")))))
 
+abbrev pub begins_question_marks : List ℕ → Bool
+begins_question_marks text = starts_with nat_eq text (codes "??")
+
+abbrev pub has_question_marks : List ℕ → Bool
+has_question_marks value = somewhere begins_question_marks value
+
 -- a byte other than a star or `$` occurs after the first `$`
 abbrev pub has_dollar_inside : List ℕ → Bool
 has_dollar_inside value =

@@ -35,10 +35,10 @@ begins_unseen text =
     || ((first == 0xE2 && ((second == 0x80 && third == 0x8B) || (second == 0x81 && third == 0xA0)))
     || (first == 0xEF && (second == 0xBB && third == 0xBF)))
 
--- a comma, and then a path or `http`
+-- a comma or a semicolon, and then a path or `http`
 abbrev pub begins_list : List ℕ → Bool
 begins_list text =
-    slice_index text 0 == byte ","
+    (slice_index text 0 == byte "," || slice_index text 0 == byte ";")
     && (starts_with nat_eq (drop 1 text) (codes "/") || starts_with nat_eq (drop 1 text) (codes "http"))
 
 -- a tag of HTML: `<` and a letter, `/` or `!`
@@ -47,6 +47,9 @@ begins_tag text =
     let second = slice_index text 1 in
     slice_index text 0 == byte "<"
     && (is_ascii_alphabetic second || (second == byte "/" || second == byte "!"))
+
+abbrev pub has_tag : List ℕ → Bool
+has_tag value = somewhere begins_tag value
 
 -- the text starts with one of these
 abbrev pub begins_next_value : List ℕ → Bool

@@ -1,24 +1,28 @@
 -- All warnings about a file and a request, in the order of output.
 use Rattle.std.specs.Prelude.{ℕ, ◌==◌, Bool, true, List, [], ◌∷◌, ◌++◌, ◌&&◌, Option, Some, None, map}
-use Rattle.std.specs.Prelude.{flat_map, if◌then◌else◌, length, not, ◌||◌, ◌+◌, filter, slice_get}
-use Rattle.texting_robots.specs.Callers.{LineValue, Label, is_named}
+use Rattle.std.specs.Prelude.{flat_map, if◌then◌else◌, length, not, ◌||◌, ◌+◌, filter, is_some, slice_get}
+use Rattle.std.specs.Option.{option_or}
+use Rattle.texting_robots.specs.Callers.{LineValue, Label, UserAgent, is_named}
 use Rattle.robots_warnings.specs.{declared.facts.FileFacts.FileFacts, Facts.suppresses_line_warnings}
 use Rattle.robots_warnings.specs.{File.is_in_scope_of, File.lines_of, Repeated.repeated, Spellings.unpaired}
 use Rattle.robots_warnings.specs.declared.positions.Preceding.{Preceding, TheVariants.Other}
 use Rattle.robots_warnings.specs.declared.table.Cause.{Cause, TheVariants.AllowedAndDisallowed}
 use Rattle.robots_warnings.specs.declared.table.Cause.TheVariants.{ClosesEverything, CutLine, EmptyDisallow}
+use Rattle.robots_warnings.specs.declared.table.Cause.TheVariants.{ClosesHome, ClosesHomeToOthers, WrongName}
 use Rattle.robots_warnings.specs.declared.table.Cause.TheVariants.{EscapedDelimiter, ClosesSite, RepeatedRule}
 use Rattle.robots_warnings.specs.declared.table.Cause.TheVariants.{GoogleIgnoresStar, GooglebotGroup}
 use Rattle.robots_warnings.specs.declared.table.Cause.TheVariants.{GroupPastSizeLimit, MisspelledName}
 use Rattle.robots_warnings.specs.declared.table.Cause.TheVariants.{NonstandardEscape, ReplacesStar}
 use Rattle.robots_warnings.specs.declared.warning.Detail.{Detail}
 use Rattle.robots_warnings.specs.declared.warning.Detail.TheVariants.{Group, Line, Meant, Others, Rules}
-use Rattle.robots_warnings.specs.Crawlers.{Row, crawlers, gets_other, is_given, meant, meant_in}
+use Rattle.robots_warnings.specs.Crawlers.{Row, crawlers, gets_other, is_given, is_wrong, meant}
 use Rattle.robots_warnings.specs.Crawlers.{names_past_limit}
 use Rattle.robots_warnings.specs.Checks.{Check, file_checks, line_checks, position_checks, url_checks}
 use Rattle.robots_warnings.specs.Message.{WarningValue}
 use Rattle.robots_warnings.specs.Positions.{first_delay, last_group, preceding_with, sole_name}
-use Rattle.robots_warnings.specs.Closed.{replacing, star_count, closed_at, is_major}
+use Rattle.robots_warnings.specs.Closed.{replacing, star_count, closed_at, is_major, lets_in}
+use Rattle.robots_warnings.specs.{declared.closed.Part.Part, declared.closed.Part.TheVariants.Home}
+use Rattle.robots_warnings.specs.declared.closed.Part.TheVariants.{Site}
 use Rattle.robots_warnings.specs.Conflicts.{conflict, overruled, is_empty_at}
 use Rattle.robots_warnings.specs.declared.spellings.Spelling.TheVariants.{Plain, Standard}
 
@@ -87,22 +91,30 @@ past_limit_warnings facts file labels =
 abbrev pub others : ℕ → Option Detail
 others count = if count == 0 then None else Some (Others count)
 
--- a line closes the site to this crawler and to so many others: the warning names the first major one
-abbrev pub closing_warning : ℕ → List ℕ → ℕ → (major : Option (List ℕ)) → WarningValue
-closing_warning number agent count None =
-    record { line = Some number; cause = ClosesEverything; about = Some agent; detail = others count }
-closing_warning number agent count (Some major) =
-    record { line = Some number; cause = ClosesSite; about = Some major; detail = others count }
+abbrev pub closing_cause : Part → (is_major : Bool) → Cause
+closing_cause Home is_major = if is_major then ClosesHome else ClosesHomeToOthers
+closing_cause Site is_major = if is_major then ClosesSite else ClosesEverything
 
-abbrev pub closing_warnings : List LineValue → ℕ → List (List ℕ) → List WarningValue
-closing_warnings lines number [] = []
-closing_warnings lines number (agent ∷ agents) =
-    let major = slice_get (filter (is_major lines) (agent ∷ agents)) 0 in
-    closing_warning number agent (length agents) major ∷ []
+-- a line closes this part of the site to these crawlers: the warning names the first major one
+abbrev pub closing_warnings : Part → (let_in : Bool) → List LineValue → ℕ → List (List ℕ) → List WarningValue
+closing_warnings part let_in lines number [] = []
+closing_warnings part let_in lines number (agent ∷ agents) =
+    let major = slice_get (filter (is_major let_in lines) (agent ∷ agents)) 0 in
+    record {
+      line = Some number;
+      cause = closing_cause part (is_some major);
+      about = option_or major (Some agent);
+      detail = others (length agents);
+    } ∷ []
+
+abbrev pub part_warnings : Part → List (List ℕ) → List LineValue → List Label → List WarningValue
+part_warnings part agents lines labels =
+    flat_map (λ label. closing_warnings part (lets_in lines) lines label.number
+    (closed_at part lines agents label.number)) labels
 
 abbrev pub site_warnings : List (List ℕ) → List LineValue → List Label → List WarningValue
 site_warnings agents lines labels =
-    flat_map (λ label. closing_warnings lines label.number (closed_at lines agents label.number)) labels
+    part_warnings Site agents lines labels ++ part_warnings Home agents lines labels
 
 abbrev pub rule_warnings : (allow disallow : ℕ → Option ℕ) → ℕ → List WarningValue
 rule_warnings allow disallow number =
@@ -116,15 +128,23 @@ crawler_warnings is_empty agents lines labels = flat_map
     (λ label. rule_warnings (conflict is_empty agents lines) (overruled is_empty agents lines) label.number)
     labels
 
--- about a line or a name, if there is a known crawler that may be meant
-abbrev pub warned_of_name : (line : Option ℕ) → (about : Option (List ℕ)) → (meant : Option ℕ)
+abbrev pub warned_of_meant : (line : Option ℕ) → (about : Option (List ℕ)) → Cause → (meant : Option ℕ)
     → List WarningValue
-warned_of_name line about None = []
-warned_of_name line about (Some crawler) =
-    record { line = line; cause = MisspelledName; about = about; detail = Some (Meant crawler) } ∷ []
+warned_of_meant line about cause None = []
+warned_of_meant line about cause (Some crawler) =
+    record { line = line; cause = cause; about = about; detail = Some (Meant crawler) } ∷ []
+
+-- about a line or a crawler with this name, if there is a known crawler that may be meant
+abbrev pub warned_of_name : (line : Option ℕ) → (about : Option (List ℕ)) → List ℕ → List WarningValue
+warned_of_name line about name =
+    warned_of_meant line about (if is_wrong name then WrongName else MisspelledName) (meant name)
+
+abbrev pub line_name_warning : ℕ → LineValue → List WarningValue
+line_name_warning number (UserAgent name) = warned_of_name (Some number) None name
+line_name_warning number _ = []
 
 abbrev pub name_warning : Label → List WarningValue
-name_warning label = warned_of_name (Some label.number) None (meant_in label.line)
+name_warning label = line_name_warning label.number label.line
 
 abbrev pub name_warnings : List Label → List WarningValue
 name_warnings labels = flat_map name_warning labels
@@ -132,7 +152,7 @@ name_warnings labels = flat_map name_warning labels
 -- if the file doesn't name this crawler
 abbrev pub agent_warning : List LineValue → List ℕ → List WarningValue
 agent_warning lines agent =
-    if is_named agent lines then [] else warned_of_name None (Some agent) (meant agent)
+    if is_named agent lines then [] else warned_of_name None (Some agent) agent
 
 abbrev pub agent_warnings : List LineValue → List (List ℕ) → List WarningValue
 agent_warnings lines agents = flat_map (agent_warning lines) agents

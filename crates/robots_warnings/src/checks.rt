@@ -2,21 +2,21 @@
 ghost use Rattle.std.specs.Prelude.{◌≡◌, IfOk, map, option_map};
 ghost use Rattle.texting_robots.specs.Callers.{label_by_value};
 ghost use Rattle.robots_warnings.specs.FieldNames.{is_without_colon};
-ghost use Rattle.robots_warnings.specs.Checks.{content_checks, field_checks, file_checks, form_checks, position_checks, raw_rule_checks, sitemap_checks, text_checks, url_checks, user_agent_checks};
+ghost use Rattle.robots_warnings.specs.Checks.{content_checks, field_checks, file_checks, form_checks, is_one_line, plural_checks, position_checks, raw_rule_checks, sitemap_checks, text_checks, url_checks, user_agent_checks};
 ghost use Rattle.robots_warnings.specs.{File.is_in_scope_of, File.lines_of, Rules.is_expression};
 
-use crate::contents::{has_odd_comment, has_odd_space, is_cut_short, is_cut_to_root};
+use crate::contents::{has_odd_comment, has_odd_space, is_cut_short, is_cut_to_root, is_emptied};
 use crate::facts::FileFacts;
 use crate::field_names::{begins_inner_field, is_misspelled};
 use crate::positions::{
-    Preceding, are_joined, is_empty_group, is_other_delay, is_split, name_star,
+    Preceding, are_joined, is_empty_group, is_ignored, is_other_delay, is_split, name_star,
 };
 use crate::rules::{
-    before_byte, begins_dot_segment, begins_wildcard, has, has_dollar_inside,
-    has_more_after_dollar, has_odd_start, has_quote_at_end, holds_otherwise, is_only_odd,
-    is_quoted, is_url_in_path, is_utf8, somewhere,
+    has, has_dollar_inside, has_dot_segment, has_more_after_dollar, has_odd_character,
+    has_odd_start, has_question_marks, has_quote_at_end, has_wildcard, holds_otherwise, is_quoted,
+    is_url_in_path, is_utf8, somewhere,
 };
-use crate::several_values::several_values;
+use crate::several_values::{has_tag, several_values};
 use crate::table::Cause;
 use crate::targets::has_odd_target;
 use crate::tokens::{is_product_token, is_usual_name};
@@ -28,14 +28,16 @@ use texting_robots::parser::Line;
 /// A warning, and whether its condition holds.
 pub(crate) type Check = (Cause, bool);
 
-pub(crate) fn file_checks(facts: FileFacts) -> [Check; 8]
+pub(crate) fn file_checks(facts: FileFacts) -> [Check; 9]
     ensures { result ≡ file_checks facts }
 {
+    let is_empty = !(facts.kinds.text || facts.is_too_large);
     [
         (Cause::LooksLikeHtml, facts.is_html),
         (Cause::LooksLikeUtf16, facts.is_utf_16),
         (Cause::NoDirectives, facts.is_other_text),
-        (Cause::EmptyFile, !(facts.kinds.text || facts.is_too_large)),
+        (Cause::EmptyFile, is_empty && !facts.has_hash),
+        (Cause::OnlyComments, is_empty && facts.has_hash),
         (Cause::FileTooLarge, facts.is_too_large),
         (
             Cause::NoUserAgent,
@@ -69,7 +71,7 @@ pub(crate) fn raw_rule_checks(
     value: &[u8],
     tail: &[u8],
     comment: &[u8],
-) -> [Check; 3]
+) -> [Check; 4]
     ensures { result ≡ raw_rule_checks is_in_scope value.now tail.now comment.now }
 {
     [
@@ -79,10 +81,20 @@ pub(crate) fn raw_rule_checks(
             is_in_scope && is_cut_to_root(value, tail, comment),
         ),
         (
+            Cause::HashEmptiesRule,
+            is_in_scope && is_emptied(value, tail, comment),
+        ),
+        (
             Cause::HashCutsRule,
             is_in_scope && is_cut_short(value, tail, comment),
         ),
     ]
+}
+
+fn is_one_line(text: &[u8]) -> bool
+    ensures { result ≡ is_one_line text.now }
+{
+    has(b':', text) && somewhere(text, begins_inner_field)
 }
 
 pub(crate) fn user_agent_checks(value: &[u8]) -> [Check; 2]
@@ -91,7 +103,10 @@ pub(crate) fn user_agent_checks(value: &[u8]) -> [Check; 2]
     let is_other = !is_product_token(value);
     let is_usual = is_usual_name(value);
     [
-        (Cause::InvalidProductToken, is_other && !is_usual),
+        (
+            Cause::InvalidProductToken,
+            is_other && !(is_usual || is_one_line(value)),
+        ),
         (Cause::UnusualProductToken, is_other && is_usual),
     ]
 }
@@ -109,34 +124,47 @@ pub(crate) fn form_checks(value: &[u8], is_regex: bool) -> [Check; 9]
 {
     let is_odd = has_odd_start(value);
     let has_equals = value.starts_with(b"=");
+    let is_encoded_otherwise = holds_otherwise(value);
+    let is_other = is_regex | has_tag(value);
     [
         (Cause::RuleNotUtf8, !is_utf8(value)),
         (Cause::EqualsInRule, is_odd & has_equals),
         (Cause::MissingSlash, is_odd & !(has_equals | is_regex)),
         (Cause::UrlInPath, is_url_in_path(value)),
         (Cause::UrlAsRule, begins_as_url(value)),
-        (Cause::OddCharacter, is_only_odd(value)),
-        (Cause::UnencodedCharacter, holds_otherwise(value)),
+        (
+            Cause::OddCharacter,
+            has_odd_character(value) & !(is_encoded_otherwise | (is_quoted(value) | is_other)),
+        ),
+        (Cause::UnencodedCharacter, is_encoded_otherwise & !is_other),
         (Cause::QuoteAtEnd, has_quote_at_end(value)),
         (Cause::QuotedRule, is_quoted(value)),
     ]
 }
 
-pub(crate) fn content_checks(value: &[u8], is_regex: bool) -> [Check; 7]
+pub(crate) fn content_checks(value: &[u8], is_regex: bool) -> [Check; 6]
     requires { is_regex ≡ is_expression value.now }
     ensures { result ≡ content_checks value.now }
 {
     let is_odd = has_odd_start(value);
-    let has_dots = somewhere(before_byte(b'?', value), begins_dot_segment);
-    let (cause, seems_several) = several_values(value);
     [
         (Cause::RegexWithoutSlash, is_odd & is_regex),
         (Cause::RegexSyntax, !is_odd & is_regex),
         (Cause::StarAfterDollar, has_more_after_dollar(value)),
         (Cause::DollarNotAtEnd, has_dollar_inside(value)),
-        (Cause::EscapedWildcard, somewhere(value, begins_wildcard)),
-        (Cause::DotSegment, has_dots),
-        (cause, is_utf8(value) & seems_several),
+        (Cause::EscapedWildcard, has_wildcard(value)),
+        (Cause::DotSegment, has_dot_segment(value)),
+    ]
+}
+
+pub(crate) fn plural_checks(value: &[u8]) -> [Check; 2]
+    ensures { result ≡ plural_checks value.now }
+{
+    let (cause, seems_several) = several_values(value);
+    let is_other = is_one_line(value) | value.starts_with(b"=");
+    [
+        (Cause::QuestionMarks, has_question_marks(value)),
+        (cause, (is_utf8(value) & seems_several) & !is_other),
     ]
 }
 
@@ -154,9 +182,8 @@ pub(crate) fn sitemap_checks(alloc: Global, value: &[u8]) -> Result<[Check; 3], 
 pub(crate) fn text_checks(tail: &[u8], comment: &[u8]) -> [Check; 2]
     ensures { result ≡ text_checks tail.now comment.now }
 {
-    let has_field = has(b':', tail) && somewhere(tail, begins_inner_field);
     [
-        (Cause::OneLine, has_field),
+        (Cause::OneLine, is_one_line(tail)),
         (Cause::ControlInComment, has_odd_comment(comment)),
     ]
 }
@@ -170,7 +197,7 @@ pub(crate) fn position_checks(
     delay: Option<u64>,
     labeled: &LabeledLine<'_>,
     from_here: &[LabeledLine<'_>],
-) -> [Check; 6]
+) -> [Check; 7]
     ensures { result ≡ position_checks last preceding (option_map (λ name. name.now) above.entry) delay
         (label_by_value labeled.now) (lines_of (map label_by_value from_here.now)) }
 {
@@ -184,6 +211,7 @@ pub(crate) fn position_checks(
         (Cause::DelaySplitsGroup, is_split && !is_star),
         (Cause::DelayAboveStar, is_star),
         (Cause::JoinedGroups, are_joined(from_here)),
+        (Cause::IgnoredDelay, is_ignored(above, labeled.line)),
         (Cause::TwoDelays, is_other_delay(delay, labeled)),
     ]
 }

@@ -1,18 +1,20 @@
 //! Rules that leave nothing, or nearly nothing, of a site to a crawler.
 ghost use Rattle.std.specs.Prelude.{◌≡◌, ◌++◌, ◌||◌, ◌∷◌, [], Bool, IfOk, List, OnOk, bytes_eq, codes, false, filter, flat_map, if◌then◌else◌};
 ghost use Rattle.std.specs.Prelude.{is_some, length, map, nat_lt, option_map, slice_get, string_bytes, ℕ};
-ghost use Rattle.std.specs.{HashSet.contains_text, List.filter_map, List.list_all, List.list_any, Str.str_eq_ignore_ascii_case};
+ghost use Rattle.std.specs.{HashSet.contains_text, List.filter_map, List.list_any, Str.str_eq_ignore_ascii_case};
 ghost use Rattle.texting_robots.specs.Callers.{PlacedRule, file_lines, label_by_value, placed_rules};
-ghost use Rattle.robots_warnings.specs.Closed.{closed_at, closes, closing_line, is_allow, is_anything, is_closing, is_exempt};
-ghost use Rattle.robots_warnings.specs.Closed.{is_literally, is_major, is_number, is_rival, is_root, is_star_or_dollar};
-ghost use Rattle.robots_warnings.specs.Closed.{is_whole_site, line_closing, matches_no_path, opened_path};
-ghost use Rattle.robots_warnings.specs.Closed.{reach_by, reach_of, without_stars};
+ghost use Rattle.robots_warnings.specs.Closed.{closed_at, closes, closing_line, is_closing, is_exempt};
+ghost use Rattle.robots_warnings.specs.Closed.{is_for, is_let_in, is_literally, is_major, is_number, is_rival, leaves_closed};
+ghost use Rattle.robots_warnings.specs.Closed.{lets_in, line_closing, line_reported, opened_path, part_closing};
 ghost use Rattle.robots_warnings.specs.Internal.{Adds, Rules.HasExempt, Rules.IsNeeded, Rules.agents_at};
-ghost use Rattle.robots_warnings.specs.Warnings.{closing_warnings, others, site_warnings};
+ghost use Rattle.robots_warnings.specs.Warnings.{closing_cause, closing_warnings, others, part_warnings, site_warnings};
 
 use crate::crawlers::{meant, other_group};
 use crate::own_rules::own_rules;
-use crate::rules::{begins_oddly, has_dollar_inside};
+use crate::read::FileRead;
+use crate::site_patterns::{
+    has_star_or_dollar, is_home, is_whole_site, matches_no_path, opens_little,
+};
 use crate::table::Cause;
 use crate::targets::prepared;
 use crate::tokens::token_front;
@@ -28,96 +30,70 @@ type Patterns = HashSet<String>;
 type ClosedLines<'a> = BTreeMap<usize, Vec<&'a str>>;
 
 /// The crawlers of large search engines, as their documentation calls them: developers.google.com/crawling,
-/// bing.com/webmasters/help, duckduckgo.com/duckduckgo-help-pages, yandex.com/support/webmaster, help.baidu.com,
-/// support.apple.com/119829 and help.yahoo.com.
-pub(crate) const SEARCH_ENGINES: [&str; 8] = [
+/// bing.com/webmasters/help, duckduckgo.com/duckduckgo-help-pages, yandex.com/support/webmaster, help.baidu.com
+/// and help.yahoo.com. Applebot isn't among them: Apple also trains models with what it fetches
+/// (support.apple.com/119829), so lists of crawlers that train have it.
+pub(crate) const SEARCH_ENGINES: [&str; 7] = [
     "Googlebot",
     "Bingbot",
     "DuckDuckBot",
     "YandexBot",
     "Yandex",
     "Baiduspider",
-    "Applebot",
     "Slurp",
 ];
 
-/// What a crawler may fetch.
+/// What a rule closes to a crawler.
 #[derive(Clone, Copy, PartialEq, Eq)]
-pub enum Reach {
-    Everything,
-    /// Nothing but `/robots.txt`.
-    Nothing,
-    /// It may also be everything or nothing.
-    Part,
+pub enum Part {
+    /// The whole site. An Allow that opens little of it doesn't count.
+    Site,
+    /// The home page.
+    Home,
 }
 
-fn are_stars_or_dollars(text: &[u8]) -> bool
-    ensures { result ≡ list_all is_star_or_dollar text.now }
+fn is_for(part: Part, value: &[u8]) -> bool
+    ensures { result ≡ is_for part value.now }
 {
-    text.iter().all(|byte| *byte == b'*' || *byte == b'$')
-}
-
-fn is_anything(value: &[u8]) -> bool
-    ensures { result ≡ is_anything value.now }
-{
-    match value {
-        [b'*', rest @ ..] => are_stars_or_dollars(rest),
-        _ => false,
+    match part {
+        Part::Site => is_whole_site(value),
+        Part::Home => is_home(value),
     }
 }
 
-fn is_root(value: &[u8]) -> bool
-    ensures { result ≡ is_root value.now }
+#[tactic(auto, using(crate::proofs::ClosedLemmas::part_escaped))]
+fn is_closing(part: Part, rule: &SiteRule<'_>) -> bool
+    ensures { result ≡ is_closing part rule.now }
 {
-    match value {
-        [b'/', rest @ ..] => rest.is_empty() || is_anything(rest),
-        _ => false,
+    !rule.is_allow && is_for(part, rule.value.as_bytes())
+}
+
+fn leaves_closed(part: Part, exempt: &Patterns, pattern: &str) -> bool
+    ensures { result ≡ leaves_closed part (contains_text exempt.now) pattern.now }
+{
+    match part {
+        Part::Site => exempt.contains(pattern) || opens_little(pattern.as_bytes()),
+        Part::Home => !is_home(pattern.as_bytes()),
     }
-}
-
-fn without_stars<'a>(value: &'a [u8]) -> &'a [u8]
-    ensures { result.now ≡ without_stars value.now }
-{
-    let mut rest = value;
-    while let [b'*', after @ ..] = rest {
-        rest = after;
-    }
-    rest
-}
-
-pub(crate) fn is_whole_site(value: &[u8]) -> bool
-    ensures { result ≡ is_whole_site value.now }
-{
-    is_anything(value) || is_root(without_stars(value))
-}
-
-#[tactic(auto, using(crate::proofs::ClosedLemmas::whole_site_escaped))]
-fn is_closing(rule: &SiteRule<'_>) -> bool
-    ensures { result ≡ is_closing rule.now }
-{
-    !rule.is_allow && is_whole_site(rule.value.as_bytes())
-}
-
-fn matches_no_path(pattern: &[u8]) -> bool
-    ensures { result ≡ matches_no_path pattern.now }
-{
-    begins_oddly(pattern) || has_dollar_inside(pattern)
 }
 
 fn raise(
     alloc: Global,
     needed: &mut usize,
+    part: Part,
     exempt: &Patterns,
     rule: &SiteRule<'_>,
 ) -> Result<(), AllocError>
     ensures { OnOk result ((pattern : List ℕ) → nat_lt (length pattern) needed.new
-        ≡ (nat_lt (length pattern) needed.old || is_rival (contains_text exempt.now) pattern rule.now)) }
+        ≡ (nat_lt (length pattern) needed.old
+        || is_rival (leaves_closed part (contains_text exempt.now)) pattern rule.now)) }
 {
     if !rule.is_allow {
         return Ok(());
     }
     let pattern = rule.pattern(alloc)?;
-    let is_rival = !exempt.contains(pattern.as_str()) && !matches_no_path(pattern.as_bytes());
+    let is_rival = !leaves_closed(part, exempt, pattern.as_str())
+        && !matches_no_path(pattern.as_bytes());
     if is_rival && *needed <= pattern.len() {
         *needed = pattern.len() + 1;
     }
@@ -125,84 +101,43 @@ fn raise(
 }
 
 /// The length that a Disallow must have at least to have no rival among these rules.
-fn needed(alloc: Global, exempt: &Patterns, rules: &[SiteRule<'_>]) -> Result<usize, AllocError>
-    ensures { IfOk result (IsNeeded (contains_text exempt.now) rules.now) }
+fn needed(
+    alloc: Global,
+    part: Part,
+    exempt: &Patterns,
+    rules: &[SiteRule<'_>],
+) -> Result<usize, AllocError>
+    ensures { IfOk result (IsNeeded (leaves_closed part (contains_text exempt.now)) rules.now) }
 {
     let mut needed = 0;
     for rule in rules {
-        raise(alloc, &mut needed, exempt, rule)?;
+        raise(alloc, &mut needed, part, exempt, rule)?;
     }
     Ok(needed)
 }
 
-fn closes(needed: usize, rule: &SiteRule<'_>) -> bool
+fn closes(part: Part, needed: usize, rule: &SiteRule<'_>) -> bool
     ensures { (is_exempt : List ℕ → Bool) (rules : List PlacedRule) → IsNeeded is_exempt rules needed
-        → result ≡ closes is_exempt rules rule.now }
+        → result ≡ closes part is_exempt rules rule.now }
 {
-    is_closing(rule) && rule.value.len() >= needed
+    is_closing(part, rule) && rule.value.len() >= needed
 }
 
 fn closing_line(
     alloc: Global,
+    part: Part,
     exempt: &Patterns,
     rules: &[SiteRule<'_>],
 ) -> Result<Option<usize>, AllocError>
-    ensures { IfOk result (λ line. line ≡ closing_line (contains_text exempt.now) rules.now) }
+    ensures { IfOk result (λ line. line ≡ closing_line part (contains_text exempt.now) rules.now) }
 {
-    let needed = needed(alloc, exempt, rules)?;
+    let needed = needed(alloc, part, exempt, rules)?;
     for rule in rules {
-        if closes(needed, rule) {
+        if closes(part, needed, rule) {
             return Ok(Some(rule.line));
         }
     }
     Ok(None)
-}
-
-fn is_open(rules: &[SiteRule<'_>]) -> bool
-    ensures { result ≡ list_all is_allow rules.now }
-{
-    rules.iter().all(|rule| rule.is_allow)
-}
-
-fn is_shut(alloc: Global, rules: &[SiteRule<'_>]) -> Result<bool, AllocError>
-    ensures { IfOk result (λ is. is ≡ is_some (closing_line (λ pattern. false) rules.now)) }
-{
-    let none = HashSet::new(alloc);
-    Ok(closing_line(alloc, &none, rules)?.is_some())
-}
-
-fn reach_by(alloc: Global, rules: &[SiteRule<'_>]) -> Result<Reach, AllocError>
-    ensures { IfOk result (λ reach. reach ≡ reach_by rules.now) }
-{
-    if is_open(rules) {
-        return Ok(Reach::Everything);
-    }
-    if is_shut(alloc, rules)? {
-        return Ok(Reach::Nothing);
-    }
-    Ok(Reach::Part)
-}
-
-/// What the crawler, which has these rules, may fetch. It is `Part` if its vendor applies another group.
-pub fn reach_of(
-    alloc: Global,
-    site: &Site,
-    agent: &str,
-    rules: &[SiteRule<'_>],
-) -> Result<Reach, AllocError>
-    requires { rules.now ≡ placed_rules agent.now (file_lines site.now) }
-    ensures { IfOk result (λ reach. reach ≡ reach_of (file_lines site.now) agent.now) }
-{
-    if other_group(site, agent).is_some() {
-        return Ok(Reach::Part);
-    }
-    reach_by(alloc, rules)
-}
-
-fn has_star_or_dollar(text: &[u8]) -> bool
-    ensures { result ≡ list_any is_star_or_dollar text.now }
-{
-    text.iter().any(|byte| *byte == b'*' || *byte == b'$')
 }
 
 fn add(patterns: &mut Patterns, text: String) -> Result<(), AllocError>
@@ -261,34 +196,101 @@ fn exempt_patterns(alloc: Global, site: &Site) -> Result<Patterns, AllocError>
 /// `exempt` are the exempt patterns of the file.
 fn closing_here(
     alloc: Global,
+    part: Part,
     exempt: &Patterns,
     site: &Site,
     agent: &str,
 ) -> Result<Option<usize>, AllocError>
     requires { HasExempt (file_lines site.now) exempt.now }
     ensures { IfOk result (λ line. line
-        ≡ closing_line (is_exempt (file_lines site.now)) (placed_rules agent.now (file_lines site.now))) }
+        ≡ closing_line part (is_exempt (file_lines site.now)) (placed_rules agent.now (file_lines site.now))) }
 {
     let rules = own_rules(alloc, site, agent)?;
-    closing_line(alloc, exempt, &rules)
+    closing_line(alloc, part, exempt, &rules)
 }
 
 /// None if the crawler's vendor applies another group, or a line has its name and another one is meant.
-fn line_closing(
+fn part_closing(
     alloc: Global,
+    part: Part,
     exempt: &Patterns,
     site: &Site,
     agent: &str,
 ) -> Result<Option<usize>, AllocError>
     requires { HasExempt (file_lines site.now) exempt.now }
-    ensures { IfOk result (λ line. line ≡ line_closing (file_lines site.now) agent.now) }
+    ensures { IfOk result (λ line. line ≡ part_closing part (file_lines site.now) agent.now) }
 {
     if other_group(site, agent).is_some()
         || (site.is_named(agent) && meant(alloc, agent.as_bytes())?.is_some())
     {
         return Ok(None);
     }
-    closing_here(alloc, exempt, site, agent)
+    closing_here(alloc, part, exempt, site, agent)
+}
+
+fn is_one_of(names: &[&str], agent: &[u8]) -> bool
+    ensures { result ≡ list_any (λ name. str_eq_ignore_ascii_case name.now agent.now) names.now }
+{
+    names
+        .iter()
+        .any(|name| name.as_bytes().eq_ignore_ascii_case(agent))
+}
+
+/// `let_in`: a large search engine may fetch the site.
+fn is_major(let_in: bool, site: &Site, agent: &str) -> bool
+    ensures { result ≡ is_major let_in (file_lines site.now) agent.now }
+{
+    is_one_of(&SEARCH_ENGINES, token_front(agent.as_bytes()))
+        || (!let_in && (agent == "*" || !site.is_named(agent)))
+}
+
+fn line_reported(
+    alloc: Global,
+    part: Part,
+    exempt: &Patterns,
+    site: &Site,
+    agent: &str,
+) -> Result<Option<usize>, AllocError>
+    requires { HasExempt (file_lines site.now) exempt.now }
+    ensures { IfOk result (λ line. line ≡ line_reported part (file_lines site.now) agent.now) }
+{
+    if part != Part::Home {
+        return part_closing(alloc, Part::Site, exempt, site, agent);
+    }
+    if !is_major(false, site, agent) {
+        return Ok(None);
+    }
+    if part_closing(alloc, Part::Site, exempt, site, agent)?.is_some() {
+        return Ok(None);
+    }
+    part_closing(alloc, Part::Home, exempt, site, agent)
+}
+
+/// Whether a group of its own leaves the site open to this crawler.
+#[tactic(auto, unfolding(crate::specs::Closed::is_let_in))]
+fn is_let_in(alloc: Global, exempt: &Patterns, site: &Site, name: &str) -> Result<bool, AllocError>
+    requires { HasExempt (file_lines site.now) exempt.now }
+    ensures { IfOk result (λ is. is ≡ is_let_in (file_lines site.now) name.now) }
+{
+    if !site.is_named(name) {
+        return Ok(false);
+    }
+    Ok(part_closing(alloc, Part::Site, exempt, site, name)?.is_none())
+}
+
+/// Whether it does to a large search engine.
+fn lets_in(alloc: Global, exempt: &Patterns, site: &Site) -> Result<bool, AllocError>
+    requires { HasExempt (file_lines site.now) exempt.now }
+    ensures { IfOk result (λ is. is ≡ lets_in (file_lines site.now)) }
+{
+    let mut names: &[&str] = &SEARCH_ENGINES;
+    while let [name, rest @ ..] = names {
+        if is_let_in(alloc, exempt, site, name)? {
+            return Ok(true);
+        }
+        names = rest;
+    }
+    Ok(false)
 }
 
 /// Whether a rule closes the site to the crawler.
@@ -296,7 +298,7 @@ pub fn is_closed(alloc: Global, site: &Site, agent: &str) -> Result<bool, AllocE
     ensures { IfOk result (λ is. is ≡ is_some (line_closing (file_lines site.now) agent.now)) }
 {
     let exempt = exempt_patterns(alloc, site)?;
-    Ok(line_closing(alloc, &exempt, site, agent)?.is_some())
+    Ok(part_closing(alloc, Part::Site, &exempt, site, agent)?.is_some())
 }
 
 fn add_closed<'a>(
@@ -320,47 +322,33 @@ fn add_closed<'a>(
     Ok(())
 }
 
-/// For each line, those of these crawlers to which it closes the site.
+/// For each line, those of these crawlers to which it closes this part of the site.
 fn closed_lines<'a>(
     alloc: Global,
+    part: Part,
+    exempt: &Patterns,
     site: &Site,
     agents: &[&'a str],
 ) -> Result<ClosedLines<'a>, AllocError>
+    requires { HasExempt (file_lines site.now) exempt.now }
     ensures { IfOk result (λ closed. (number : ℕ) → agents_at closed number
-        ≡ closed_at (file_lines site.now) (map (λ agent. agent.now) agents.now) number) }
+        ≡ closed_at part (file_lines site.now) (map (λ agent. agent.now) agents.now) number) }
 {
-    let exempt = exempt_patterns(alloc, site)?;
     let mut closed = BTreeMap::new(alloc);
     for agent in agents {
-        let line = line_closing(alloc, &exempt, site, agent)?;
+        let line = line_reported(alloc, part, exempt, site, agent)?;
         add_closed(alloc, &mut closed, line, agent)?;
     }
     Ok(closed)
 }
 
-fn is_one_of(names: &[&str], agent: &[u8]) -> bool
-    ensures { result ≡ list_any (λ name. str_eq_ignore_ascii_case name.now agent.now) names.now }
-{
-    names
-        .iter()
-        .any(|name| name.as_bytes().eq_ignore_ascii_case(agent))
-}
-
-fn is_major(site: &Site, agent: &str) -> bool
-    ensures { result ≡ is_major (file_lines site.now) agent.now }
-{
-    agent == "*"
-        || !site.is_named(agent)
-        || is_one_of(&SEARCH_ENGINES, token_front(agent.as_bytes()))
-}
-
-fn first_major<'a>(site: &Site, agents: &[&'a str]) -> Option<&'a str>
+fn first_major<'a>(let_in: bool, site: &Site, agents: &[&'a str]) -> Option<&'a str>
     ensures { option_map (λ agent. agent.now) result
-        ≡ slice_get (filter (is_major (file_lines site.now)) (map (λ agent. agent.now) agents.now)) 0 }
+        ≡ slice_get (filter (is_major let_in (file_lines site.now)) (map (λ agent. agent.now) agents.now)) 0 }
 {
     let mut rest = agents;
     while let [agent, after @ ..] = rest {
-        if is_major(site, agent) {
+        if is_major(let_in, site, agent) {
             return Some(*agent);
         }
         rest = after;
@@ -377,26 +365,36 @@ fn others(count: usize) -> Option<Detail>
     Some(Detail::Others(count))
 }
 
+fn closing_cause(part: Part, is_major: bool) -> Cause
+    ensures { result ≡ closing_cause part is_major }
+{
+    match (part, is_major) {
+        (Part::Site, true) => Cause::ClosesSite,
+        (Part::Site, false) => Cause::ClosesEverything,
+        (Part::Home, true) => Cause::ClosesHome,
+        (Part::Home, false) => Cause::ClosesHomeToOthers,
+    }
+}
+
 fn warn_of_agents<'a>(
     found: &mut Found<'a>,
+    part: Part,
+    let_in: bool,
     site: &Site,
     number: usize,
     agents: &[&'a str],
 ) -> Result<(), AllocError>
     ensures { OnOk result (Adds found.old.items found.new.items
-        (closing_warnings (file_lines site.now) number (map (λ agent. agent.now) agents.now))) }
+        (closing_warnings part let_in (file_lines site.now) number (map (λ agent. agent.now) agents.now))) }
 {
     let [agent, rest @ ..] = agents else {
         return Ok(());
     };
-    let (cause, about) = match first_major(site, agents) {
-        Some(major) => (Cause::ClosesSite, major),
-        None => (Cause::ClosesEverything, *agent),
-    };
+    let major = first_major(let_in, site, agents);
     found.push(Warning {
         line: Some(number),
-        cause,
-        about: Some(about),
+        cause: closing_cause(part, major.is_some()),
+        about: major.or(Some(*agent)),
         detail: others(rest.len()),
     })?;
     Ok(())
@@ -404,45 +402,66 @@ fn warn_of_agents<'a>(
 
 fn warn_of_number<'a>(
     found: &mut Found<'a>,
+    part: Part,
+    let_in: bool,
     site: &Site,
     closed: &ClosedLines<'a>,
     number: usize,
 ) -> Result<(), AllocError>
     ensures { OnOk result (Adds found.old.items found.new.items
-        (closing_warnings (file_lines site.now) number (agents_at closed.now number))) }
+        (closing_warnings part let_in (file_lines site.now) number (agents_at closed.now number))) }
 {
     let Some(agents) = closed.get(&number) else {
         return Ok(());
     };
-    warn_of_agents(found, site, number, agents)
+    warn_of_agents(found, part, let_in, site, number, agents)
 }
 
 fn warn_of_lines<'a>(
     found: &mut Found<'a>,
+    part: Part,
+    let_in: bool,
     site: &Site,
     closed: &ClosedLines<'a>,
     labels: &[LabeledLine<'_>],
 ) -> Result<(), AllocError>
     ensures { OnOk result (Adds found.old.items found.new.items
-        (flat_map (λ label. closing_warnings (file_lines site.now) label.number (agents_at closed.now label.number))
+        (flat_map (λ label. closing_warnings part let_in (file_lines site.now) label.number (agents_at closed.now label.number))
         (map label_by_value labels.now))) }
 {
     for labeled in labels {
-        warn_of_number(found, site, closed, labeled.number)?;
+        warn_of_number(found, part, let_in, site, closed, labeled.number)?;
     }
     Ok(())
+}
+
+fn warn_of_part<'a>(
+    alloc: Global,
+    found: &mut Found<'a>,
+    part: Part,
+    exempt: &Patterns,
+    agents: &[&'a str],
+    read: &FileRead<'_>,
+) -> Result<(), AllocError>
+    requires { HasExempt (file_lines read.now.site) exempt.now }
+    ensures { OnOk result (Adds found.old.items found.new.items (part_warnings part (map (λ agent. agent.now) agents.now)
+        (file_lines read.now.site) (map label_by_value read.now.labels.items))) }
+{
+    let let_in = lets_in(alloc, exempt, &read.site)?;
+    let closed = closed_lines(alloc, part, exempt, &read.site, agents)?;
+    warn_of_lines(found, part, let_in, &read.site, &closed, &read.labels)
 }
 
 pub(crate) fn warn_of_closed<'a>(
     alloc: Global,
     found: &mut Found<'a>,
     agents: &[&'a str],
-    site: &Site,
-    labels: &[LabeledLine<'_>],
+    read: &FileRead<'_>,
 ) -> Result<(), AllocError>
     ensures { OnOk result (Adds found.old.items found.new.items (site_warnings (map (λ agent. agent.now) agents.now)
-        (file_lines site.now) (map label_by_value labels.now))) }
+        (file_lines read.now.site) (map label_by_value read.now.labels.items))) }
 {
-    let closed = closed_lines(alloc, site, agents)?;
-    warn_of_lines(found, site, &closed, labels)
+    let exempt = exempt_patterns(alloc, &read.site)?;
+    warn_of_part(alloc, found, Part::Site, &exempt, agents, read)?;
+    warn_of_part(alloc, found, Part::Home, &exempt, agents, read)
 }

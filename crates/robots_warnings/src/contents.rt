@@ -1,14 +1,14 @@
 //! Conditions on what the content of a directive has besides its value: white space, a comment, and the text
 //! of a delay. Those on a raw value are for directives with a colon.
-ghost use Rattle.std.specs.Prelude.{◌≡◌};
-ghost use Rattle.std.specs.Char.{is_ascii_digit};
+ghost use Rattle.std.specs.Prelude.{◌≡◌, slice_index};
+ghost use Rattle.std.specs.Char.{is_ascii_alphanumeric, is_ascii_digit};
 ghost use Rattle.std.specs.List.{list_all, list_any};
 ghost use Rattle.robots_warnings.specs.Contents.{are_digits, comment_of, has_odd_comment, has_odd_delay, has_odd_space};
-ghost use Rattle.robots_warnings.specs.Contents.{is_control, is_cut, is_cut_short, is_cut_to_root, raw_value, tail_of};
+ghost use Rattle.robots_warnings.specs.Contents.{is_control, is_cut, is_cut_short, is_cut_to_root, is_emptied, raw_value, tail_of};
 
-use crate::closed::is_whole_site;
 use crate::field_names::{without_end, without_front};
 use crate::rules::{after_byte, before_byte, begins_oddly, has, is_utf8, place};
+use crate::site_patterns::is_whole_site;
 
 /// The tail, which is between the first colon and the comment, and the comment, which starts with `#` or is
 /// empty.
@@ -33,7 +33,7 @@ pub(crate) fn has_odd_space(value: &[u8], tail: &[u8]) -> bool
     !raw.is_empty() && raw != value
 }
 
-fn is_cut(value: &[u8], tail: &[u8], comment: &[u8]) -> bool
+pub(crate) fn is_cut(value: &[u8], tail: &[u8], comment: &[u8]) -> bool
     ensures { result ≡ is_cut value.now tail.now comment.now }
 {
     !comment.is_empty() && !value.is_empty() && tail.ends_with(value)
@@ -45,6 +45,21 @@ pub(crate) fn is_cut_to_root(value: &[u8], tail: &[u8], comment: &[u8]) -> bool
     let is_path = comment.starts_with(b"#/") || comment.starts_with(b"#!/");
     (is_cut(value, tail, comment) || (is_path && raw_value(tail).is_empty()))
         && is_whole_site(value)
+}
+
+fn begins_word(comment: &[u8]) -> bool
+    ensures { result ≡ is_ascii_alphanumeric (slice_index comment.now 1) }
+{
+    match comment {
+        [_, letter, ..] => letter.is_ascii_alphanumeric(),
+        _ => false,
+    }
+}
+
+pub(crate) fn is_emptied(value: &[u8], tail: &[u8], comment: &[u8]) -> bool
+    ensures { result ≡ is_emptied value.now tail.now comment.now }
+{
+    raw_value(tail).is_empty() && is_whole_site(value) && begins_word(comment)
 }
 
 pub(crate) fn is_cut_short(value: &[u8], tail: &[u8], comment: &[u8]) -> bool

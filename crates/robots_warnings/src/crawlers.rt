@@ -3,12 +3,12 @@ ghost use Rattle.std.specs.Prelude.{◌≡◌, ◌++◌, [], IfOk, OnOk, map, op
 ghost use Rattle.std.specs.{List.list_any, List.position_from, Str.str_eq_ignore_ascii_case};
 ghost use Rattle.texting_robots.specs.Callers.{by_value, file_lines, label_by_value};
 ghost use Rattle.robots_warnings.specs.Crawlers.{crawlers, first_at_vendor, gets_other, group_at_vendor};
-ghost use Rattle.robots_warnings.specs.Crawlers.{is_given, is_known, is_meant, is_near, is_row_of, meant};
-ghost use Rattle.robots_warnings.specs.Crawlers.{meant_in, most_edits, name_at_vendor, name_for, other_group};
+ghost use Rattle.robots_warnings.specs.Crawlers.{is_given, is_known, is_meant, is_near, is_row_of, is_wrong, meant};
+ghost use Rattle.robots_warnings.specs.Crawlers.{most_edits, name_at_vendor, name_for, other_group};
 ghost use Rattle.robots_warnings.specs.Crawlers.{row_at, value_at_vendor, wrong_names};
 ghost use Rattle.robots_warnings.specs.Internal.{Adds, row_value};
 ghost use Rattle.robots_warnings.specs.Warnings.{agent_warning, agent_warnings, name_warnings};
-ghost use Rattle.robots_warnings.specs.Warnings.{vendor_warning, vendor_warnings, warned_of_name};
+ghost use Rattle.robots_warnings.specs.Warnings.{line_name_warning, vendor_warning, vendor_warnings, warned_of_name};
 
 use crate::file::first;
 use crate::table::Cause;
@@ -24,7 +24,7 @@ use texting_robots::site::Site;
 /// A crawler's name, and that of the group that its vendor applies to it if a file has none of its own: that
 /// of `*`, that of another crawler (and if there is none either, that of `*`), or, for an empty name, no
 /// group.
-pub(crate) type Crawler = (&'static str, &'static str);
+pub type Crawler = (&'static str, &'static str);
 
 /// The known crawlers. Above each block is where its vendor, or those of its crawlers, say so; where none says which
 /// group it applies, the standard does.
@@ -102,7 +102,6 @@ static WRONG_NAMES: [(&str, &str); 25] = [
     ("Google", "Googlebot"),
     ("Gemini", "Google-Extended"),
     ("Bing", "Bingbot"),
-    ("Baidu", "Baiduspider"),
     ("Yahoo", "Slurp"),
     ("OpenAI", "GPTBot"),
     ("ChatGPT", "ChatGPT-User"),
@@ -112,6 +111,7 @@ static WRONG_NAMES: [(&str, &str); 25] = [
     ("Anthropic", "ClaudeBot"),
     ("Perplexity", "PerplexityBot"),
     ("Facebook", "facebookexternalhit"),
+    ("Meta", "meta-externalagent"),
     ("Amazon", "Amazonbot"),
     ("Apple", "Applebot"),
     ("ByteDance", "Bytespider"),
@@ -123,9 +123,10 @@ static WRONG_NAMES: [(&str, &str); 25] = [
     ("CommonCrawl", "CCBot"),
 ];
 
-/// No other function names the long table, since each that does takes long to prove.
+/// The known crawlers; the first is `*`. No other function names the long table, since each that does takes
+/// long to prove.
 #[tactic(auto, unfolding(crate::specs::Crawlers::crawlers))]
-pub(crate) fn crawlers() -> &'static [Crawler]
+pub fn crawlers() -> &'static [Crawler]
     ensures { map row_value result.now ≡ crawlers }
 {
     &CRAWLERS
@@ -140,7 +141,8 @@ fn row_in(rows: &'static [Crawler], number: usize) -> Crawler
     }
 }
 
-pub(crate) fn row_at(number: usize) -> Crawler
+/// The crawler with this index.
+pub fn row_at(number: usize) -> Crawler
     ensures { row_value result ≡ row_at number }
 {
     row_in(crawlers(), number)
@@ -311,7 +313,7 @@ fn first_meant(
 
 /// The index of the crawler that is probably meant, if neither the value nor its start is the name of a known
 /// one.
-pub(crate) fn meant(alloc: Global, value: &[u8]) -> Result<Option<usize>, AllocError>
+pub fn meant(alloc: Global, value: &[u8]) -> Result<Option<usize>, AllocError>
     ensures { IfOk result (λ found. found ≡ meant value.now) }
 {
     if is_known(value) || is_known(token_front(value)) {
@@ -321,34 +323,51 @@ pub(crate) fn meant(alloc: Global, value: &[u8]) -> Result<Option<usize>, AllocE
     first_meant(alloc, crawlers(), value, other)
 }
 
-pub(crate) fn meant_in(alloc: Global, line: Line<'_>) -> Result<Option<usize>, AllocError>
-    ensures { IfOk result (λ found. found ≡ meant_in (by_value line.entry)) }
+/// Whether no crawler has the name, and it is known which one is meant.
+pub fn is_wrong(name: &[u8]) -> bool
+    ensures { result ≡ is_wrong name.now }
 {
-    match line {
-        Line::UserAgent(value) => meant(alloc, value),
-        _ => Ok(None),
-    }
+    name_for(wrong_names(), name).is_some()
 }
 
 fn warn_of_name<'a>(
+    alloc: Global,
     found: &mut Found<'a>,
     line: Option<usize>,
     about: Option<&'a str>,
-    crawler: Option<usize>,
+    name: &[u8],
 ) -> Result<(), AllocError>
     ensures { OnOk result (Adds found.old.items found.new.items
-        (warned_of_name line (option_map (λ name. name.now) about.entry) crawler)) }
+        (warned_of_name line (option_map (λ name. name.now) about.entry) name.now)) }
 {
-    let Some(crawler) = crawler else {
+    let Some(crawler) = meant(alloc, name)? else {
         return Ok(());
     };
     found.push(Warning {
         line,
-        cause: Cause::MisspelledName,
+        cause: if is_wrong(name) {
+            Cause::WrongName
+        } else {
+            Cause::MisspelledName
+        },
         about,
         detail: Some(Detail::Meant(crawler)),
     })?;
     Ok(())
+}
+
+fn warn_of_line_name(
+    alloc: Global,
+    found: &mut Found<'_>,
+    number: usize,
+    line: Line<'_>,
+) -> Result<(), AllocError>
+    ensures { OnOk result (Adds found.old.items found.new.items (line_name_warning number (by_value line.entry))) }
+{
+    match line {
+        Line::UserAgent(name) => warn_of_name(alloc, found, Some(number), None, name),
+        _ => Ok(()),
+    }
 }
 
 fn warn_of_names(
@@ -359,12 +378,7 @@ fn warn_of_names(
     ensures { OnOk result (Adds found.old.items found.new.items (name_warnings (map label_by_value labels.now))) }
 {
     for labeled in labels {
-        warn_of_name(
-            found,
-            Some(labeled.number),
-            None,
-            meant_in(alloc, labeled.line)?,
-        )?;
+        warn_of_line_name(alloc, found, labeled.number, labeled.line)?;
     }
     Ok(())
 }
@@ -380,7 +394,7 @@ fn warn_of_agent<'a>(
     if site.is_named(agent) {
         return Ok(());
     }
-    warn_of_name(found, None, Some(agent), meant(alloc, agent.as_bytes())?)
+    warn_of_name(alloc, found, None, Some(agent), agent.as_bytes())
 }
 
 fn warn_of_agents<'a>(

@@ -9,6 +9,7 @@ ghost use Rattle.robots_warnings.specs.File.{lines_of};
 ghost use Rattle.robots_warnings.specs.Internal.{kinds_with};
 
 use crate::file::{counted, first, is_blank};
+use crate::rules::has;
 use texting_robots::labels::LabeledLine;
 use texting_robots::parser::Line;
 use texting_robots::robot::FILE_LIMIT;
@@ -38,6 +39,7 @@ pub struct FileFacts {
     pub has_cut_line: bool,
     pub has_damaged_mark: bool,
     pub has_nul: bool,
+    pub has_hash: bool,
 }
 
 pub(crate) fn has_text(line: Line<'_>) -> bool
@@ -201,6 +203,7 @@ pub fn facts_of(file: &[u8], labels: &[LabeledLine<'_>]) -> FileFacts
         has_cut_line: has_cut_line(file),
         has_damaged_mark: has_damaged_mark(file),
         has_nul: has_nul(file),
+        has_hash: has(b'#', file),
     }
 }
 

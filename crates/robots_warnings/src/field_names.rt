@@ -29,7 +29,7 @@ const DIRECTIVES: [(&str, Cause); 5] = [
 ];
 
 /// Field names that other crawlers support or supported, in the order of the search, and the warning for each.
-const UNSUPPORTED: [(&str, Cause); 10] = [
+const UNSUPPORTED: [(&str, Cause); 12] = [
     ("noindex", Cause::NoindexLine),
     ("nofollow", Cause::NofollowLine),
     ("host", Cause::HostLine),
@@ -40,6 +40,15 @@ const UNSUPPORTED: [(&str, Cause); 10] = [
     ("content-usage", Cause::ContentUsageLine),
     ("robot-version", Cause::RobotVersionLine),
     ("comment", Cause::CommentLine),
+    ("no-index", Cause::NoindexLine),
+    ("no-follow", Cause::NofollowLine),
+];
+
+/// Names before a colon that mean a usual one.
+const OTHER_FORMS: [(&str, Cause); 3] = [
+    ("agent", Cause::LikeUserAgent),
+    ("allowed", Cause::LikeAllow),
+    ("disallowed", Cause::LikeDisallow),
 ];
 
 const KINDS: [Kind; 5] = [
@@ -105,7 +114,7 @@ fn is_name(name: &str, word: &[u8]) -> bool
 }
 
 #[tactic(auto, unfolding(crate::specs::FieldNames::begins_with))]
-fn begins_with(name: &str, word: &[u8]) -> bool
+pub(crate) fn begins_with(name: &str, word: &[u8]) -> bool
     ensures { result ≡ begins_with name.now word.now }
 {
     is_name(name, first(name.len(), word))
@@ -214,6 +223,9 @@ pub(crate) fn meant_by(alloc: Global, body: &[u8]) -> Result<Cause, AllocError>
         return Ok(Cause::HostName);
     }
     if let Some(cause) = first_in(&UNSUPPORTED, name, word) {
+        return Ok(cause);
+    }
+    if let Some(cause) = first_in(&OTHER_FORMS, name, name) {
         return Ok(cause);
     }
     match directive_in(alloc, name, word)? {

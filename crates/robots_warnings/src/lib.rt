@@ -21,6 +21,7 @@ mod repeated;
 mod replaced;
 pub mod rules;
 pub mod several_values;
+pub mod site_patterns;
 pub mod spellings;
 pub mod table;
 pub mod targets;

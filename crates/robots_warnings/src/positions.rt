@@ -1,15 +1,17 @@
 //! Conditions on the position of a line.
 ghost use Rattle.std.specs.Prelude.{◌≡◌, false, map, option_map};
 ghost use Rattle.std.specs.{Str.str_eq_ignore_ascii_case};
-ghost use Rattle.texting_robots.specs.Callers.{by_value, label_by_value};
+ghost use Rattle.texting_robots.specs.{Callers.by_value, Callers.label_by_value, Line.delay_in};
 ghost use Rattle.robots_warnings.specs.{File.lines_of, Positions.are_joined};
 ghost use Rattle.robots_warnings.specs.Positions.{begin_with_name, begin_with_rules, is_bare, is_empty_group};
+ghost use Rattle.robots_warnings.specs.Positions.{begins_ignoring, is_ignored};
 ghost use Rattle.robots_warnings.specs.Positions.{begin_bare, first_delay, is_other_delay, preceding_with};
 ghost use Rattle.robots_warnings.specs.Positions.{is_split, last_group, name_star, reach_name, sole_name};
 
 use crate::facts::has_text;
+use crate::field_names::begins_with;
 use crate::file::is_blank;
-use crate::rules::has;
+use crate::rules::{has, somewhere};
 use texting_robots::labels::{LabeledLine, Membership};
 use texting_robots::parser::Line;
 
@@ -76,6 +78,26 @@ pub(crate) fn last_group(labels: &[LabeledLine<'_>]) -> Option<usize>
         }
     }
     last
+}
+
+/// Parts of the names of crawlers that ignore delays: developers.google.com/search/docs/crawling-indexing/robots/robots_txt
+/// doesn't support them, and yandex.com/support/webmaster/robot-workings/crawl-delay.html says so since 2018.
+pub(crate) const IGNORE_DELAYS: [&str; 2] = ["google", "yandex"];
+
+fn begins_ignoring(text: &[u8]) -> bool
+    ensures { result ≡ begins_ignoring text.now }
+{
+    IGNORE_DELAYS.iter().any(|part| begins_with(part, text))
+}
+
+/// `name` is the only name of the group.
+pub(crate) fn is_ignored(name: Option<&[u8]>, line: Line<'_>) -> bool
+    ensures { result ≡ is_ignored (option_map (λ name. name.now) name.entry) (delay_in (by_value line.entry)) }
+{
+    match (name, line) {
+        (Some(name), Line::CrawlDelay(Some(_))) => somewhere(name, begins_ignoring),
+        _ => false,
+    }
 }
 
 pub(crate) fn is_empty_group(last: Option<usize>, labeled: &LabeledLine<'_>) -> bool

@@ -10,10 +10,10 @@ ghost use Rattle.robots_warnings.specs.{File.lines_of, Positions.begin_with_one}
 ghost use Rattle.robots_warnings.specs.Internal.Names.{Key, key_cmp};
 ghost use Rattle.robots_warnings.specs.Internal.Rules.{HasDenied, HasThose, is_kept_in, is_other_name};
 
-use crate::closed::is_whole_site;
 use crate::names::{Names, add_name};
 use crate::numbers::push_if;
 use crate::positions::{Preceding, name_star, preceding_with};
+use crate::site_patterns::is_whole_site;
 use std::alloc::{AllocError, Global};
 use std::collections::{BTreeSet, HashSet};
 use texting_robots::labels::LabeledLine;

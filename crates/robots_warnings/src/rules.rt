@@ -1,12 +1,12 @@
 //! Conditions on the value of an Allow or a Disallow line.
 ghost use Rattle.std.specs.Prelude.{◌≡◌, ◌<◌, ◌≤◌, ◌==◌, ◌&&◌, ◌||◌, ℕ, Bool, List, false, length, not, true};
 ghost use Rattle.std.specs.Char.{digit_value, is_ascii_hexdigit};
-ghost use Rattle.std.specs.{Fn.FnReturnsAt, List.list_all, List.position_or_len, Str.is_utf8};
+ghost use Rattle.std.specs.{Fn.FnReturnsAt, List.list_all, List.position_or_len, Str.byte, Str.is_utf8};
 ghost use Rattle.robots_warnings.specs.Internal.Plain.{is_plain, is_plain_byte};
 ghost use Rattle.robots_warnings.specs.Rules.{after_byte, before_byte, begins_delimiter, begins_dot_segment, begins_host, begins_quote};
 ghost use Rattle.robots_warnings.specs.Rules.{begins_lone_percent, begins_odd_escape, begins_oddly, begins_sign, begins_wildcard, from_first};
 ghost use Rattle.robots_warnings.specs.Rules.{has, has_any, has_dollar_inside, has_more_after_dollar};
-ghost use Rattle.robots_warnings.specs.Rules.{has_odd_character, has_odd_start, has_quote_at_end, holds_otherwise, is_delimiter};
+ghost use Rattle.robots_warnings.specs.Rules.{begins_question_marks, has_odd_character, has_question_marks, has_odd_start, has_quote_at_end, holds_otherwise, is_delimiter};
 ghost use Rattle.robots_warnings.specs.Rules.{is_expression, is_quoted, is_url_in_path, needs_no_escape, somewhere};
 
 use crate::urls::{as_text, begins_as_url};
@@ -203,12 +203,16 @@ pub(crate) fn is_expression(value: &[u8]) -> bool
         || value.ends_with(b")+")
 }
 
-/// It isn't in quotes and has no other warning about its bytes.
-pub(crate) fn is_only_odd(value: &[u8]) -> bool
-    ensures { result
-        ≡ (has_odd_character value.now && not (holds_otherwise value.now || is_quoted value.now)) }
+fn begins_question_marks(text: &[u8]) -> bool
+    ensures { result ≡ begins_question_marks text.now }
 {
-    has_odd_character(value) && !(holds_otherwise(value) || is_quoted(value))
+    text.starts_with(b"??")
+}
+
+pub(crate) fn has_question_marks(value: &[u8]) -> bool
+    ensures { result ≡ has_question_marks value.now }
+{
+    somewhere(value, begins_question_marks)
 }
 
 pub(crate) fn has_dollar_inside(value: &[u8]) -> bool
@@ -262,10 +266,16 @@ pub(crate) fn begins_odd_escape(text: &[u8]) -> bool
     }
 }
 
-pub(crate) fn begins_wildcard(text: &[u8]) -> bool
+fn begins_wildcard(text: &[u8]) -> bool
     ensures { result ≡ begins_wildcard text.now }
 {
     text.starts_with(b"%2A") || text.starts_with(b"%2a") || text.starts_with(b"%24")
+}
+
+pub(crate) fn has_wildcard(value: &[u8]) -> bool
+    ensures { result ≡ somewhere begins_wildcard value.now }
+{
+    somewhere(value, begins_wildcard)
 }
 
 pub(crate) fn begins_delimiter(text: &[u8]) -> bool
@@ -280,7 +290,7 @@ pub(crate) fn begins_delimiter(text: &[u8]) -> bool
 }
 
 #[tactic(auto, using(crate::proofs::StepLemmas::no_segment))]
-pub(crate) fn begins_dot_segment(text: &[u8]) -> bool
+fn begins_dot_segment(text: &[u8]) -> bool
     ensures { result ≡ begins_dot_segment text.now }
 {
     text.starts_with(b"/.")
@@ -288,4 +298,11 @@ pub(crate) fn begins_dot_segment(text: &[u8]) -> bool
             || text.starts_with(b"/../")
             || text == b"/.$".as_slice()
             || text == b"/..$".as_slice())
+}
+
+/// In the path.
+pub(crate) fn has_dot_segment(value: &[u8]) -> bool
+    ensures { result ≡ somewhere begins_dot_segment (before_byte (byte "?") value.now) }
+{
+    somewhere(before_byte(b'?', value), begins_dot_segment)
 }

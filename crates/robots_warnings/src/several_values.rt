@@ -1,9 +1,9 @@
 //! Values of a rule or a sitemap that seem to be several ones.
 ghost use Rattle.std.specs.Prelude.{◌≡◌};
 ghost use Rattle.robots_warnings.specs.SeveralValues.{begins_list, begins_next_value, begins_tag, cause_of};
-ghost use Rattle.robots_warnings.specs.SeveralValues.{begins_unseen, begins_wide_space, has_several_values, several_values};
+ghost use Rattle.robots_warnings.specs.SeveralValues.{begins_unseen, begins_wide_space, has_several_values, has_tag, several_values};
 
-use crate::rules::from_first;
+use crate::rules::{from_first, somewhere};
 use crate::table::Cause;
 
 fn begins_wide_space(text: &[u8]) -> bool
@@ -32,7 +32,7 @@ fn begins_list(text: &[u8]) -> bool
     ensures { result ≡ begins_list text.now }
 {
     match text {
-        [b',', after @ ..] => after.starts_with(b"/") || after.starts_with(b"http"),
+        [b',' | b';', after @ ..] => after.starts_with(b"/") || after.starts_with(b"http"),
         _ => false,
     }
 }
@@ -44,6 +44,12 @@ fn begins_tag(text: &[u8]) -> bool
         [b'<', next, ..] => next.is_ascii_alphabetic() || *next == b'/' || *next == b'!',
         _ => false,
     }
+}
+
+pub(crate) fn has_tag(value: &[u8]) -> bool
+    ensures { result ≡ has_tag value.now }
+{
+    somewhere(value, begins_tag)
 }
 
 fn begins_next_value(text: &[u8]) -> bool

@@ -84,8 +84,11 @@ impl<'a> fmt::Display for Warning<'a> {
             let kind = match self.cause {
                 Cause::ClosesSite
                 | Cause::ClosesEverything
+                | Cause::ClosesHome
+                | Cause::ClosesHomeToOthers
                 | Cause::GooglebotGroup
                 | Cause::GoogleIgnoresStar
+                | Cause::WrongName
                 | Cause::MisspelledName => "crawler",
                 _ => "URL",
             };

@@ -1,21 +1,22 @@
 //! All warnings about a file and a request.
-ghost use Rattle.std.specs.Prelude.{◌≡◌, [], IfOk, OnOk, flat_map, if◌then◌else◌, map, option_map};
+ghost use Rattle.std.specs.Prelude.{◌≡◌, ◌++◌, [], IfOk, OnOk, flat_map, if◌then◌else◌, map, option_map};
 ghost use Rattle.texting_robots.specs.Callers.{by_value, file_lines, label_by_value};
 ghost use Rattle.robots_warnings.specs.{Checks.directive_checks, Contents.comment_of, Contents.tail_of};
 ghost use Rattle.robots_warnings.specs.{Conflicts.is_empty_at, Spellings.unpaired, Warnings.crawler_warnings};
-ghost use Rattle.robots_warnings.specs.Checks.{is_directive, raw_checks, rule_checks, value_checks};
+ghost use Rattle.robots_warnings.specs.Checks.{content_checks, is_directive, plural_checks, raw_checks};
+ghost use Rattle.robots_warnings.specs.{Checks.rule_checks, Checks.value_checks, Rules.is_expression};
 ghost use Rattle.robots_warnings.specs.Internal.{Adds, Rules.warnings_at};
 ghost use Rattle.robots_warnings.specs.Warnings.{file_lines_warnings, general_warnings, group_warnings};
 ghost use Rattle.robots_warnings.specs.Warnings.{line_warnings, past_limit_warnings, position_warnings};
 ghost use Rattle.robots_warnings.specs.Warnings.{url_warnings, warned, warned_at, warned_beside, warnings};
 
 use crate::checks::{
-    Check, content_checks, field_checks, file_checks, form_checks, is_in_scope_of, position_checks,
-    raw_rule_checks, sitemap_checks, text_checks, url_checks, user_agent_checks,
+    Check, content_checks, field_checks, file_checks, form_checks, is_in_scope_of, plural_checks,
+    position_checks, raw_rule_checks, sitemap_checks, text_checks, url_checks, user_agent_checks,
 };
 use crate::closed::warn_of_closed;
 use crate::conflicts::{RuleLines, rule_lines};
-use crate::contents::{has_odd_delay, has_odd_space, split_content};
+use crate::contents::{has_odd_delay, has_odd_space, is_cut, split_content};
 use crate::crawlers::{crawlers, warn_of_all_names, warn_of_vendors};
 use crate::empty_disallows::empty_disallows;
 use crate::facts::suppresses_line_warnings;
@@ -105,8 +106,22 @@ fn warn_in_general<'a>(
         (file_lines read.now.site) (map label_by_value read.now.labels.items))) }
 {
     warn(found, None, None, &file_checks(read.facts))?;
-    warn_of_closed(alloc, found, agents, &read.site, &read.labels)?;
+    warn_of_closed(alloc, found, agents, read)?;
     warn_of_urls(alloc, found, urls)
+}
+
+fn warn_of_content_of_rule(
+    found: &mut Found<'_>,
+    line: Option<usize>,
+    value: &[u8],
+    is_regex: bool,
+) -> Result<(), AllocError>
+    requires { is_regex ≡ is_expression value.now }
+    ensures { OnOk result (Adds found.old.items found.new.items
+        (warned line None (content_checks value.now ++ plural_checks value.now))) }
+{
+    warn(found, line, None, &content_checks(value, is_regex))?;
+    warn(found, line, None, &plural_checks(value))
 }
 
 fn warn_of_rule(found: &mut Found<'_>, line: Option<usize>, value: &[u8]) -> Result<(), AllocError>
@@ -117,7 +132,7 @@ fn warn_of_rule(found: &mut Found<'_>, line: Option<usize>, value: &[u8]) -> Res
     }
     let is_regex = is_expression(value);
     warn(found, line, None, &form_checks(value, is_regex))?;
-    warn(found, line, None, &content_checks(value, is_regex))
+    warn_of_content_of_rule(found, line, value, is_regex)
 }
 
 /// Rules are only checked if `is_in_scope` is true.
@@ -160,9 +175,16 @@ fn warn_of_raw_value(
 {
     let at = Some(number);
     match line {
-        Line::UserAgent(value) | Line::Sitemap(value) => {
+        Line::UserAgent(value) => {
             let is_odd = has_odd_space(value, parts.0);
             warn(found, at, None, &[(Cause::SpaceAroundValue, is_odd)])
+        }
+        Line::Sitemap(value) => {
+            let checks = [
+                (Cause::SpaceAroundValue, has_odd_space(value, parts.0)),
+                (Cause::HashCutsSitemap, is_cut(value, parts.0, parts.1)),
+            ];
+            warn(found, at, None, &checks)
         }
         Line::Allow(value) | Line::Disallow(value) => {
             let checks = raw_rule_checks(is_in_scope, value, parts.0, parts.1);

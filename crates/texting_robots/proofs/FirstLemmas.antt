@@ -5,6 +5,7 @@ use Rattle.std.proofs.Common.{cond, leb, string_bytes, suc, ◌≢◌, inl, inr,
 use Rattle.std.proofs.Common.{AllPairs, subst}
 use Rattle.std.specs.Int.{RustNames.bit_and, RustNames.bit_or, Bits.or_self, Bits.or_zero_l}
 use Rattle.std.proofs.lemmas.List.{get_or_default, Sums.sum_by-take-le, Sums.sum_by_more, Sums.sum_by-cons}
+use Rattle.std.proofs.lemmas.List.{Sums.sum_by-take-drop}
 use Rattle.std.proofs.lemmas.List.{take-take, get_or-map, length-map, get_or_read, length-drop, length-take}
 use Rattle.std.proofs.lemmas.{List.Elements.All-map}
 use Rattle.std.proofs.lemmas.Nat.{and_mask, or_comm, Bits.bit_at_or, Bits.same_from_bits}
@@ -17,7 +18,7 @@ use Rattle.texting_robots.specs.Internal.Segments.{first_eight, ones_below, pair
 use Rattle.texting_robots.specs.Internal.Segments.{AreLeft, AreSegments, IsUnsearched, Fits, EndsAs, part_of}
 use Rattle.texting_robots.specs.Internal.Segments.{IsSpan, pattern_of, placed_at, rules_in, AreEntries}
 use Rattle.texting_robots.specs.Internal.Segments.{HaveMasks, GoesBefore, IsEntryOf, IsFirstMatch, MatchesAt}
-use Rattle.texting_robots.specs.Internal.Segments.{NoneMatches, no_entry, rank_in, mask_in}
+use Rattle.texting_robots.specs.Internal.Segments.{NoneBetween, NoneMatches, no_entry, rank_in, mask_in}
 use Rattle.texting_robots.specs.{Pattern.Matches, Cost.cost_of, Cost.looks_of, Rules.PlacedRule}
 use Rattle.texting_robots.specs.{Verdict.IsVerdict, Verdict.robots_file, Rules.unplaced}
 use Rattle.texting_robots.specs.View.{LooksAtMost, ViewValue}
@@ -189,19 +190,23 @@ module _ (all : Unsorted) (n at : ℕ) where
       ∙ ap (λ (rule : PlacedRule). cost_upto all n at + (1 + looks_of rule.rule.0 n))
       (get_or-map placed all.entries.items at entry (placed entry) below ∙ ap placed (sym is))
 
-  pub cost_grows : (from : ℕ) → from ≤ at → cost_upto all n from ≤ cost_upto all n at
-  cost_grows from within = rw (← take-take from at (rules_in all) within) (sum_by-take-le _ _ from)
-
   pub cost_within : cost_upto all n at ≤ cost_of (rules_in all) n
   cost_within = sum_by-take-le _ (rules_in all) at
 
-module _ (limit sum seen most now more : ℕ) (is_sum : sum ≡ min (seen + most) (2 ^ 64 - 1))
-    (is_seen : seen ≡ min now (2 ^ 64 - 1)) (is_most : most ≡ min more (2 ^ 64 - 1)) where
-  pub over_limit : limit ≤ sum → limit ≤ now + more
-  over_limit is = omega arith
+counts : (n : ℕ) (rules : List PlacedRule) → length rules ≤ cost_of rules n
+counts n [] = omega arith
+counts n (rule ∷ rules) =
+    omega (arith, sum_by-cons (λ (r : PlacedRule). 1 + looks_of r.rule.0 n) rule rules, counts n rules)
 
-  pub under_limit : sum < limit → limit < 2 ^ 64 → now + 1 + more ≤ limit
-  under_limit is fits = omega arith
+-- each of the rules from `from` to `to` costs one at least
+pub cost_counts : (all : Unsorted) (n from to : ℕ) → from ≤ to → to ≤ length all.entries.items
+    → cost_upto all n from + (to - from) ≤ cost_upto all n to
+cost_counts all n from to less within =
+    let some = take to (rules_in all) in
+    let parts = sum_by-take-drop (λ (r : PlacedRule). 1 + looks_of r.rule.0 n) some from in
+    let long : length (drop from some) ≡ to - from =
+    simp (length-drop, length-take, length-map) (omega arith) in
+    rw (← take-take from to (rules_in all) less) (omega (arith, parts, counts n (drop from some), long))
 
 -- ---- Among sorted rules, the first that matches decides.
 
@@ -231,26 +236,28 @@ pub mask_within : (all : Unsorted) (entry : Entry) → IsEntryOf all entry → (
     → AreWithin (mask_in (string_bytes all.text) entry) (pair_set text)
 mask_within all entry is text matches = grind (arith, beginning_within, within_both)
 
--- rules whose masks exclude the text needn't be tried
-pub apart_tried : (all : Unsorted) (old new : ViewValue) (from to : ℕ) → AreEntries all
-    → HaveMasks (string_bytes all.text) all.entries.items all.masks.items → from ≤ to
-    → to ≤ length all.entries.items → AreApart all.masks.items (pair_set new.text) from to
-    → AreTried all old new from → AreTried all old new to
-apart_tried all old new from to are masked up within apart tried =
-    let more = cost_grows all (length old.text) to from up in
-    record {
-      text = tried.text;
-      before = λ k below matches. elim (cases_lt k from) [
-        | inl early ↦ tried.before k early matches
-        | inr late ↦
-            let (here, differs) = apart k late below in
-            let is = are.known k no_entry (omega arith) in
-            let within = rw (← masked k here) at (mask_within all _ is old.text matches) in
-            differs (rw tried.text within)
-      ];
-      grows = tried.grows;
-      spent = omega (arith, more);
-    }
+-- rules whose masks exclude the text don't match it
+pub none_apart : (all : Unsorted) (text : List ℕ) (from to : ℕ) → AreEntries all
+    → HaveMasks (string_bytes all.text) all.entries.items all.masks.items
+    → AreApart all.masks.items (pair_set text) from to → NoneBetween all text from to
+none_apart all text from to are masked apart = λ k above below matches.
+    let (here, differs) = apart k above below in
+    let is = are.known k no_entry (omega arith) in
+    differs (rw (← masked k here) at (mask_within all _ is text matches))
+
+pub tried_to : (all : Unsorted) (old now new : ViewValue) (from to : ℕ)
+    → NoneBetween all old.text from to → new.text ≡ now.text → now.looks ≤ new.looks
+    → new.looks + cost_upto all (length old.text) from ≤ now.looks + cost_upto all (length old.text) to
+    → AreTried all old now from → AreTried all old new to
+tried_to all old now new from to none same grows spent tried = record {
+  text = same ∙ tried.text;
+  before = λ k below matches. elim (cases_lt k from) [
+    | inl early ↦ tried.before k early matches
+    | inr late ↦ none k late below matches
+  ];
+  grows = omega (arith, tried.grows);
+  spent = omega (arith, tried.spent, spent);
+}
 
 pub tried_more : (all : Unsorted) (old now new : ViewValue) (at : ℕ) (entry : Entry)
     → at < length all.entries.items → entry ≡ get_or all.entries.items at entry
@@ -259,19 +266,12 @@ pub tried_more : (all : Unsorted) (old now new : ViewValue) (at : ℕ) (entry : 
     → AreTried all old now at → AreTried all old new (at + 1)
 tried_more all old now new at entry within is other same grows spent tried =
     let more = cost_more all (length old.text) at entry within is in
-    record {
-      text = same ∙ tried.text;
-      before = λ k below matches. elim (cases_lt k at) [
-        | inl early ↦ tried.before k early matches
-        | inr late ↦
-            let here : k ≡ at = omega arith in
-            other (subst (λ (e : Entry). Matches (pattern_of all e) old.text)
-            (sym (get_or_read all.entries.items at entry within is no_entry))
-            (subst (λ n. MatchesAt all n old.text) here matches))
-      ];
-      grows = omega (arith, tried.grows);
-      spent = omega (arith, tried.spent, more);
-    }
+    tried_to all old now new at (at + 1) (λ k above below matches.
+    let here : k ≡ at = omega arith in
+    other (subst (λ (e : Entry). Matches (pattern_of all e) old.text)
+    (sym (get_or_read all.entries.items at entry within is no_entry))
+    (subst (λ n. MatchesAt all n old.text) here matches)))
+    same grows (omega (arith, spent, more)) tried
 
 part_length : {X : Type 0} (xs : List X) (span : Span) → IsSpan xs span
     → length (part_of xs span) ≡ span.end - span.start

@@ -59,16 +59,17 @@ impl<'a> View<'a> {
         ensures text { self.new.text ≡ self.old.text }
         ensures looks { self.new.looks ≡ self.old.looks + 1 }
     {
-        self.count_one();
+        self.count(1);
         self.text.as_bytes()[at] == byte
     }
 
-    pub(crate) fn count_one(&mut self)
+    pub(crate) fn count(&mut self, looks: u64)
+        requires { 0 < looks }
         ensures text { self.new.text ≡ self.old.text }
-        ensures looks { self.new.looks ≡ self.old.looks + 1 }
+        ensures looks { self.new.looks ≡ self.old.looks + looks }
     {
-        self.looks = self.looks.one_more();
-        self.count = self.count.saturating_add(1);
+        self.looks = self.looks.more(looks);
+        self.count = self.count.saturating_add(looks);
     }
 
     /// Whether the text is `/robots.txt`. This isn't a look.

@@ -12,55 +12,21 @@ use Rattle.std.proofs.lemmas.List.Folds.{list_any-from_Any, Any-from_list_any, l
 use Rattle.texting_robots.specs.Callers.{AreRulesFor, LineValue, Matches, PlacedRule, Rule, escaped, IsDenied}
 use Rattle.texting_robots.specs.Callers.{placed_rules, HoldsRule, IsDecidingLine, robots_file, unplaced}
 use Rattle.texting_robots.specs.{Pattern.MatchesWith}
-use Rattle.robots_warnings.specs.Closed.{is_anything, is_root, is_star_or_dollar, is_whole_site, closes}
-use Rattle.robots_warnings.specs.Closed.{without_stars, closing_line, is_allow, is_exempt, is_literally}
-use Rattle.robots_warnings.specs.Closed.{is_rival, line_closing, matches_no_path, opened_paths, reach_of}
+use Rattle.robots_warnings.specs.Closed.{closes, is_exempt, is_literally, is_star_or_dollar}
+use Rattle.robots_warnings.specs.Closed.{is_whole_site}
+use Rattle.robots_warnings.specs.Closed.{is_rival, line_closing, matches_no_path, opened_paths}
+use Rattle.robots_warnings.specs.{Closed.leaves_closed, Closed.opens_little}
+use Rattle.robots_warnings.specs.declared.closed.Part.TheVariants as part
 use Rattle.robots_warnings.specs.Conflicts.{IsConflict, allow_beside, at_line, compared, conflict_for}
 use Rattle.robots_warnings.specs.Conflicts.{first_line, first_of, is_like, line_if}
 use Rattle.robots_warnings.specs.{Contents.is_cut_to_root}
 use Rattle.robots_warnings.proofs.{ClosedLemmas.whole_site_stays}
 use Rattle.texting_robots.proofs.Shared.{computed_are, placed_of, in_front, plain_wildcards}
-use Rattle.robots_warnings.specs.declared.closed.Reach.TheVariants.{Everything, Nothing}
+use Rattle.audit_core.proofs.ReachLemmas.{whole_site_matches}
 use Rattle.robots_needless.proofs.{TogetherLemmas.unplaced_of}
 use Rattle.warnings_laws.proofs.{WarningLemmas.without_path}
 
 -- ---- What `hash-cuts-rule` and `allowed-and-disallowed` imply.
-
-stars_match : (pattern : List ℕ) → list_all is_star_or_dollar pattern ≡ true → Matches pattern []
-unfolding MatchesWith
-stars_match [] stars = tt
-stars_match (b ∷ pattern) stars = grind (arith, stars_match pattern)
-
-anything_matches : (pattern text : List ℕ) → is_anything pattern ≡ true → Matches pattern text
-unfolding MatchesWith
-anything_matches [] text is = cc
-anything_matches (b ∷ pattern) text is =
-    let (first, stars) = and_parts (b == byte "*") _ is in
-    subst (λ b. Matches (b ∷ pattern) text) (sym (eqb-true b (byte "*") first))
-    ([], (text, sym (append-nil text)), stars_match pattern stars)
-
-rest_matches : (pattern text : List ℕ) → (length pattern == 0 || is_anything pattern) ≡ true
-    → Matches pattern text
-unfolding MatchesWith
-rest_matches pattern text rest = grind (arith, anything_matches)
-
-root_matches : (pattern text : List ℕ) → is_root pattern ≡ true → Matches pattern (byte "/" ∷ text)
-unfolding MatchesWith
-root_matches [] text root = cc
-root_matches (b ∷ pattern) text root =
-    let (is, rest) = and_parts (b == byte "/") _ root in
-    subst (λ b. Matches (b ∷ pattern) (byte "/" ∷ text)) (sym (eqb-true b (byte "/") is))
-    (text, refl, rest_matches pattern text rest)
-
-stars_match_before : (pattern text : List ℕ) → Matches (without_stars pattern) text → Matches pattern text
-unfolding MatchesWith
-stars_match_before [] text rest = rest
-stars_match_before (b ∷ pattern) text rest = grind (arith, stars_match_before pattern text)
-
-pub whole_site_matches : (pattern text : List ℕ) → is_whole_site pattern ≡ true
-    → Matches pattern (byte "/" ∷ text)
-whole_site_matches pattern text whole =
-    grind (arith, anything_matches, stars_match_before, root_matches)
 
 pub cut_to_root_matches : (value tail comment path : List ℕ) → is_cut_to_root value tail comment ≡ true
     → Matches (escaped value) (byte "/" ∷ path)
@@ -206,7 +172,7 @@ conflict_never_decides is_empty agent lines rules number other text is wins are 
     (wins.0 (subst (λ (rule : Rule). Matches rule.0 text) same decides.matches))
     (grind arith)
 
--- ---- What `closes-everything` implies, and that a crawler may fetch all or nothing.
+-- ---- What `closes-everything` implies.
 
 line_given : (test : PlacedRule → Bool) (placed : PlacedRule) → is_some (line_if test placed) ≡ test placed
 line_given test placed = grind arith
@@ -218,15 +184,18 @@ none_at test xs none k d below = grind (arith, list_any_at)
 is_shorter : (n m : ℕ) → nat_le n m ≡ false → m < n
 is_shorter n m isnt = grind arith
 
-pub closed_denies : (is_exempt : List ℕ → Bool) (agent : List ℕ) (lines : List LineValue)
+pub closed_denies : (leaves : List ℕ → Bool) (agent : List ℕ) (lines : List LineValue)
     (rules : List PlacedRule) (text : List ℕ)
-    → is_some (closing_line is_exempt (placed_rules agent lines)) ≡ true → AreRulesFor agent lines rules
+    → is_some (first_line (closes part.Site leaves (placed_rules agent lines)) (placed_rules agent lines))
+    ≡ true
+    → AreRulesFor agent lines rules
     → byte "/" ∷ text ≢ robots_file
-    → ((pattern : List ℕ) → is_exempt pattern ≡ true → ¬ Matches pattern (byte "/" ∷ text))
+    → ((pattern : List ℕ) → Contains (unplaced rules) (pattern, true) → leaves pattern ≡ true
+    → ¬ Matches pattern (byte "/" ∷ text))
     → IsDenied (unplaced rules) (byte "/" ∷ text)
-closed_denies is_exempt agent lines rules text is are differs opens =
+closed_denies leaves agent lines rules text is are differs opens =
     let all = placed_rules agent lines in
-    let test = closes is_exempt all in
+    let test = closes part.Site leaves all in
     let (k, placed, below, at, some) =
     Any-from_list_any (λ placed. is_some (line_if test placed)) all (any_some (line_if test) all ∙ is) in
     let (closing, alone) = and_parts _ _ (sym (line_given test placed) ∙ some) in
@@ -239,19 +208,21 @@ closed_denies is_exempt agent lines rules text is are differs opens =
       whole_site_matches placed.rule.0 text whole,
       λ pattern has matches.
           let (allow, listed, same) = placed_of rules (pattern, true) has in
-          let isnt = All-contains (λ other. is_rival is_exempt placed.rule.0 other ≡ false) all allow
-          (none_at (is_rival is_exempt placed.rule.0) all (not-true _ alone))
+          let isnt = All-contains (λ other. is_rival leaves placed.rule.0 other ≡ false) all allow
+          (none_at (is_rival leaves placed.rule.0) all (not-true _ alone))
           (also_listed are own allow listed) in
           grind (arith, shorter),
     )
   where
-    shorter : (n : ℕ) (pattern : List ℕ) → Matches pattern (byte "/" ∷ text)
-        → ((true && not (is_exempt pattern || matches_no_path pattern)) && nat_le n (length pattern)) ≡ false
-        → (is_exempt pattern ≡ true) ⊎ (is_exempt pattern ≡ false)
+    shorter : (n : ℕ) (pattern : List ℕ) → Contains (unplaced rules) (pattern, true)
+        → Matches pattern (byte "/" ∷ text)
+        → ((true && not (leaves pattern || matches_no_path pattern)) && nat_le n (length pattern)) ≡ false
+        → (leaves pattern ≡ true) ⊎ (leaves pattern ≡ false)
         → (matches_no_path pattern ≡ true) ⊎ (matches_no_path pattern ≡ false) → length pattern < n
-    shorter n pattern matches isnt (inl exempt) _ = absurd (opens pattern exempt matches)
-    shorter n pattern matches isnt (inr stated) (inl never) = absurd (without_path pattern text never matches)
-    shorter n pattern matches isnt (inr stated) (inr may) =
+    shorter n pattern has matches isnt (inl exempt) _ = absurd (opens pattern has exempt matches)
+    shorter n pattern has matches isnt (inr stated) (inl never) =
+        absurd (without_path pattern text never matches)
+    shorter n pattern has matches isnt (inr stated) (inr may) =
         is_shorter n (length pattern) (rw (stated, may) at isnt)
 
 starts : (path text : List ℕ) → starts_with nat_eq (path ++ text) path ≡ true
@@ -284,15 +255,20 @@ closed_by false line is = is
 pub closes_everything : (agent : List ℕ) (lines : List LineValue) (rules : List PlacedRule) (number : ℕ)
     (text : List ℕ) → line_closing lines agent ≡ Some number → AreRulesFor agent lines rules
     → list_any (starts_with nat_eq (byte "/" ∷ text)) (opened_paths lines) ≡ false
+    → ((pattern : List ℕ) → Contains (unplaced rules) (pattern, true) → opens_little pattern ≡ true
+    → ¬ Matches pattern (byte "/" ∷ text))
     → IsDenied (unplaced rules) (byte "/" ∷ text)
-closes_everything agent lines rules number text is are none =
-    closed_denies (is_exempt lines) agent lines rules text
+closes_everything agent lines rules number text is are none opens =
+    closed_denies (leaves_closed part.Site (is_exempt lines)) agent lines rules text
     (ap is_some (closed_by _ _ is)) are
     (grind arith)
-    (λ pattern exempt matches.
-    let (k, path, below, at, literal) =
-    Any-from_list_any (is_literally pattern) (opened_paths lines) exempt in
-    false≢true (sym none ∙ within path (k, below, at) (literally_starts pattern path _ literal matches)))
+    (λ pattern has exempt matches. elim (or_cases (is_exempt lines pattern) _ exempt) [
+      | inl listed ↦
+          let (k, path, below, at, literal) =
+          Any-from_list_any (is_literally pattern) (opened_paths lines) listed in
+          false≢true (sym none ∙ within path (k, below, at) (literally_starts pattern path _ literal matches))
+      | inr little ↦ opens pattern has little matches
+    ])
   where
     within : (path : List ℕ) → Contains (opened_paths lines) path
         → starts_with nat_eq (byte "/" ∷ text) path ≡ true
@@ -300,19 +276,3 @@ closes_everything agent lines rules number text is are none =
     within path (k, below, at) begins =
         list_any-from_Any (starts_with nat_eq (byte "/" ∷ text)) (opened_paths lines)
         (k, path, below, at, begins)
-
-pub fetches_everything : (agent : List ℕ) (lines : List LineValue) (rules : List PlacedRule) (text : List ℕ)
-    → reach_of lines agent ≡ Everything → AreRulesFor agent lines rules → ¬ IsDenied (unplaced rules) text
-fetches_everything agent lines rules text is are (differs, pattern, has, matches, longest) =
-    let all = placed_rules agent lines in
-    let (denies, listed, same) = placed_of rules (pattern, false) has in
-    let (k, below, at) = also_listed are (computed_are agent lines) denies listed in
-    grind (arith, list_all_at)
-
-pub fetches_nothing : (agent : List ℕ) (lines : List LineValue) (rules : List PlacedRule) (text : List ℕ)
-    → reach_of lines agent ≡ Nothing → AreRulesFor agent lines rules → byte "/" ∷ text ≢ robots_file
-    → IsDenied (unplaced rules) (byte "/" ∷ text)
-fetches_nothing agent lines rules text is are differs =
-    closed_denies (λ pattern. false) agent lines rules text
-    (grind arith) are differs
-    (grind arith)

@@ -2,7 +2,7 @@
 -- report tells about the syntax of a file and its verdicts is so.
 use Rattle.std.specs.Prelude.{flat_map, zip}
 use Rattle.std.proofs.{lemmas.Grind.common_steps, Common.rules}
-use Rattle.std.proofs.Common.{false, true, ◌++◌, ap, None, Option, Some, ◌≡◌, ◌≢◌}
+use Rattle.std.proofs.Common.{false, true, ◌++◌, ap, ap₂, None, Option, Some, ◌≡◌, ◌≢◌}
 use Rattle.std.proofs.Common.{ℕ}
 use Rattle.std.proofs.Common.{◌≤◌, ◌↔◌, Bool, inl, inr, List, [], ◌∷◌, Contains, IsUtf8, arith, codes}
 use Rattle.std.proofs.Common.{length}
@@ -27,7 +27,9 @@ use Rattle.std.proofs.lemmas.List.Elements.{All-cons, All-nil, recursion_from_Al
 use Rattle.texting_robots.proofs.Shared.{none_unplaced, some_overlong}
 use Rattle.texting_robots.proofs.Shared.{rejection_is_computed, each_text_answered, overlong_decides}
 use Rattle.robots_needless.specs.{declared.needless.NeedlessRule.NeedlessRule}
-use Rattle.robots_warnings.specs.{Closed.reach_of, Warnings.warnings, Message.WarningValue}
+use Rattle.robots_warnings.specs.{Warnings.warnings, Message.WarningValue}
+use Rattle.audit_core.specs.declared.reach.Reach.TheVariants.{Part}
+use Rattle.warnings_laws.specs.Audit.{agent_without_reach, without_reach}
 use Rattle.robots_warnings.specs.Facts.{is_too_large}
 use Rattle.rfc9309_laws.specs.{LineForms.AreForms, Matching.all_stay, Matching.normal_uri}
 use Rattle.rfc9309_laws.specs.Conformance.{conformance_of, has_syntax, has_verdicts}
@@ -125,8 +127,21 @@ ruling_once urls lines agent (Some line) (Some other) verdicts others (first, is
     search (rules, line_once)
 
 agent_once : (urls : List (List ℕ)) (lines : List LineValue) (agent : List ℕ) (one two : AgentValue)
-    → IsAgentAudit urls lines agent one → IsAgentAudit urls lines agent two → one ≡ two
+    → IsAgentAudit urls lines agent one → IsAgentAudit urls lines agent two
+    → agent_without_reach one ≡ agent_without_reach two
 agent_once urls lines agent one two is too = grind (arith, ruling_once)
+
+agents_once : (urls : List (List ℕ)) (lines : List LineValue) (agents : List (List ℕ))
+    (ones twos : List AgentValue) → AllZip (IsAgentAudit urls lines) agents ones
+    → AllZip (IsAgentAudit urls lines) agents twos
+    → map agent_without_reach ones ≡ map agent_without_reach twos
+agents_once urls lines [] [] [] are also = refl
+agents_once urls lines [] [] (two ∷ twos) are also = absurd also
+agents_once urls lines [] (one ∷ ones) twos are also = absurd are
+agents_once urls lines (agent ∷ agents) [] twos are also = absurd are
+agents_once urls lines (agent ∷ agents) (one ∷ ones) [] are also = absurd also
+agents_once urls lines (agent ∷ agents) (one ∷ ones) (two ∷ twos) (is, are) (too, also) =
+    ap₂ (λ first (rest : List AgentValue). first ∷ rest) (agent_once urls lines agent one two is too) (agents_once urls lines agents ones twos are also)
 
 sitemaps_once : (lines : List LineValue) (labels : List Label) (one two : List WarningValue)
     → AreOfSitemaps lines labels one → AreOfSitemaps lines labels two → one ≡ two
@@ -134,11 +149,11 @@ sitemaps_once lines labels one two is too = grind (arith, ruling_once)
 
 pub same_audit : (requested : RequestValue) (file : List ℕ) (audit other : AuditValue)
     → (is : IsAuditOf requested file audit) → (too : IsAuditOf requested file other)
-    → is.needless ≡ too.needless → audit ≡ other
+    → is.needless ≡ too.needless → without_reach audit ≡ without_reach other
 same_audit requested file audit other is too same =
     let lines = lines_read file in
-    let agents = zip_once (IsAgentAudit requested.urls lines) (agent_once requested.urls lines)
-    (agents_requested requested.agents lines) audit.agents other.agents is.agents_are too.agents_are in
+    let agents = agents_once requested.urls lines (agents_requested requested.agents lines) audit.agents
+    other.agents is.agents_are too.agents_are in
     let sitemaps = sitemaps_once lines (labels_requested requested file) is.sitemaps too.sitemaps
     is.sitemaps_are too.sitemaps_are in
     grind arith
@@ -226,7 +241,8 @@ some_agent urls lines agent =
         group = group_of agent lines;
         group_line = naming_line agent lines;
         rules = length (placed_rules agent lines);
-        reach = reach_of lines agent;
+        reach = Part;
+        allows = [];
         delay = delay_for agent lines;
         rejected = rejected;
         verdicts = verdicts;

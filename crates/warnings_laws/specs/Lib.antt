@@ -1,3 +1,4 @@
+pub mod Audit
 pub mod Syntax
 pub mod Verdict
 pub mod Examples

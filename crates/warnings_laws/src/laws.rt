@@ -14,11 +14,11 @@ ghost use Rattle.robots_needless.specs.Blocks.{HaveSameRobot, IsLeftOf};
 ghost use Rattle.robots_needless.specs.Needless.{lines_without, numbers_of};
 ghost use Rattle.rfc9309_laws.specs.Rfc9309.{Group, IsFile, IsProductToken};
 ghost use Rattle.rfc9309_laws.specs.Matching.{all_stay, normal_uri};
-ghost use Rattle.warnings_laws.specs.{Syntax.IsRobotStated, Verdict.IsStandardVerdict};
+ghost use Rattle.warnings_laws.specs.{Audit.without_reach, Syntax.IsRobotStated, Verdict.IsStandardVerdict};
 ghost use Rattle.robots_warnings.specs.Conflicts.{IsConflict, IsOverruled, conflict, overruled, is_empty_at};
 ghost use Rattle.robots_warnings.specs.Conflicts.{overruled_for, IsEmptyDisallow, stated_rules};
-ghost use Rattle.robots_warnings.specs.Closed.{line_closing, opened_paths, reach_of, replacing, star_count};
-ghost use Rattle.robots_warnings.specs.declared.closed.Reach.TheVariants.{Everything, Nothing};
+ghost use Rattle.robots_warnings.specs.Closed.{line_closing, opened_paths, opens_little};
+ghost use Rattle.robots_warnings.specs.Closed.{replacing, star_count};
 ghost use Rattle.robots_warnings.specs.{Contents.is_cut_to_root, Crawlers.names_past_limit};
 ghost use Rattle.robots_warnings.specs.{Positions.is_above_agents, Repeated.repeated, Targets.has_odd_target};
 ghost use Rattle.robots_warnings.specs.{Targets.written_target, Urls.is_unparsable, Urls.begins_as_url};
@@ -33,14 +33,15 @@ use std::alloc::Global;
 use texting_robots::{Error, Robot};
 
 /// Without `--needless`, a request and a file have at most one audit; with it, one for each list of needless
-/// rules.
+/// rules. Only what a crawler may fetch can be said or not, as it isn't always decided.
 pub fn each_file_has_one_audit()
     ensures one { (requested : RequestValue) (file : List ℕ) (audit other : AuditValue)
         → requested.has_needless ≡ false
-        → IsAuditOf requested file audit → IsAuditOf requested file other → audit ≡ other }
+        → IsAuditOf requested file audit → IsAuditOf requested file other
+        → without_reach audit ≡ without_reach other }
     ensures same { (requested : RequestValue) (file : List ℕ) (audit other : AuditValue)
         → (is : IsAuditOf requested file audit) → (too : IsAuditOf requested file other)
-        → is.needless ≡ too.needless → audit ≡ other }
+        → is.needless ≡ too.needless → without_reach audit ≡ without_reach other }
 {}
 
 /// Every request and file have an audit.
@@ -185,22 +186,14 @@ pub fn without_empty_disallows()
 {}
 
 /// If `closes-everything` is given because of the rules of a crawler, every path is denied to it, unless it
-/// begins with `/robots.txt` or with the path of a sitemap that the file lists.
+/// begins with `/robots.txt` or with the path of a sitemap that the file lists, or an Allow matches it that
+/// opens little.
 pub fn closes_everything()
     ensures { (agent : List ℕ) (lines : List LineValue) (rules : List PlacedRule) (number : ℕ) (text : List ℕ)
         → line_closing lines agent ≡ Some number → AreRulesFor agent lines rules
         → list_any (starts_with nat_eq (byte "/" ∷ text)) (opened_paths lines) ≡ false
-        → IsDenied (unplaced rules) (byte "/" ∷ text) }
-{}
-
-/// If a report says that a crawler may fetch everything, no text is denied to it; if it says that it may
-/// fetch nothing, every path is, except `/robots.txt`.
-pub fn may_fetch()
-    ensures everything { (agent : List ℕ) (lines : List LineValue) (rules : List PlacedRule) (text : List ℕ)
-        → reach_of lines agent ≡ Everything → AreRulesFor agent lines rules
-        → ¬ IsDenied (unplaced rules) text }
-    ensures nothing { (agent : List ℕ) (lines : List LineValue) (rules : List PlacedRule) (text : List ℕ)
-        → reach_of lines agent ≡ Nothing → AreRulesFor agent lines rules → byte "/" ∷ text ≢ robots_file
+        → ((pattern : List ℕ) → Contains (unplaced rules) (pattern, true) → opens_little pattern ≡ true
+        → ¬ Matches pattern (byte "/" ∷ text))
         → IsDenied (unplaced rules) (byte "/" ∷ text) }
 {}
 

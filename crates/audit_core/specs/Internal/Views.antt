@@ -15,6 +15,7 @@ agent_of audit = record {
   group_line = audit.group_line;
   rules = audit.rules;
   reach = audit.reach;
+  allows = audit.allows.items;
   delay = audit.delay;
   rejected = audit.rejected;
   verdicts = audit.verdicts.items;

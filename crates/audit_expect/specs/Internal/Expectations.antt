@@ -18,6 +18,7 @@ expectation_value expectation = record {
   allowed = expectation.allowed;
   agent = expectation.agent.now;
   url = expectation.url.now;
+  is_pattern = expectation.is_pattern;
 }
 
 -- by value

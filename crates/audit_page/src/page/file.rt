@@ -4,6 +4,7 @@ use crate::page::elements::Page;
 use crate::page::slices::{after, first};
 use crate::page::warnings::write_warning_row;
 use audit_core::audit::{Audit, labeling_agent};
+use audit_core::joined::in_order;
 use audit_core::rows::{Shown, comment_of, kind_text, membership_word};
 use audit_core::sitemaps::sitemaps_of;
 use printable_text::report::Untrusted;
@@ -12,6 +13,7 @@ use std::alloc::Global;
 use std::fmt;
 use std::fmt::Write;
 use texting_robots::labels::LabeledLine;
+use texting_robots::parser::Line;
 
 /// A browser lays out later what isn't visible yet.
 const BODY_LINES: usize = 500;
@@ -43,7 +45,12 @@ fn write_line_row(page: &mut Page, label: &LabeledLine<'_>) -> fmt::Result {
     write!(page.html, "{number}")?;
     page.html.close()?;
     page.element("td", group)?;
-    page.element("td", kind_text(label.line))?;
+    match label.line {
+        Line::UserAgent(_) => page.html.open("td", &[("class", "agent")])?,
+        _ => page.html.open("td", &[])?,
+    }
+    page.html.write_str(kind_text(label.line))?;
+    page.html.close()?;
     page.html.open("td", &[])?;
     let value = Shown(label.line);
     write!(page.html, "{value}")?;
@@ -89,9 +96,14 @@ pub(crate) fn write_file_table(
     agent: Option<&str>,
     audit: &Audit<'_>,
 ) -> fmt::Result {
+    let class = if agent.is_none() {
+        "lines all"
+    } else {
+        "lines"
+    };
     let agent = labeling_agent(agent);
     page.element("h2", "File")?;
-    page.html.open("table", &[("class", "lines")])?;
+    page.html.open("table", &[("class", class)])?;
     page.html.open("caption", &[])?;
     write!(
         page.html,
@@ -99,7 +111,7 @@ pub(crate) fn write_file_table(
     )?;
     page.html.close()?;
     write_line_columns(page)?;
-    let lists = by_line(alloc, &audit.warnings)?;
+    let lists = by_line(alloc, &in_order(alloc, &audit.warnings)?)?;
     for at in 0..audit.labels.len().div_ceil(BODY_LINES) {
         let lines = after(&audit.labels, at.saturating_mul(BODY_LINES));
         page.html.open("tbody", &[])?;

@@ -66,10 +66,18 @@ td:only-child { grid-column: 1 / -1 }
 .scroll caption { padding: .4rem .5rem; position: sticky; left: 0; width: max-content; max-width: 100% }
 
 .allowed, .everything { color: var(--yes); font-weight: 600 }
+.listed { font-weight: 600 }
+.mistake .allowed, .mistake .everything { color: inherit }
 .denied, .nothing { color: var(--no); font-weight: 600 }
 td a { font-weight: 400 }
 .own { box-shadow: inset 4px 0 var(--link) }
-.other td, .ungrouped td { color: var(--dim) }
+.lines:not(.all) .other td, .ungrouped td { color: var(--dim) }
+tr:has(> .agent) { border-top: 2px solid var(--dim) }
+tr:has(> .agent) + tr:has(> .agent) { border-top: 0 }
+.agent, .agent + td { font-weight: 600 }
+b { display: inline-block; font-weight: 600; margin: 0 .5rem .35rem 0; padding: 0 .5rem 0 .85rem }
+ul:has(> .error, > .warning, > .note) { list-style: none; padding: 0 }
+li.error, li.warning, li.note { padding: .15rem .5rem .15rem .85rem }
 .error { background: var(--alert); box-shadow: inset 4px 0 var(--error) }
 .warning { background: var(--warn); box-shadow: inset 4px 0 var(--warning) }
 .note { background: var(--hint); box-shadow: inset 4px 0 var(--note) }
@@ -123,5 +131,5 @@ tr:target { background: var(--hit) }
 
 /// It permits the page's own style only, by the SHA-256 hash that a test computes again.
 pub(crate) const POLICY: &str = "default-src 'none'; \
-    style-src 'sha256-IcmGyz+6RF9L+WzqNPx6Eoo8F2DaQNBWOTLy4b1mOzc='; \
+    style-src 'sha256-k+T9wyW/JdgYDq7kgifXVlKrGvj0qpMgVZW2ay3I7pc='; \
     base-uri 'none'; form-action 'none'";

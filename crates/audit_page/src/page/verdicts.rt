@@ -4,7 +4,8 @@ ghost use Rattle.html_writer.specs.Page.{is_tag};
 
 use crate::page::elements::Page;
 use audit_core::audit::{AgentAudit, Verdict};
-use audit_core::texts::{Applied, DelayOrNone, may_fetch};
+use audit_core::reach::Reach;
+use audit_core::texts::{Applied, DelayOrNone, Fetched, may_fetch};
 use std::fmt;
 use std::fmt::Write;
 
@@ -70,20 +71,17 @@ fn write_group_note(page: &mut Page, audit: &AgentAudit<'_>) -> fmt::Result {
     Ok(())
 }
 
-/// What a crawler may fetch, if that is everything or nothing; else its rules decide.
-fn fetch_word(agent: &AgentAudit<'_>) -> &'static str {
-    match may_fetch(agent.rejected, agent.reach) {
-        Some(word) => word,
-        None => "see rules",
-    }
-}
-
 fn write_fetch(page: &mut Page, name: &'static str, agent: &AgentAudit<'_>) -> fmt::Result
     requires { is_tag name.now ≡ true }
 {
-    let word = fetch_word(agent);
-    page.html.open(name, &[("class", word)])?;
-    page.html.write_str(word)?;
+    let class = may_fetch(agent.rejected, agent.reach).unwrap_or("some");
+    page.html.open(name, &[("class", class)])?;
+    let fetched = Fetched(agent.reach, &agent.allows);
+    match (agent.rejected, agent.reach) {
+        (Some(_), _) => page.html.write_str("not decided")?,
+        (None, Reach::Part) => page.html.write_str("some, by its rules")?,
+        (None, _) => write!(page.html, "{fetched}")?,
+    }
     page.html.close()
 }
 
@@ -175,7 +173,12 @@ pub(crate) fn write_verdict_part(
     agents: &[AgentAudit<'_>],
 ) -> fmt::Result {
     if agent.is_none() {
-        page.element("h2", "Crawlers")?;
+        let heading = if agents.len() == 1 {
+            "Crawler"
+        } else {
+            "Crawlers"
+        };
+        page.element("h2", heading)?;
         return write_agent_table(page, urls, agents);
     }
     for agent in agents {

@@ -1,7 +1,8 @@
-//! The warnings of a page: the list at the top, and the rows below their lines.
+//! The findings of a page: the list at the top, and the rows below their lines.
 use crate::page::elements::Page;
 use crate::page::slices::{after, first};
 use audit_core::counts::counts_of;
+use audit_core::joined::{AlsoIn, in_order, joined, shared_lines};
 use printable_text::level::Level;
 use robots_warnings::warning::Warning;
 use std::alloc::{AllocError, Global};
@@ -18,9 +19,11 @@ fn level_front(level: Level) -> &'static str {
     }
 }
 
-fn write_warning(page: &mut Page, warning: &Warning<'_>) -> fmt::Result {
+/// The lines are those of all that are written as one.
+fn write_warning(page: &mut Page, lines: &[usize], warning: &Warning<'_>) -> fmt::Result {
     let (level, name) = (level_front(warning.cause.level()), warning.cause.name());
-    write!(page.html, "{level}: {warning} [{name}]")
+    let also = AlsoIn(lines);
+    write!(page.html, "{level}: {warning}{also} [{name}]")
 }
 
 /// The warnings that have no row in the table of lines, which has so many rows.
@@ -51,14 +54,33 @@ fn write_place(page: &mut Page, rows: usize, line: Option<usize>) -> fmt::Result
     page.html.write_str(": ")
 }
 
-fn write_items(page: &mut Page, rows: usize, warnings: &[Warning<'_>]) -> fmt::Result {
+/// `all` are those with which these may be written as one.
+fn write_items(
+    alloc: Global,
+    page: &mut Page,
+    rows: usize,
+    all: &[Warning<'_>],
+    warnings: &[Warning<'_>],
+) -> fmt::Result {
     for warning in warnings {
-        page.html.open("li", &[])?;
+        let lines = shared_lines(alloc, warning, all)?;
+        page.html
+            .open("li", &[("class", warning.cause.level().word())])?;
         write_place(page, rows, warning.line)?;
-        write_warning(page, warning)?;
+        write_warning(page, &lines, warning)?;
         page.html.close()?;
     }
     Ok(())
+}
+
+fn write_count(page: &mut Page, level: Level, count: usize) -> fmt::Result {
+    if count == 0 {
+        return Ok(());
+    }
+    let (word, end) = (level.word(), if count > 1 { "s" } else { "" });
+    page.html.open("b", &[("class", word)])?;
+    write!(page.html, "{count} {word}{end}")?;
+    page.html.close()
 }
 
 fn write_counts(page: &mut Page, warnings: &[Warning<'_>]) -> fmt::Result {
@@ -66,7 +88,9 @@ fn write_counts(page: &mut Page, warnings: &[Warning<'_>]) -> fmt::Result {
         return page.html.write_str("none");
     }
     let counts = counts_of(warnings);
-    write!(page.html, "{counts}")
+    write_count(page, Level::Error, counts.errors)?;
+    write_count(page, Level::Warning, counts.warnings)?;
+    write_count(page, Level::Note, counts.notes)
 }
 
 pub(crate) fn write_warning_entry(
@@ -75,14 +99,16 @@ pub(crate) fn write_warning_entry(
     rows: usize,
     warnings: &[Warning<'_>],
 ) -> fmt::Result {
-    let later = after(warnings, LISTED_WARNINGS);
+    let all = in_order(alloc, warnings)?;
+    let found = joined(alloc, &all)?;
+    let later = after(&found, LISTED_WARNINGS);
     let others = without_row(alloc, rows, later)?;
-    page.element("dt", "Warnings")?;
+    page.element("dt", "Findings")?;
     page.html.open("dd", &[])?;
     write_counts(page, warnings)?;
     page.html.open("ul", &[])?;
-    write_items(page, rows, first(warnings, LISTED_WARNINGS))?;
-    write_items(page, rows, &others)?;
+    write_items(alloc, page, rows, &all, first(&found, LISTED_WARNINGS))?;
+    write_items(alloc, page, rows, &all, &others)?;
     page.html.close()?;
     let more = later.len().saturating_sub(others.len());
     if more > 0 {
@@ -97,7 +123,7 @@ pub(crate) fn write_warning_row(page: &mut Page, warning: &Warning<'_>) -> fmt::
     page.html
         .open("tr", &[("class", warning.cause.level().word())])?;
     page.html.open("td", &[("colspan", "4")])?;
-    write_warning(page, warning)?;
+    write_warning(page, &[], warning)?;
     page.html.close()?;
     page.html.close()
 }

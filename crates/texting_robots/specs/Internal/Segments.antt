@@ -304,6 +304,10 @@ abbrev pub MatchesAt : Unsorted → ℕ → List ℕ → Type 0
 MatchesAt all at text =
     Matches (pattern_of all (slice_index_or all.entries.items at no_entry)) text
 
+-- no rule of this range matches
+abbrev pub NoneBetween : Unsorted → List ℕ → ℕ → ℕ → Type 0
+NoneBetween all text from to = (k : ℕ) → from ≤ k → k < to → ¬ MatchesAt all k text
+
 abbrev pub NoneMatches : Unsorted → List ℕ → Type 0
 NoneMatches all text = (k : ℕ) → k < length all.entries.items → ¬ MatchesAt all k text
 

@@ -1,41 +1,45 @@
 //! What a query costs at most, and a query with a budget.
 ghost use Rattle.std.specs.Prelude.{◌≡◌, ◌≢◌, ◌+◌, ◌<◌, ◌≤◌, ◌^◌, IfErr, IfNone, IfOk, IfSome, IsOk, None};
-ghost use Rattle.std.specs.Prelude.{ℕ, List, IsTrue, length, max, slice_index_or, string_bytes};
+ghost use Rattle.std.specs.Prelude.{ℕ, List, length, max, string_bytes};
 ghost use Rattle.std.specs.{Option.option_map_or};
-ghost use Rattle.texting_robots.specs.{Cost.cost_of, Pattern.Matches, Verdict.robots_file};
+ghost use Rattle.texting_robots.specs.{Cost.cost_of, Verdict.robots_file};
 ghost use Rattle.texting_robots.specs.View.{LooksAtMost, seen_of};
 ghost use Rattle.texting_robots.specs.Decision.{IsDecidingLine, IsDecisionOn};
-ghost use Rattle.texting_robots.specs.Internal.Segments.{AreEntries, ArePairsOf, HaveMasks, IsEntryOf};
-ghost use Rattle.texting_robots.specs.Internal.Segments.{IsFirstMatch, NoneMatches, pattern_of, rules_in};
+ghost use Rattle.texting_robots.specs.Internal.Segments.{AreEntries, ArePairsOf, HaveMasks};
+ghost use Rattle.texting_robots.specs.Internal.Segments.{IsFirstMatch, NoneBetween, NoneMatches, rules_in};
 
-use super::{Entry, NO_RULE, Rules, Unsorted};
+use super::{NO_RULE, Rules, Unsorted};
 use crate::decision::Decision;
 use crate::error::TooCostly;
 use crate::prefilter::bigrams::BigramSet;
+use crate::prefilter::first_near;
 use crate::view::View;
 
 impl Unsorted {
-    /// Whether this entry can't match a text with these bigrams, if they are known.
-    fn is_apart(&self, entry: &Entry, at: usize, pairs: Option<BigramSet>) -> bool
-        requires known { IsEntryOf self.now entry.now }
-        requires at { entry.now ≡ slice_index_or self.now.entries.items at entry.now }
-        requires within { at < length self.now.entries.items }
+    /// The index `at`, or a later one if the rules before it can't match a text with these bigrams.
+    fn near(&self, at: usize, pairs: Option<BigramSet>) -> usize
+        requires known { AreEntries self.now }
         requires masked { HaveMasks (string_bytes self.now.text) self.now.entries.items self.now.masks.items }
-        ensures { IsTrue result → (text : List ℕ) → ArePairsOf text pairs
-            → ¬ Matches (pattern_of self.now entry.now) text }
+        requires within { at < length self.now.entries.items }
+        ensures from { at ≤ result }
+        ensures within { result ≤ length self.now.entries.items }
+        ensures apart { (text : List ℕ) → ArePairsOf text pairs → NoneBetween self.now text at result }
     {
         let Some(pairs) = pairs else {
-            return false;
+            return at;
         };
         let mask = match self.masks.get(at) {
             Some(mask) => BigramSet { bits: *mask },
-            None => entry.prefilter.pairs,
+            None => self.entries[at].prefilter.pairs,
         };
-        !mask.are_within(pairs)
+        if mask.are_within(pairs) {
+            return at;
+        }
+        first_near(&self.masks, at + 1, pairs.bits)
     }
 
-    /// Each rule that is tried counts as a look. It gives up at a rule if more looks than the limit might be
-    /// counted then.
+    /// Each rule that is tried or passed over counts as a look. It gives up if more looks than the limit might
+    /// be counted next.
     fn first_within(
         &self,
         view: &mut View<'_>,
@@ -56,23 +60,28 @@ impl Unsorted {
             < view.old.looks + cost_of (rules_in self.now) (length view.old.text)) }
     {
         let len = view.len();
-        for at in 0..self.entries.len() {
-            let entry = &self.entries[at];
-            if self.is_apart(entry, at, pairs) {
-                if view.seen() >= limit {
+        let mut at = 0;
+        while at < self.entries.len() {
+            let near = self.near(at, pairs);
+            let left = limit.saturating_sub(view.seen());
+            if at < near {
+                let apart = (near - at) as u64;
+                if left < apart {
                     return Err(TooCostly);
                 }
-                view.count_one();
+                view.count(apart);
+                at = near;
                 continue;
             }
-            let pattern = self.pattern(entry);
-            if view.seen().saturating_add(pattern.most_looks(len)) >= limit {
+            let pattern = self.pattern(&self.entries[at]);
+            if left <= pattern.most_looks(len) {
                 return Err(TooCostly);
             }
-            view.count_one();
+            view.count(1);
             if pattern.matches(view) {
                 return Ok(Some(at));
             }
+            at += 1;
         }
         Ok(None)
     }

@@ -1,13 +1,13 @@
 //! A counter that only contracts can read. At run time it has no number.
-ghost use Rattle.std.specs.Prelude.{◌≡◌, ◌+◌};
+ghost use Rattle.std.specs.Prelude.{◌≡◌, ◌+◌, ◌<◌};
 
 use std::marker::Model;
 use std::snapshot::Snapshot;
 
-/// How many looks were taken: none, or one more than before the last one. A snapshot has no bytes at run time.
+/// How many looks were taken: none, or one and others more than before. A snapshot has no bytes at run time.
 #[derive(Drop)]
 pub(super) struct Looks {
-    before_last: Option<Snapshot<Looks>>,
+    last: Option<(Snapshot<Looks>, Snapshot<u64>)>,
 }
 
 impl Model for Looks {
@@ -15,7 +15,7 @@ impl Model for Looks {
 
     ghost Value = { ℕ };
 
-    ghost view = { λ looks. unwrap_or (option_map (λ before. before.value + 1) looks.before_last) 0 };
+    ghost view = { λ looks. unwrap_or (option_map (λ last. last.0.value + 1 + last.1.value) looks.last) 0 };
 
     ghost size = { λ total. total };
 }
@@ -24,14 +24,16 @@ impl Looks {
     pub(super) fn none() -> Looks
         ensures { result ≡ 0 }
     {
-        Looks { before_last: None }
+        Looks { last: None }
     }
 
-    pub(super) fn one_more(&self) -> Looks
-        ensures { result ≡ self.now + 1 }
+    pub(super) fn more(&self, looks: u64) -> Looks
+        requires { 0 < looks }
+        ensures { result ≡ self.now + looks }
     {
+        let others = looks - 1;
         Looks {
-            before_last: Some(Snapshot::of(self)),
+            last: Some((Snapshot::of(self), Snapshot::of(&others))),
         }
     }
 }

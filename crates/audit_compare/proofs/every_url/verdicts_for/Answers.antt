@@ -11,12 +11,3 @@ returns-in-Same-clause-ok c =
       c.requires.older.site_is,
       c.requires.newer.site_is,
     ) at c.in_ok-compare.ensures
-
-pub returns-clause-ok : goal.returns-clause-ok
-returns-clause-ok c = record {
-  older_is = rw (c.deref-4.ensures.value, c.in_ok-old_rules.ensures, c.requires.older.site_is)
-      at c.in_ok-reach_of.ensures;
-  newer_is = rw (c.deref-5.ensures.value, c.in_ok-new_rules.ensures, c.requires.newer.site_is)
-      at c.in_ok-reach_of-2.ensures;
-  example = rw c.in-Some.is at c.in_ok-example.ensures.ok;
-}

@@ -1,12 +1,9 @@
 use Rattle.std.proofs.Common.{ap, length, map, refl, sym, ◌∙◌}
 use Rattle.texting_robots.specs.Callers.{file_lines, label_by_value, placed_rules}
 use Rattle.audit_core.specs.Audit.{group_of, naming_line}
-use Rattle.robots_warnings.specs.{Closed.reach_of, File.lines_of}
+use Rattle.robots_warnings.specs.{File.lines_of}
 use Rattle.audit_core.proofs.AuditLemmas.{delay_read}
 use Rattle.audit_core.proofs.audit.agent_audit.Goals as goal
-
-pub reach_of-requires : goal.reach_of-requires
-reach_of-requires c = c.deref.ensures.value ∙ c.in_ok-rules.ensures
 
 pub naming_line-requires : goal.naming_line-requires
 naming_line-requires c =
@@ -23,7 +20,8 @@ returns-clause-ok c =
       line_is = c.naming_line.ensures ∙ ap (λ text. naming_line agent (file_lines text)) site;
       rules_are = c.count_of.ensures ∙ ap length (c.deref-3.ensures.value ∙ c.in_ok-rules.ensures)
           ∙ ap (λ text. length (placed_rules agent (file_lines text))) site;
-      reach_is = c.in_ok-reach.ensures ∙ ap (λ text. reach_of (file_lines text) agent) site;
+      reach_is = rw (c.deref.ensures.value, c.in_ok-rules.ensures, site) at c.in_ok-reach.ensures.reach;
+      reach_elsewhere = rw site at c.in_ok-reach.ensures.own;
       delay_is = delay_read agent file _ (rw site at c.delay.ensures);
       ruling = c.in_ok-rejected.ensures.ok agent file c.requires.reading;
     }

@@ -1,5 +1,5 @@
 use Rattle.std.proofs.Common.{◌≡◌, ◌∙◌, ℕ, Bool, true, false, List, Contains, map, subst, sym}
-use Rattle.std.proofs.lemmas.Bool.{not-false, or_parts}
+use Rattle.std.proofs.lemmas.Bool.{false≢true, not-false, or_parts}
 use Rattle.texting_robots.specs.Callers.{PlacedRule, bodies_read, lines_read, placed_rules, unplaced}
 use Rattle.texting_robots.specs.{declared.decision.Decision.Decision}
 use Rattle.texting_robots.proofs.Shared.{one_verdict}
@@ -7,7 +7,8 @@ use Rattle.robots_needless.proofs.TogetherLemmas.{denied_same, of_map, to_map, v
 use Rattle.robots_warnings.specs.Targets.{normal_target, written_target}
 use Rattle.audit_expect.specs.OtherReading.{AreOthers, IsNormalDecision, normal_rule}
 use Rattle.audit_expect.specs.declared.checks.Judgment.{Judgment, TheVariants.Decided, TheVariants.Rejected}
-use Rattle.audit_expect.specs.declared.checks.Judgment.{TheVariants.Rewritten}
+use Rattle.audit_expect.specs.declared.checks.Judgment.{TheVariants.Everywhere, TheVariants.Rewritten}
+use Rattle.audit_expect.specs.{Expect.ExpectationValue}
 use Rattle.audit_expect.specs.Expectations.{IsJudgmentOn, fails_at, fails_here, is_unexpected}
 use Rattle.audit_expect.proofs.laws.no_opposite_expectations_hold.Goals as goal
 
@@ -38,15 +39,18 @@ expected : (allowed : Bool) (decision : Decision) → is_unexpected allowed deci
 expected true decision is = sym (not-false _ is)
 expected false decision is = sym is
 
-module _ (file agent url other : List ℕ)
-    (same : normal_target (written_target url) ≡ normal_target (written_target other)) where
-  agree : (allowed too : Bool) (one two : Judgment) → IsJudgmentOn file agent url one
+module _ (file agent : List ℕ) (this other : ExpectationValue) (plain : this.is_pattern ≡ false)
+    (both : other.is_pattern ≡ false)
+    (same : normal_target (written_target this.url) ≡ normal_target (written_target other.url)) where
+  agree : (allowed too : Bool) (one two : Judgment) → IsJudgmentOn file agent this one
       → IsJudgmentOn file agent other two → fails_at allowed one ≡ false → fails_at too two ≡ false
       → allowed ≡ too
   agree allowed too (Rejected line) two is also holds all = cc
   agree allowed too Rewritten two is also holds all = cc
+  agree allowed too (Everywhere found) two is also holds all = absurd (false≢true (sym plain ∙ is.2))
   agree allowed too one (Rejected line) is also holds all = cc
   agree allowed too one Rewritten is also holds all = cc
+  agree allowed too one (Everywhere found) is also holds all = absurd (false≢true (sym both ∙ also.2))
   agree allowed too (Decided one first normal) (Decided two second also_normal) is also holds all =
       let rules = placed_rules agent (lines_read file) in
       let decided = subst (λ target. IsNormalDecision (bodies_read file) rules target also_normal) (sym same)
@@ -56,9 +60,9 @@ module _ (file agent url other : List ℕ)
       ∙ sym (expected too also_normal (or_parts _ _ (or_parts _ _ all).1).1)
 
 pub returns : goal.returns
-returns c file one other is also agent target holds all =
-    let here = subst (λ agent. IsJudgmentOn file agent other.expectation.url other.judgment) (sym agent)
+returns c file one other is also plain both agent target holds all =
+    let here = subst (λ agent. IsJudgmentOn file agent other.expectation other.judgment) (sym agent)
     also.here in
-    agree file one.expectation.agent one.expectation.url other.expectation.url target
+    agree file one.expectation.agent one.expectation other.expectation plain both target
     one.expectation.allowed other.expectation.allowed one.judgment other.judgment is.here here
     (or_parts (fails_here one) _ holds).0 (or_parts (fails_here other) _ all).0

@@ -2,7 +2,8 @@ use Rattle.std.proofs.Common.{◌<◌, ap, arith, take, ◌==◌, ◌∙◌}
 use Rattle.std.specs.Bool.{nat_lt}
 use Rattle.audit_text.specs.Listed.{count_like, is_early, is_next, most}
 use Rattle.robots_warnings.specs.Message.{WarningValue}
-use Rattle.audit_text.proofs.ListedLemmas.{counted_next, counted_fits, placed_next}
+use Rattle.audit_core.proofs.JoinedLemmas.{placed_next}
+use Rattle.audit_text.proofs.ListedLemmas.{counted_next, counted_fits}
 use Rattle.audit_text.proofs.listed.tally_of.Goals as goal
 
 pub count-requires : goal.count-requires

@@ -1,5 +1,6 @@
 use Rattle.std.proofs.Common.{◌≡◌, ◌++◌, drop, take}
-use Rattle.audit_text.specs.{Internal.Listed.AreCounts, Joined.placed}
+use Rattle.audit_core.specs.Joined.{placed}
+use Rattle.audit_text.specs.{Internal.Listed.AreCounts}
 use Rattle.audit_text.specs.Listed.{first_many, is_early, is_next, unlisted}
 use Rattle.audit_text.proofs.listed.tally_of.Given as goal
 

@@ -1,6 +1,6 @@
 use Rattle.std.proofs.Common.{rules}
 use Rattle.texting_robots.specs.Callers.{unplaced}
-use Rattle.robots_same.specs.Internal.{AreAscending, IsAnswer}
+use Rattle.robots_same.specs.Internal.{AreAscending}
 use Rattle.robots_same.proofs.compare.compare.Goals as goal
 use Rattle.robots_same.proofs.VerdictLemmas.{compared}
 
@@ -11,10 +11,9 @@ returns c =
     let pool = c.in_ok-pool.pool.items in
     let old_up : AreAscending c.as_slice.result.now = search rules in
     let new_up : AreAscending c.as_slice-2.result.now = search rules in
-    let is : IsAnswer c.args.front.now pool c.in_ok-answer.answer =
-    rw c.as_slice-5.ensures.value at c.in_ok-answer.ensures in
     compared (unplaced c.args.old.now) (unplaced c.args.new.now) old new pool
     (c.in_ok-old_items.ensures (rw c.as_slice.ensures.value at old_up))
     (c.in_ok-new_items.ensures (rw c.as_slice-2.ensures.value at new_up))
     (rw c.as_slice-3.ensures.value at c.in_ok-pool.ensures.old)
-    (rw c.as_slice-4.ensures.value at c.in_ok-pool.ensures.new) c.args.front.now c.in_ok-answer.answer is
+    (rw c.as_slice-4.ensures.value at c.in_ok-pool.ensures.new) c.args.front.now c.in_ok-answer.answer
+    c.in_ok-answer.ensures

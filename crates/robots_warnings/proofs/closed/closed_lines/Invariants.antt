@@ -9,6 +9,6 @@ invariant-loop-agent l =
     record {
       exempt : HasExempt lines l.exempt;
       all : (number : ℕ) → agents_at l.closed number
-          ++ closed_at lines (map (λ agent. agent.now) (drop l.agent-index l.agents)) number
-          ≡ closed_at lines (map (λ agent. agent.now) l.agents) number;
+          ++ closed_at l.part lines (map (λ agent. agent.now) (drop l.agent-index l.agents)) number
+          ≡ closed_at l.part lines (map (λ agent. agent.now) l.agents) number;
     }

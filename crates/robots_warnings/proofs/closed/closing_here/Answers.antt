@@ -9,5 +9,5 @@ returns c =
     let lines = file_lines c.args.site.now in
     let same : contains_text c.args.exempt.now ≡ is_exempt lines = λ i pattern. c.requires.each pattern i in
     subst (λ test. IfOk c.closing_line.result
-    (λ line. line ≡ closing_line test (placed_rules c.args.agent.now lines))) same
+    (λ line. line ≡ closing_line c.args.part test (placed_rules c.args.agent.now lines))) same
     (rw (c.deref.ensures.value, c.in_ok-rules.ensures) at c.closing_line.ensures)

@@ -5,7 +5,7 @@ use Rattle.robots_warnings.proofs.closed.first_major.Given as goal
 
 abbrev pub invariant-loop-rest : goal.invariant-loop-rest
 invariant-loop-rest l =
-    let test = is_major (file_lines l.site) in
+    let test = is_major l.let_in (file_lines l.site) in
     slice_get (filter test (map (λ agent. agent.now) l.rest)) 0
     ≡ slice_get (filter test (map (λ agent. agent.now) l.agents)) 0
 

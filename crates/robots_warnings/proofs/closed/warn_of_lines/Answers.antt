@@ -7,6 +7,7 @@ pub loop-labeled-preserved : goal.loop-labeled-preserved
 loop-labeled-preserved c =
     let lines = file_lines c.args.site.now in
     let at = agents_at c.args.closed.now in
-    warned_next (λ (label : Label). closing_warnings lines label.number (at label.number))
+    let warned = closing_warnings c.args.part c.args.let_in lines in
+    warned_next (λ (label : Label). warned label.number (at label.number))
     c.args.labels.now c.loop-labeled.labeled-index _ _ c.loop-labeled-test.true c.loop-labeled.invariant
     c.in_ok-warn_of_number.ensures

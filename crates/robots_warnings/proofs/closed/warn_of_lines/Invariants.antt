@@ -7,5 +7,5 @@ abbrev pub invariant-loop-labeled : goal.invariant-loop-labeled
 invariant-loop-labeled l =
     l.found.items
     ≡ l.fn.found.items
-    ++ flat_map (λ label. closing_warnings (file_lines l.site) label.number (agents_at l.closed label.number))
-    (map label_by_value (take l.labeled-index l.labels))
+    ++ flat_map (λ label. closing_warnings l.part l.let_in (file_lines l.site) label.number
+    (agents_at l.closed label.number)) (map label_by_value (take l.labeled-index l.labels))

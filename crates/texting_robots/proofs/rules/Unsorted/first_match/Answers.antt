@@ -1,19 +1,23 @@
-use Rattle.std.proofs.Common.{◌+◌, ◌*◌, ◌<◌, ◌≡◌, add-one, arith, length, mul-suc}
+use Rattle.std.proofs.Common.{◌+◌, ◌*◌, ◌<◌, ◌≡◌, add-one, arith, length, mul-suc, refl}
 use Rattle.std.proofs.{Math.Nat.mul-le-mul_left, lemmas.Bool.iff_false}
-use Rattle.texting_robots.proofs.FirstLemmas.{cost_more, cost_within, apart_tried, tried_more}
+use Rattle.texting_robots.proofs.FirstLemmas.{cost_counts, cost_more, cost_within, none_apart}
+use Rattle.texting_robots.proofs.FirstLemmas.{tried_more, tried_to}
 use Rattle.texting_robots.proofs.rules.Unsorted.first_match.Goals as goal
 
 pub rules-preserved : goal.rules-preserved
 rules-preserved g c =
     let i = c.loop-at.invariant in
     let next = rw c.deref-in-rules.ensures.value at c.next-next.ensures in
+    let all = c.args.self.now in
     let n = length (g.A.Haystack.seen c.args.haystack.now).text in
     let more = mul-le-mul_left (2 * n) next.from in
+    let counts = cost_counts all n c.loop-at.at c.next-next.result.start (omega arith) (omega arith) in
     record {
       within = omega arith;
       end = omega arith;
-      tried = rw next.same (apart_tried c.args.self.now _ _ c.loop-at.at _ c.requires.known c.requires.masked
-          next.from (omega arith) next.apart i.tried);
+      tried = rw next.same (tried_to all _ _ _ c.loop-at.at _
+          (none_apart all _ _ _ c.requires.known c.requires.masked (rw i.tried.text at next.apart))
+          refl (omega arith) (omega (arith, counts)) i.tried);
       cost = rw next.same (omega (arith, i.cost, more));
     }
 

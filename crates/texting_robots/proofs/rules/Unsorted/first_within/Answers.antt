@@ -1,59 +1,54 @@
-use Rattle.std.proofs.Common.{◌≡◌, ◌+◌, ◌-◌, ◌^◌, arith, length, min, ◌∙◌}
+use Rattle.std.proofs.Common.{◌≡◌, ◌+◌, arith, length, ◌∙◌}
 use Rattle.std.proofs.lemmas.Bool.{iff_false}
-use Rattle.texting_robots.proofs.FirstLemmas.{cost_more, cost_within, over_limit, under_limit, tried_more}
+use Rattle.texting_robots.proofs.FirstLemmas.{cost_counts, cost_more, cost_within, tried_more, tried_to}
 use Rattle.texting_robots.proofs.rules.Unsorted.first_within.Goals as goal
 
-pub returns-then-saturating_add-limit-clause-costly : goal.returns-then-saturating_add-limit-clause-costly
-returns-then-saturating_add-limit-clause-costly c =
-    let i = c.loop-at.invariant in
+pub returns-then-left-apart-clause-costly : goal.returns-then-left-apart-clause-costly
+returns-then-left-apart-clause-costly c =
+    let all = c.args.self.now in
+    let n = length c.args.view.now.text in
+    let near = c.near-near.result in
+    let counts = cost_counts all n c.loop-at.at near (omega arith) (omega arith) in
+    omega (arith, c.loop-at.invariant.tried.spent, c.seen.ensures, counts, cost_within all n near)
+
+pub returns-then-left-most_looks-clause-costly : goal.returns-then-left-most_looks-clause-costly
+returns-then-left-most_looks-clause-costly c =
     let all = c.args.self.now in
     let n = length c.args.view.now.text in
     let most = rw (c.pattern-pattern.ensures, c.len-len.ensures) at c.most_looks.ensures in
-    let over = over_limit _ _ _ _ _ _ c.saturating_add.ensures c.seen-in-loop-at.ensures most
-    c.if-saturating_add-limit.true in
-    let more = cost_more all n c.loop-at.at c.index-entry.result.now (omega arith) c.index-entry.ensures in
-    omega (arith, over, i.tried.spent, more, cost_within all n (c.loop-at.at + 1))
+    let more = cost_more all n c.loop-at.at c.index.result.now (omega arith) c.index.ensures in
+    let whole = cost_within all n (c.loop-at.at + 1) in
+    omega (arith, c.loop-at.invariant.tried.spent, c.seen.ensures, most, more, whole)
 
-pub returns-then-seen-limit-clause-costly : goal.returns-then-seen-limit-clause-costly
-returns-then-seen-limit-clause-costly c =
+pub loop-at-preserved-then-at-near : goal.loop-at-preserved-then-at-near
+loop-at-preserved-then-at-near c =
     let i = c.loop-at.invariant in
     let all = c.args.self.now in
-    let n = length c.args.view.now.text in
-    let seen : c.seen.result ≡ min c.loop-at.view.looks (2 ^ 64 - 1) = c.seen.ensures in
-    let more = cost_more all n c.loop-at.at c.index-entry.result.now (omega arith) c.index-entry.ensures in
-    omega (arith, seen, i.tried.spent, more, cost_within all n (c.loop-at.at + 1))
-
-pub loop-at-preserved-then-is_apart : goal.loop-at-preserved-then-is_apart
-loop-at-preserved-then-is_apart c =
-    let i = c.loop-at.invariant in
-    let one : c.count_one.new.self.looks ≡ c.loop-at.view.looks + 1 = c.count_one.ensures.looks in
-    let seen : c.seen.result ≡ min c.loop-at.view.looks (2 ^ 64 - 1) = c.seen.ensures in
+    let at = c.loop-at.at in
+    let near = c.near-near.result in
+    let looks = c.count.ensures.looks in
+    let counts = cost_counts all (length c.args.view.now.text) at near (omega arith) (omega arith) in
     record {
-      tried = tried_more c.args.self.now _ _ _ c.loop-at.at c.index-entry.result.now (omega arith)
-          c.index-entry.ensures (c.is_apart.ensures c.if-is_apart.true _ c.requires.pairs)
-          c.count_one.ensures.text (omega (arith, one)) (omega (arith, one)) i.tried;
-      visits = omega (arith, i.visits, one);
-      within = omega (arith, one, seen);
+      at = omega arith;
+      tried = tried_to all _ _ _ at near (c.near-near.ensures.apart _ c.requires.pairs)
+          c.count.ensures.text (omega (arith, looks)) (omega (arith, looks, counts)) i.tried;
+      visits = omega (arith, i.visits, looks);
+      within = omega (arith, looks, c.seen.ensures);
     }
 
 pub loop-at-preserved : goal.loop-at-preserved
 loop-at-preserved c =
     let i = c.loop-at.invariant in
     let all = c.args.self.now in
-    let n = length c.args.view.now.text in
-    let entry = c.index-entry.result.now in
-    let pattern = c.pattern-pattern.ensures in
-    let most = rw (pattern, c.len-len.ensures) at c.most_looks.ensures in
-    let under = under_limit _ _ _ _ _ _ c.saturating_add.ensures c.seen-in-loop-at.ensures most
-    c.if-saturating_add-limit.false (omega arith) in
-    let counted = c.count_one-in-loop-at.ensures in
-    let one : c.count_one-in-loop-at.new.self.looks ≡ c.loop-at.view.looks + 1 = counted.looks in
-    let same = counted.text ∙ i.tried.text in
-    let is = rw (pattern, same) at c.matches.ensures in
+    let most = rw (c.pattern-pattern.ensures, c.len-len.ensures) at c.most_looks.ensures in
+    let counted = c.count-in-loop-at.ensures in
+    let one : c.count-in-loop-at.new.self.looks ≡ c.loop-at.view.looks + 1 = counted.looks in
+    let is = rw (c.pattern-pattern.ensures, counted.text ∙ i.tried.text) at c.matches.ensures in
     record {
-      tried = tried_more all _ _ _ c.loop-at.at entry (omega arith) c.index-entry.ensures
+      at = omega arith;
+      tried = tried_more all _ _ _ c.loop-at.at c.index.result.now (omega arith) c.index.ensures
           (iff_false is.answer c.if-matches.false) (c.matches.ensures.looks.text ∙ counted.text)
           (omega (arith, one, is.looks.looks)) (omega (arith, one, is.cost)) i.tried;
       visits = omega (arith, i.visits, one, is.looks.looks);
-      within = omega (arith, one, is.cost, under);
+      within = omega (arith, one, is.cost, most, c.seen.ensures);
     }

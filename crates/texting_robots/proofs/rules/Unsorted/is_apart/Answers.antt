@@ -1,22 +1,35 @@
-use Rattle.std.proofs.lemmas.{Bool.iff_false, Bool.not-true, List.get_or_read}
-use Rattle.texting_robots.specs.Internal.Segments.{AreWithin, no_entry, pair_set}
-use Rattle.texting_robots.proofs.FirstLemmas.{mask_within}
-use Rattle.texting_robots.proofs.rules.Unsorted.is_apart.Goals.{in-None, in-Some-get}
-use Rattle.texting_robots.proofs.rules.Unsorted.is_apart.Goals as goal
+use Rattle.std.proofs.Common.{◌+◌, ◌≡◌, arith, inl, inr, subst}
+use Rattle.std.proofs.lemmas.{Bool.iff_false, Bool.cases_lt, List.get_or_read}
+use Rattle.texting_robots.specs.Internal.Segments.{AreWithin, MatchesAt, no_entry, pair_set}
+use Rattle.texting_robots.proofs.FirstLemmas.{mask_within, none_apart}
+use Rattle.texting_robots.proofs.rules.Unsorted.near.Goals.{in-None, in-Some-get}
+use Rattle.texting_robots.proofs.rules.Unsorted.near.Goals as goal
 
-pub returns : goal.returns
-returns c = λ apart text known matches.
+pub returns-clause-apart : goal.returns-clause-apart
+returns-clause-apart c = λ text known k above below matches.
     let all = c.args.self.now in
-    let entry = c.args.entry.now in
-    let within : AreWithin c.match-get.mask.bits (pair_set text) = elim c.match-get.branch [
-      | in-Some-get w ↦
-          let (_, is, _, (below, _), _) = rw c.deref.ensures.value at w.in-Some-get.ensures.lookup in
-          rw (
-            w.mask-is,
-            get_or_read all.masks.items c.args.at w.in-Some-get.mask.now below is 0,
-            c.requires.masked c.args.at below,
-            ← get_or_read all.entries.items c.args.at entry c.requires.within c.requires.at no_entry,
-          ) (mask_within all entry c.requires.known text matches)
-      | in-None w ↦ rw w.mask-is (c.requires.known.needed text matches).pairs
-    ] in
-    absurd (iff_false c.are_within.ensures (not-true _ apart) (rw (rw c.in-Some.is at known) within))
+    let at = c.args.at in
+    let bits = rw c.in-Some.is at known in
+    elim (cases_lt at k) [
+      | inl later ↦ none_apart all text (at + 1) c.first_near.result c.requires.known c.requires.masked
+          (rw (c.deref-2.ensures.value, bits) at c.first_near.ensures.apart) k (omega arith) below matches
+      | inr early ↦
+          let same : k ≡ at = omega arith in
+          let here = subst (λ n. MatchesAt all n text) same matches in
+          let is = c.requires.known.known at no_entry c.requires.within in
+          let within : AreWithin c.match-get.mask.bits (pair_set text) = elim c.match-get.branch [
+            | in-Some-get w ↦
+                let (_, some, _, (low, _), _) = rw c.deref.ensures.value at w.in-Some-get.ensures.lookup in
+                rw (
+                  w.mask-is,
+                  get_or_read all.masks.items at w.in-Some-get.mask.now low some 0,
+                  c.requires.masked at low,
+                ) (mask_within all _ is text here)
+            | in-None w ↦
+                let entry = w.index.result.now in
+                let found = w.index.ensures in
+                let read = get_or_read all.entries.items at entry c.requires.within found no_entry in
+                rw (w.mask-is, read) (is.needed text here).pairs
+          ] in
+          iff_false c.are_within.ensures c.if-are_within.false (rw bits within)
+    ]

@@ -1,0 +1,14 @@
+use Rattle.audit_expect.proofs.OtherReadingLemmas.{all_accepted}
+use Rattle.audit_expect.proofs.checks.on_pattern.Goals as goal
+
+pub on_paths-requires-clause-rules : goal.on_paths-requires-clause-rules
+on_paths-requires-clause-rules c =
+    rw (c.deref.ensures.value, c.in_ok-rules.ensures, c.requires.read.site_is)
+    (all_accepted c.args.agent.now _ c.requires.accepted)
+
+pub returns-clause-ok : goal.returns-clause-ok
+returns-clause-ok c = (
+  c.requires.accepted,
+  rw (c.deref.ensures.value, c.in_ok-rules.ensures, c.requires.read.site_is) at c.in_ok-found.ensures.ok,
+  c.requires.pattern,
+)

@@ -1,0 +1,123 @@
+//! Patterns of a whole site, of its home page, and of little of it.
+ghost use Rattle.std.specs.Prelude.{◌≡◌, nat_eq};
+ghost use Rattle.std.specs.List.{list_all, list_any, starts_with};
+ghost use Rattle.robots_warnings.specs.Closed.{begins_name_end, is_anything, is_file_end, is_home, is_home_root, is_name_end};
+ghost use Rattle.robots_warnings.specs.Closed.{is_root, is_star_or_dollar, is_whole_site, matches_no_path, opens_little, without_stars};
+
+use crate::rules::{begins_oddly, has_dollar_inside, somewhere};
+
+/// How the names of static files end.
+pub(crate) const STATIC_FILES: [&str; 15] = [
+    ".css", ".js", ".png", ".jpg", ".jpeg", ".gif", ".svg", ".ico", ".webp", ".woff", ".woff2",
+    ".ttf", ".txt", ".xml", ".json",
+];
+
+/// How other paths begin that crawlers fetch besides pages.
+pub(crate) const WELL_KNOWN: [&str; 2] = ["/.well-known", "/sitemap"];
+
+fn are_file_ends(text: &[u8]) -> bool
+    ensures { result ≡ list_all is_file_end text.now }
+{
+    text.iter().all(|byte| matches!(*byte, b'*' | b'$' | b'?'))
+}
+
+fn is_name_end(text: &[u8], end: &[u8]) -> bool
+    ensures { result ≡ is_name_end text.now end.now }
+{
+    text.starts_with(end) && are_file_ends(&text[end.len()..])
+}
+
+fn begins_one_of(ends: &[&str], text: &[u8]) -> bool
+    ensures { result ≡ list_any (λ end. is_name_end text.now end.now) ends.now }
+{
+    ends.iter().any(|end| is_name_end(text, end.as_bytes()))
+}
+
+fn begins_name_end(text: &[u8]) -> bool
+    ensures { result ≡ begins_name_end text.now }
+{
+    begins_one_of(&STATIC_FILES, text)
+}
+
+fn begins_as_one_of(starts: &[&str], pattern: &[u8]) -> bool
+    ensures { result ≡ list_any (λ start. starts_with nat_eq pattern.now start.now) starts.now }
+{
+    starts
+        .iter()
+        .any(|start| pattern.starts_with(start.as_bytes()))
+}
+
+/// Only static files, paths that are known to every crawler, or the home page and no other one.
+pub(crate) fn opens_little(pattern: &[u8]) -> bool
+    ensures { result ≡ opens_little pattern.now }
+{
+    (somewhere(pattern, begins_name_end) || pattern == b"/$".as_slice())
+        || begins_as_one_of(&WELL_KNOWN, pattern)
+}
+
+fn are_stars_or_dollars(text: &[u8]) -> bool
+    ensures { result ≡ list_all is_star_or_dollar text.now }
+{
+    text.iter().all(|byte| *byte == b'*' || *byte == b'$')
+}
+
+fn is_anything(value: &[u8]) -> bool
+    ensures { result ≡ is_anything value.now }
+{
+    match value {
+        [b'*', rest @ ..] => are_stars_or_dollars(rest),
+        _ => false,
+    }
+}
+
+fn is_root(value: &[u8]) -> bool
+    ensures { result ≡ is_root value.now }
+{
+    match value {
+        [b'/', rest @ ..] => rest.is_empty() || is_anything(rest),
+        _ => false,
+    }
+}
+
+fn without_stars<'a>(value: &'a [u8]) -> &'a [u8]
+    ensures { result.now ≡ without_stars value.now }
+{
+    let mut rest = value;
+    while let [b'*', after @ ..] = rest {
+        rest = after;
+    }
+    rest
+}
+
+pub fn is_whole_site(value: &[u8]) -> bool
+    ensures { result ≡ is_whole_site value.now }
+{
+    is_anything(value) || is_root(without_stars(value))
+}
+
+fn is_home_root(value: &[u8]) -> bool
+    ensures { result ≡ is_home_root value.now }
+{
+    match value {
+        [b'/', rest @ ..] => are_stars_or_dollars(rest),
+        _ => false,
+    }
+}
+
+pub(crate) fn is_home(value: &[u8]) -> bool
+    ensures { result ≡ is_home value.now }
+{
+    is_anything(value) || is_home_root(without_stars(value))
+}
+
+pub(crate) fn matches_no_path(pattern: &[u8]) -> bool
+    ensures { result ≡ matches_no_path pattern.now }
+{
+    begins_oddly(pattern) || has_dollar_inside(pattern)
+}
+
+pub(crate) fn has_star_or_dollar(text: &[u8]) -> bool
+    ensures { result ≡ list_any is_star_or_dollar text.now }
+{
+    text.iter().any(|byte| *byte == b'*' || *byte == b'$')
+}
