@@ -91,8 +91,8 @@ for row in ALL_WARNINGS:
 
 FORMATS = re.findall(r'"(\w+)"', re.search(r"const NAMES: [^=]*= &\[(.*?)\];", (CRATES / "audit_core/src/request.rt").read_text(), re.S)[1])
 OF_A_URL = {"url-not-normal"}
-OF_A_CRAWLER = {"googlebot-group", "google-ignores-star"}
-OF_GROUP = {"googlebot-group"}
+OF_A_CRAWLER = {"vendor-group", "ignores-star"}
+OF_GROUP = {"vendor-group"}
 FIELDS = ("User-agent", "Allow", "Disallow", "Sitemap", "Crawl-delay")
 OF_RULES = {"replaces-star"}
 OF_CLOSED = {"closes-everything", "closes-home-page"}

@@ -10,7 +10,7 @@ use Rattle.robots_warnings.specs.declared.table.Cause.{Cause, TheVariants.Allowe
 use Rattle.robots_warnings.specs.declared.table.Cause.TheVariants.{ClosesEverything, CutLine, EmptyDisallow}
 use Rattle.robots_warnings.specs.declared.table.Cause.TheVariants.{ClosesHome, ClosesHomeToOthers, WrongName}
 use Rattle.robots_warnings.specs.declared.table.Cause.TheVariants.{EscapedDelimiter, ClosesSite, RepeatedRule}
-use Rattle.robots_warnings.specs.declared.table.Cause.TheVariants.{GoogleIgnoresStar, GooglebotGroup}
+use Rattle.robots_warnings.specs.declared.table.Cause.TheVariants.{IgnoresStar, VendorGroup}
 use Rattle.robots_warnings.specs.declared.table.Cause.TheVariants.{GroupPastSizeLimit, MisspelledName}
 use Rattle.robots_warnings.specs.declared.table.Cause.TheVariants.{NonstandardEscape, ReplacesStar}
 use Rattle.robots_warnings.specs.declared.warning.Detail.{Detail}
@@ -159,7 +159,7 @@ agent_warnings lines agents = flat_map (agent_warning lines) agents
 
 -- the crawler's vendor applies the group with this name, or none if the name is empty
 abbrev pub other_cause : (group : List ℕ) → Cause
-other_cause group = if length group == 0 then GoogleIgnoresStar else GooglebotGroup
+other_cause group = if length group == 0 then IgnoresStar else VendorGroup
 
 abbrev pub other_detail : ℕ → (group : List ℕ) → Option Detail
 other_detail number group = if length group == 0 then None else Some (Group number)

@@ -442,9 +442,9 @@ fn warn_of_vendor(
         return Ok(());
     }
     let (cause, detail) = if group.is_empty() {
-        (Cause::GoogleIgnoresStar, None)
+        (Cause::IgnoresStar, None)
     } else {
-        (Cause::GooglebotGroup, Some(Detail::Group(number)))
+        (Cause::VendorGroup, Some(Detail::Group(number)))
     };
     found.push(Warning {
         line: None,

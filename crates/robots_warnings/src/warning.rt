@@ -86,8 +86,8 @@ impl<'a> fmt::Display for Warning<'a> {
                 | Cause::ClosesEverything
                 | Cause::ClosesHome
                 | Cause::ClosesHomeToOthers
-                | Cause::GooglebotGroup
-                | Cause::GoogleIgnoresStar
+                | Cause::VendorGroup
+                | Cause::IgnoresStar
                 | Cause::WrongName
                 | Cause::MisspelledName => "crawler",
                 _ => "URL",
