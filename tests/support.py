@@ -142,7 +142,9 @@ def parts_of(warning):
 
 
 def also_in(lines):
-    """The end of a message that stands for those in these lines, too."""
+    """The end of a message that stands for those in these lines, too, or for so many that are about no line."""
+    if "" in lines:
+        return f" (and {len(lines)} more)"
     more = [*map(str, lines[:3]), *[f"{len(lines) - 3} more"] * (len(lines) > 3)]
     listed = ", ".join(more[:-1]) + " and " * (len(more) > 1) + "".join(more[-1:])
     return f" (also in line{'s' * (len(lines) > 1)} {listed})" if lines else ""
@@ -164,14 +166,21 @@ def order_of(warning):
     return int(line or 0), ["error", "warning", "note"].index(level)
 
 
+def shared(level, name, text):
+    """What warnings that share a line have in common; nothing if this one has a line of its own."""
+    if "(see " in text or "(did you mean" in text:
+        return None
+    return name, re.sub(r"^(crawler|URL) '.*?': |( \(and \d+ other crawlers?\))$", "", text) if level == "note" else text
+
+
 def warning_lines(warnings, file="robots.txt"):
-    """The lines for such warnings, by line and level: those about lines with one message are one; of each name and level the first
-    twenty, and how many more there are; and how many of each level there are."""
+    """The lines for such warnings, by line and level: those with one message are one, and a note may name another crawler or URL; of each
+    name and level the first twenty, and how many more there are; and how many of each level there are, and in how many messages."""
     joined, met = [], {}
     for warning in sorted(warnings, key=order_of):
         line, name, level, text = parts_of(warning)
-        key = (name, "" if level == "note" and name in OF_CLOSED else text)
-        if line and "(see line" not in text:
+        key = shared(level, name, text)
+        if key:
             met.setdefault(key, []).append(line)
             if len(met[key]) > 1:
                 continue
@@ -186,7 +195,8 @@ def warning_lines(warnings, file="robots.txt"):
         if counts[kind] == 21:  # the numbers are in the order of these
             counts[kind] = counts.pop(kind)
     more = [f"{file}: {level}: and {count - 20} more [{name}]\n" for (level, name), count in counts.items() if count > 20]
-    total = [f"{file}: {counted([parts_of(warning)[2] for warning in warnings])}\n"] if warnings else []
+    messages = f" (in {len(joined)} message{'s' * (len(joined) > 1)})" if len(joined) < len(warnings) else ""
+    total = [f"{file}: {counted([parts_of(warning)[2] for warning in warnings])}{messages}\n"] if warnings else []
     return "".join(shown + more + total)
 
 
@@ -242,8 +252,8 @@ def standard_lines(words):
     """What a text report says of a file by RFC 9309; `words` are those of the key `rfc`."""
     kind, _, line = words.partition(" ")
     if kind == "line":
-        return f"not RFC 9309 syntax: line {line}"
-    return f"RFC 9309 syntax; verdicts may differ: line {line}" if kind == "syntax" else VERDICTS
+        return f"not RFC 9309 syntax, first at line {line}"
+    return f"RFC 9309 syntax; verdicts may differ from RFC 9309's: line {line}" if kind == "syntax" else VERDICTS
 
 
 def with_standard(out, words):

@@ -299,7 +299,7 @@ def test_no_size_is_out_of_memory(what):
 
 
 DENIED = "group: everyone (the file has no User-agent line; all rules are applied)\ndelay: none\ndeny 1 /b\n"
-OTHER = "not RFC 9309 syntax: line 1\n"
+OTHER = "not RFC 9309 syntax, first at line 1\n"
 
 
 def crawlers(size):

@@ -9,7 +9,7 @@ from html.parser import HTMLParser
 import page_style
 import pytest
 from browser import Browser
-from support import ROOT, also_in, level_and_text, run
+from support import ROOT, also_in, level_and_text, run, shared
 
 SOURCE, STYLE = page_style.SOURCE.read_text(), page_style.STYLE.read_text()
 
@@ -146,13 +146,12 @@ def in_order(warnings):
 
 
 def joined(warnings):
-    """The items of the list of findings: those about lines with one message are one."""
+    """The items of the list of findings: those with one message are one."""
     found = {}
     for at, it in enumerate(in_order(warnings)):
-        is_alone = it["line"] is None or "(see line" in it["text"]
-        found.setdefault(at if is_alone else (it["name"], it["text"]), []).append(it)
+        found.setdefault(shared(it["level"], it["name"], it["text"]) or at, []).append(it)
     for first, *others in found.values():
-        text = words({**first, "text": first["text"] + also_in([it["line"] for it in others])})
+        text = words({**first, "text": first["text"] + also_in([it["line"] or "" for it in others])})
         yield f"line {first['line']}: {text}" if first["line"] else text
 
 
@@ -178,7 +177,7 @@ SMALL = """<!DOCTYPE html><html lang="en"><head><meta charset="utf-8"/>
 <dt>Findings</dt><dd><b class="error">1 error</b><ul><li class="error"><a href="#L2">line 2</a>: {warning}</li></ul></dd>
 <dt>Group</dt><dd>* (Ferris has no group of its own), <a href="#L1">line 1</a></dd>
 <dt>Rules</dt><dd>1</dd><dt>Crawl delay</dt><dd>none</dd><dt>May fetch</dt><dd class="everything">everything</dd>
-<dt>Sitemaps</dt><dd><ul></ul></dd><dt>Syntax</dt><dd>not RFC 9309 syntax: line 2</dd></dl>
+<dt>Sitemaps</dt><dd><ul></ul></dd><dt>Syntax</dt><dd>not RFC 9309 syntax, first at line 2</dd></dl>
 <h2>URLs</h2><table class="urls"><caption>May the crawler fetch it?</caption>
 <thead><tr><th scope="col">URL</th><th scope="col">Verdict</th></tr></thead>
 <tbody><tr><th scope="row"><code dir="ltr">/a&amp;b</code></th><td class="allowed">allowed, no line</td></tr></tbody></table>
@@ -231,8 +230,8 @@ def test_page_has_the_lines_and_warnings_of_the_json():
 
 @pytest.mark.parametrize("file, sentence", [
     (b"User-agent: *\nDisallow: /", "RFC 9309 syntax and verdicts, for URLs in normal form"),
-    (b"User-agent: *\nDisallow: /a$b", "RFC 9309 syntax; verdicts may differ: line 2"),
-    (b"User-agent: *\nDisallow: a", "not RFC 9309 syntax: line 2"),
+    (b"User-agent: *\nDisallow: /a$b", "RFC 9309 syntax; verdicts may differ from RFC 9309's: line 2"),
+    (b"User-agent: *\nDisallow: a", "not RFC 9309 syntax, first at line 2"),
     (b"# nothing", None),
 ])
 def test_page_has_the_sentence_about_the_standard(file, sentence):

@@ -1,5 +1,5 @@
 -- The audit of a file: its lines, what applies to each requested crawler, and the warnings.
-use Rattle.std.specs.Prelude.{◌≡◌, ℕ, Bool, false, true, List, [], ◌∷◌, ◌++◌, Option, Some, None, codes, map}
+use Rattle.std.specs.Prelude.{◌≡◌, ◌⊎◌, ◌==◌, ℕ, Bool, false, List, [], ◌∷◌, ◌++◌, Option, Some, None, codes, map}
 use Rattle.std.specs.Prelude.{count_by, filter, flat_map, if◌then◌else◌, is_none, is_some, length, not, take}
 use Rattle.std.specs.Prelude.{option_map, sum_by, zip}
 use Rattle.std.specs.{List.AllZip, List.list_all, List.list_any, List.position_from, Str.is_utf8}
@@ -8,9 +8,10 @@ use Rattle.texting_robots.specs.Callers.{UserAgent, delay_for, file_limit, group
 use Rattle.texting_robots.specs.Callers.{is_named, lines_read, placed_rules}
 use Rattle.texting_robots.specs.{Agents.is_among, Group.is_agent, Decision.IsDecisionOn}
 use Rattle.texting_robots.specs.{declared.decision.Decision.Decision}
-use Rattle.audit_core.specs.{declared.group.Group.Group, Request.RequestValue}
+use Rattle.audit_core.specs.{declared.group.Group.Group, declared.group.AtVendor.AtVendor, Request.RequestValue}
 use Rattle.audit_core.specs.{Needless.needless_warnings, Asked.asked_target, Chosen.chosen}
 use Rattle.rfc9309_laws.specs.{Conformance.conformance_of, declared.conformance.Conformance.Conformance}
+use Rattle.audit_core.specs.declared.group.AtVendor.TheVariants.{NoGroup, OtherGroup, Same}
 use Rattle.audit_core.specs.declared.group.Group.TheVariants.{Everyone, Named, Nobody, Star}
 use Rattle.robots_needless.specs.{Blocks.AreFoundIn, Needless.NeedlessValue, Needless.nothing}
 use Rattle.robots_warnings.specs.{declared.table.Cause.TheVariants.SitemapDenied, Crawlers.other_group}
@@ -49,6 +50,11 @@ group_of agent lines =
 abbrev pub naming_line : List ℕ → List LineValue → Option ℕ
 naming_line agent lines = position_from (is_agent_named (group_name agent lines)) 1 lines
 
+-- which group its vendor applies, if that is said to be another one
+abbrev pub at_vendor : Option (List ℕ) → AtVendor
+at_vendor None = Same
+at_vendor (Some group) = if length group == 0 then NoGroup else OtherGroup
+
 pub record VerdictValue : Type 0 where
   pub url : List ℕ
   pub decision : Decision
@@ -60,6 +66,7 @@ pub record AgentValue : Type 0 where
   pub rules : ℕ
   pub reach : Reach
   pub allows : List ℕ
+  pub vendor : AtVendor
   pub delay : Option ℕ
   pub rejected : Option ℕ
   pub verdicts : List VerdictValue
@@ -85,7 +92,8 @@ pub record IsAgentAudit (urls : List (List ℕ)) (lines : List LineValue) (agent
   pub line_is : value.group_line ≡ naming_line agent lines
   pub rules_are : value.rules ≡ length (placed_rules agent lines)
   pub reach_is : IsReach (placed_rules agent lines) value.reach value.allows
-  pub reach_elsewhere : is_some (other_group lines agent) ≡ true → value.reach ≡ Part
+  pub vendor_is : value.vendor ≡ at_vendor (other_group lines agent)
+  pub reach_elsewhere : (value.vendor ≡ Same) ⊎ (value.reach ≡ Part)
   pub delay_is : value.delay ≡ delay_for agent lines
   pub ruling : IsRuling urls lines agent value.rejected value.verdicts
 

@@ -1,5 +1,5 @@
 -- Warnings that are written as one, with the lines of the others.
-use Rattle.std.specs.Prelude.{ℕ, false, Option, filter_map, if◌then◌else◌, is_none, is_some, ◌||◌}
+use Rattle.std.specs.Prelude.{ℕ, false, Option, filter_map, if◌then◌else◌, is_none, unwrap_or, ◌||◌}
 use Rattle.std.specs.Prelude.{◌==◌, ◌&&◌, Bool, true, not, List, [], ◌∷◌, ◌++◌, None, Some}
 use Rattle.std.specs.{List.list_any}
 use Rattle.printable_text.specs.Text.{reaches}
@@ -14,13 +14,13 @@ has_shared_end (Some (Rules count)) = true
 has_shared_end (Some (Others count)) = true
 has_shared_end detail = false
 
--- the message names no crawler or URL; that of a note may name another crawler than those that it stands for
+-- the message names no crawler or URL; that of a note may name another one than those that it stands for
 abbrev pub is_alike : WarningValue → Bool
 is_alike warning = is_none warning.about || not (reaches (level_of warning.cause) Warning)
 
--- a warning about a line, whose message is that of all such warnings with the same reason
+-- a warning whose message is that of all such warnings with the same reason
 abbrev pub is_joined : WarningValue → Bool
-is_joined warning = is_alike warning && (is_some warning.line && has_shared_end warning.detail)
+is_joined warning = is_alike warning && has_shared_end warning.detail
 
 abbrev pub is_joined_as : ℕ → WarningValue → Bool
 is_joined_as number warning = is_joined warning && (number_of warning.cause == number)
@@ -41,10 +41,11 @@ is_first before warning =
 abbrev pub joined : List WarningValue → List WarningValue
 joined warnings = placed is_first [] warnings
 
+-- 0 if the warning is about no line
 abbrev pub line_as : ℕ → WarningValue → Option ℕ
-line_as number warning = if is_joined_as number warning then warning.line else None
+line_as number warning = if is_joined_as number warning then Some (unwrap_or warning.line 0) else None
 
--- none if the warning is written alone
+-- of all that are written as this one
 abbrev pub shared_lines : List WarningValue → WarningValue → List ℕ
 shared_lines warnings warning =
     if is_joined warning then filter_map (line_as (number_of warning.cause)) warnings else []

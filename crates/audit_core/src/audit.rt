@@ -1,6 +1,6 @@
 //! The audit of a file: its lines, what applies to each requested crawler, and the warnings.
-ghost use Rattle.std.specs.Prelude.{◌≡◌, ◌++◌, ℕ, IfErr, IfOk, List, codes, is_none, is_some, length, map};
-ghost use Rattle.std.specs.Prelude.{option_map, true};
+ghost use Rattle.std.specs.Prelude.{◌≡◌, ◌⊎◌, ◌++◌, ℕ, IfErr, IfOk, List, codes, is_none, length, map};
+ghost use Rattle.std.specs.Prelude.{option_map};
 ghost use Rattle.std.specs.List.{AllZip};
 ghost use Rattle.texting_robots.specs.Callers.{file_lines, label_by_value, lines_read};
 ghost use Rattle.audit_core.specs.Audit.{AreOfSitemaps, IsAgentAudit, IsAuditOf, IsRuling, IsVerdictOn};
@@ -8,14 +8,14 @@ ghost use Rattle.audit_core.specs.Audit.{agents_requested, all_allowed, allows_a
 ghost use Rattle.audit_core.specs.Audit.{labels_requested, rejects_some};
 ghost use Rattle.audit_core.specs.{Request.requested_by, Needless.needless_warnings, Internal.IsReading};
 ghost use Rattle.audit_core.specs.Reach.{IsReach};
-ghost use Rattle.robots_warnings.specs.Crawlers.{other_group};
+ghost use Rattle.audit_core.specs.declared.group.AtVendor.{TheVariants.Same};
 ghost use Rattle.robots_warnings.specs.{Message.WarningValue, Read.IsRead, Warnings.warnings};
 
 use crate::agents::agents_requested;
 use crate::asked::decision_on;
 use crate::chosen::choose;
 use crate::fault::Fault;
-use crate::group::{Group, group_of, naming_line};
+use crate::group::{AtVendor, Group, at_vendor, group_of, naming_line};
 use crate::needless::{add_needless, needless_rules};
 use crate::reach::{Reach, reach_of};
 use crate::request::Request;
@@ -23,7 +23,6 @@ use crate::sitemaps::warn_of_sitemaps;
 use rfc9309_laws::conformance::{Conformance, conformance_of};
 use robots_needless::lines::Needless;
 use robots_same::rule::{Rule, rules_of};
-use robots_warnings::crawlers::other_group;
 use robots_warnings::read::FileRead;
 use robots_warnings::warning::Warning;
 use robots_warnings::warnings::warnings;
@@ -31,7 +30,7 @@ use std::alloc::{AllocError, Global};
 use std::marker::Model;
 use texting_robots::labels::LabeledLine;
 use texting_robots::robot::Decision;
-use texting_robots::{Rejection, Robot, Site};
+use texting_robots::{Rejection, Robot};
 
 #[derive(Drop)]
 pub struct Verdict<'a> {
@@ -60,6 +59,7 @@ pub struct AgentAudit<'a> {
     pub reach: Reach,
     /// If that is listed, the lines of the Allows.
     pub allows: Vec<usize>,
+    pub vendor: AtVendor,
     /// In microseconds.
     pub delay: Option<u64>,
     /// The line of the crawler's first overlong rule, because of which the file is rejected for the crawler.
@@ -148,23 +148,19 @@ pub(crate) fn ruling<'a>(
     }
 }
 
-/// What the crawler, for which the file is read so and has these rules, may fetch. It is `Part` if its vendor
+/// What a crawler, for which the file is read so and has these rules, may fetch. It is `Part` if its vendor
 /// applies another group.
 fn reach_for(
     alloc: Global,
-    agent: &str,
+    vendor: AtVendor,
     reading: &Reading,
-    site: &Site,
     rules: &[Rule],
 ) -> Result<(Reach, Vec<usize>), AllocError>
     ensures reach { IfOk result (λ found. IsReach rules.now found.0 found.1.items) }
-    ensures own { IfOk result (λ found. is_some (other_group (file_lines site.now) agent.now) ≡ true
-        → found.0 ≡ Reach.Part) }
+    ensures own { IfOk result (λ found. (vendor ≡ Same) ⊎ (found.0 ≡ Reach.Part)) }
 {
     match reading {
-        Reading::Accepted(robot) if other_group(site, agent).is_none() => {
-            reach_of(alloc, robot, rules)
-        }
+        Reading::Accepted(robot) if vendor == AtVendor::Same => reach_of(alloc, robot, rules),
         _ => Ok((Reach::Part, Vec::new(alloc))),
     }
 }
@@ -190,7 +186,8 @@ fn agent_audit<'a>(
     ensures fault { IfErr result (λ fault. fault ≡ Fault.Memory) }
 {
     let rules = rules_of(alloc, &read.site, agent)?;
-    let (reach, allows) = reach_for(alloc, agent, reading, &read.site, &rules)?;
+    let vendor = at_vendor(agent, &read.site);
+    let (reach, allows) = reach_for(alloc, vendor, reading, &rules)?;
     let (rejected, verdicts) = ruling(alloc, reading, urls)?;
     Ok(AgentAudit {
         agent,
@@ -199,6 +196,7 @@ fn agent_audit<'a>(
         rules: count_of(&rules),
         reach,
         allows,
+        vendor,
         delay: read.site.delay(agent),
         rejected,
         verdicts,

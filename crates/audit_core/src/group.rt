@@ -3,8 +3,10 @@ ghost use Rattle.std.specs.Prelude.{◌≡◌, map};
 ghost use Rattle.std.specs.Str.{str_to_ascii_lowercase};
 ghost use Rattle.texting_robots.specs.Callers.{by_value, file_lines, is_agent_named, label_by_value};
 ghost use Rattle.robots_warnings.specs.File.{lines_of};
-ghost use Rattle.audit_core.specs.Audit.{group_of, naming_line};
+ghost use Rattle.robots_warnings.specs.Crawlers.{other_group};
+ghost use Rattle.audit_core.specs.Audit.{at_vendor, group_of, naming_line};
 
+use robots_warnings::crawlers::other_group;
 use texting_robots::Site;
 use texting_robots::labels::LabeledLine;
 use texting_robots::parser::Line;
@@ -34,6 +36,25 @@ pub(crate) fn group_of(agent: &str, site: &Site) -> Group
         Group::Nobody
     } else {
         Group::Everyone
+    }
+}
+
+/// Which group the vendor of a known crawler applies to it.
+#[derive(Clone, Copy, PartialEq, Eq)]
+pub enum AtVendor {
+    /// The one that applies here.
+    Same,
+    NoGroup,
+    OtherGroup,
+}
+
+pub(crate) fn at_vendor(agent: &str, site: &Site) -> AtVendor
+    ensures { result ≡ at_vendor (other_group (file_lines site.now) agent.now) }
+{
+    match other_group(site, agent) {
+        None => AtVendor::Same,
+        Some(group) if group.is_empty() => AtVendor::NoGroup,
+        Some(_) => AtVendor::OtherGroup,
     }
 }
 

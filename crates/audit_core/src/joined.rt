@@ -22,7 +22,7 @@ fn has_shared_end(detail: Option<Detail>) -> bool
     }
 }
 
-/// A note may name another crawler than those that are written as one with it.
+/// A note may name another crawler or URL than those that are written as one with it.
 fn is_alike(warning: &Warning<'_>) -> bool
     ensures { result ≡ is_alike warning.now }
 {
@@ -32,7 +32,7 @@ fn is_alike(warning: &Warning<'_>) -> bool
 fn is_joined(warning: &Warning<'_>) -> bool
     ensures { result ≡ is_joined warning.now }
 {
-    is_alike(warning) && (warning.line.is_some() && has_shared_end(warning.detail))
+    is_alike(warning) && has_shared_end(warning.detail)
 }
 
 fn is_joined_as(number: usize, warning: &Warning<'_>) -> bool
@@ -105,7 +105,7 @@ fn line_as(number: usize, warning: &Warning<'_>) -> Option<usize>
     ensures { result ≡ line_as number warning.now }
 {
     if is_joined_as(number, warning) {
-        warning.line
+        Some(warning.line.unwrap_or(0))
     } else {
         None
     }
@@ -124,7 +124,7 @@ fn push_line_as(
     Ok(())
 }
 
-/// The lines of all that are written as this one; none if it is written alone.
+/// The lines of all that are written as this one, or 0 for each that is about no line.
 pub fn shared_lines(
     alloc: Global,
     warning: &Warning<'_>,
@@ -143,8 +143,8 @@ pub fn shared_lines(
     Ok(lines)
 }
 
-/// The lines of the warnings that are written as one, as in ` (also in lines 3, 5 and 8)`: of the others than the
-/// first, three are named.
+/// The lines of the warnings that are written as one, as in ` (also in lines 3, 5 and 8)`, where of the others than
+/// the first, three are named; or how many there are, as in ` (and 6 more)`.
 #[derive(Clone, Copy)]
 pub struct AlsoIn<'a>(pub &'a [usize]);
 
@@ -152,6 +152,10 @@ impl<'a> fmt::Display for AlsoIn<'a> {
     fn fmt<W: fmt::Write>(&self, f: &mut fmt::Formatter<W>) -> fmt::Result {
         match self.0 {
             [] | [_] => Ok(()),
+            [0, others @ ..] => {
+                let more = others.len();
+                write!(f, " (and {more} more)")
+            }
             [_, others @ ..] => {
                 let others = Lines(others);
                 write!(f, " (also in {others})")

@@ -7,6 +7,7 @@ use itoa::Buffer;
 use printable_text::delay::Delay;
 use printable_text::report::{Report, Untrusted};
 use robots_warnings::contents::split_content;
+use robots_warnings::empty_disallows::is_empty_disallow;
 use robots_warnings::file::is_blank;
 use std::fmt;
 use std::fmt::Write;
@@ -59,13 +60,26 @@ pub fn comment_of<'a>(line: Line<'_>, body: &'a [u8]) -> &'a [u8]
     }
 }
 
+/// The same for people: what is read as an Allow may be an empty Disallow.
+pub fn shown_kind(labeled: &LabeledLine<'_>) -> &'static str {
+    if is_empty_disallow(labeled.line, labeled.body) {
+        "disallow"
+    } else {
+        kind_text(labeled.line)
+    }
+}
+
 /// What is shown of a line: a delay in seconds, or another value.
 #[derive(Clone, Copy)]
-pub struct Shown<'a>(pub Line<'a>);
+pub struct Shown<'a>(pub &'a LabeledLine<'a>);
 
 impl<'a> fmt::Display for Shown<'a> {
     fn fmt<W: fmt::Write>(&self, f: &mut fmt::Formatter<W>) -> fmt::Result {
-        match self.0 {
+        let (line, body) = (self.0.line, self.0.body);
+        match line {
+            Line::Allow(_) if is_empty_disallow(line, body) => {
+                f.write_str("(empty: allows everything)")
+            }
             Line::UserAgent(value)
             | Line::Allow(value)
             | Line::Disallow(value)
@@ -86,9 +100,9 @@ impl<'a> fmt::Display for Shown<'a> {
 fn write_row(out: &mut Report, width: usize, labeled: &LabeledLine<'_>) -> fmt::Result {
     let (number, mark) = (labeled.number, mark_of(labeled.membership));
     write!(out, "{number:>width$} {mark} ")?;
-    let kind = kind_text(labeled.line);
+    let kind = shown_kind(labeled);
     if has_value(labeled.line) {
-        let value = Shown(labeled.line);
+        let value = Shown(labeled);
         write!(out, "{kind:<12}{value}")?;
     } else {
         out.write_str(kind)?;

@@ -15,9 +15,9 @@ impl fmt::Display for Standard {
     fn fmt<W: fmt::Write>(&self, f: &mut fmt::Formatter<W>) -> fmt::Result {
         match self.0 {
             Conformance::OtherFile => Ok(()),
-            Conformance::OtherLine(line) => write!(f, "not RFC 9309 syntax: line {line}"),
+            Conformance::OtherLine(line) => write!(f, "not RFC 9309 syntax, first at line {line}"),
             Conformance::Syntax(line) => {
-                write!(f, "RFC 9309 syntax; verdicts may differ: line {line}")
+                write!(f, "RFC 9309 syntax; verdicts may differ from RFC 9309's: line {line}")
             }
             Conformance::Verdicts => {
                 f.write_str("RFC 9309 syntax and verdicts, for URLs in normal form")

@@ -1,14 +1,18 @@
 //! Texts that several reports share: a delay, which group applies to a crawler, and that the file is
 //! rejected.
-ghost use Rattle.std.specs.Prelude.{◌≡◌, option_map};
+ghost use Rattle.std.specs.Prelude.{◌≡◌, Some, option_map};
 ghost use Rattle.audit_core.specs.Texts.{may_fetch};
+ghost use Rattle.robots_warnings.specs.Positions.{is_ignored};
 
-use crate::group::Group;
+use crate::audit::AgentAudit;
+use crate::group::{AtVendor, Group};
 use crate::reach::Reach;
 use printable_text::delay::Delay;
 use printable_text::report::Report;
+use robots_warnings::positions::is_ignored;
 use std::fmt;
 use std::fmt::Write;
+use texting_robots::parser::Line;
 
 /// If the file isn't rejected for the crawler, and something is said of what it may fetch.
 pub fn may_fetch(rejected: Option<usize>, reach: Reach) -> Option<&'static str>
@@ -76,19 +80,54 @@ impl fmt::Display for DelayOrNone {
     }
 }
 
+/// Whether the crawler has a delay, and ignores it.
+pub fn ignores_delay(audit: &AgentAudit<'_>) -> bool
+    ensures { result ≡ is_ignored (Some audit.now.agent) audit.now.delay }
+{
+    is_ignored(Some(audit.agent.as_bytes()), Line::CrawlDelay(audit.delay))
+}
+
+/// The delay of a crawler, or `none`, and whether the crawler ignores it.
+#[derive(Clone, Copy)]
+pub struct Delayed<'a>(pub &'a AgentAudit<'a>);
+
+impl<'a> fmt::Display for Delayed<'a> {
+    fn fmt<W: fmt::Write>(&self, f: &mut fmt::Formatter<W>) -> fmt::Result {
+        let (agent, delay) = (self.0.agent, DelayOrNone(self.0.delay));
+        write!(f, "{delay}")?;
+        if ignores_delay(self.0) {
+            write!(f, " ({agent} ignores it)")?;
+        }
+        Ok(())
+    }
+}
+
+/// If a crawler's vendor applies another group than the one that is reported, the end of what is said of it.
+impl fmt::Display for AtVendor {
+    fn fmt<W: fmt::Write>(&self, f: &mut fmt::Formatter<W>) -> fmt::Result {
+        match *self {
+            AtVendor::Same => Ok(()),
+            AtVendor::NoGroup => {
+                f.write_str("; its vendor applies no group, so it may fetch everything")
+            }
+            AtVendor::OtherGroup => f.write_str("; its vendor applies another group"),
+        }
+    }
+}
+
 /// The group that applies to a crawler, and the reason if it isn't the crawler's own.
 #[derive(Clone, Copy)]
-pub struct Applied<'a> {
-    pub agent: &'a str,
-    pub group: Group,
-}
+pub struct Applied<'a>(pub &'a AgentAudit<'a>);
 
 impl<'a> fmt::Display for Applied<'a> {
     fn fmt<W: fmt::Write>(&self, f: &mut fmt::Formatter<W>) -> fmt::Result {
-        let agent = self.agent;
-        match self.group {
+        let (audit, agent) = (self.0, self.0.agent);
+        match audit.group {
             Group::Named => f.write_str(agent),
             Group::Star => write!(f, "* ({agent} has no group of its own)"),
+            Group::Nobody if audit.vendor == AtVendor::OtherGroup => {
+                write!(f, "none (no group for {agent} or *)")
+            }
             Group::Nobody if agent == "*" => {
                 f.write_str("none (no group for *; everything is allowed)")
             }

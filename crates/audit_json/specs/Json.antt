@@ -11,6 +11,9 @@ use Rattle.audit_core.specs.{Audit.VerdictValue, declared.findings.Finding.Findi
 use Rattle.rfc9309_laws.specs.{Conformance.has_syntax, Conformance.has_verdicts}
 use Rattle.rfc9309_laws.specs.declared.conformance.Conformance.{Conformance}
 use Rattle.rfc9309_laws.specs.declared.conformance.Conformance.TheVariants.{OtherLine, Syntax}
+use Rattle.audit_core.specs.declared.group.AtVendor.{AtVendor, TheVariants.NoGroup, TheVariants.OtherGroup}
+use Rattle.audit_core.specs.declared.group.AtVendor.{TheVariants.Same}
+use Rattle.audit_core.specs.declared.reach.Reach.{Reach, TheVariants.Listed}
 use Rattle.audit_core.specs.declared.group.Group.TheVariants.{Everyone, Named, Nobody, Star}
 use Rattle.audit_core.specs.Rows.{comment_of, kind_text, membership_word}
 use Rattle.audit_core.specs.Findings.{found_of, warning_found}
@@ -45,13 +48,24 @@ group_word Star = codes "star"
 group_word Nobody = codes "none"
 group_word Everyone = codes "everyone"
 
+-- the lines of what is listed
+abbrev pub listed_json : Reach → List ℕ → Data
+listed_json Listed lines = list_json (λ line. number (unsigned line)) lines
+listed_json reach lines = null
+
+-- which other group the crawler's vendor applies
+abbrev pub vendor_word : AtVendor → Option (List ℕ)
+vendor_word Same = None
+vendor_word NoGroup = Some (codes "none")
+vendor_word OtherGroup = Some (codes "other")
+
 abbrev pub word_json : Option (List ℕ) → Data
 word_json None = null
 word_json (Some word) = string word
 
 -- the crawler, its delay in microseconds, the group that applies to it and the first line that names it, what
--- the crawler may fetch if that is everything or nothing, the line for which the file is rejected, how many
--- rules apply, and the verdicts
+-- the crawler may fetch, the lines if that is listed, the line for which the file is rejected, how many rules
+-- apply, which other group its vendor applies, and the verdicts
 abbrev pub agent_json : AgentValue → Data
 agent_json agent = object
     (member (codes "agent") (sanitized_json agent.agent)
@@ -60,9 +74,11 @@ agent_json agent = object
     (member (codes "group_line") (number_json agent.group_line)
     (member (codes "may_fetch")
     (word_json (may_fetch agent.rejected agent.reach))
+    (member (codes "may_fetch_lines") (listed_json agent.reach agent.allows)
     (member (codes "rejected") (number_json agent.rejected)
     (member (codes "rules") (number (unsigned agent.rules))
-    (member (codes "verdicts") (list_json verdict_json agent.verdicts) no_members))))))))
+    (member (codes "vendor") (word_json (vendor_word agent.vendor))
+    (member (codes "verdicts") (list_json verdict_json agent.verdicts) no_members))))))))))
 
 -- a delay in microseconds; for other lines the sanitized value; null if there is no value
 abbrev pub value_json : LineValue → Data

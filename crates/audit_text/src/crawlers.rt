@@ -2,7 +2,7 @@
 use crate::verdicts::write_verdicts;
 use audit_core::audit::AgentAudit;
 use audit_core::group::Group;
-use audit_core::texts::{Fetched, may_fetch, write_rejected};
+use audit_core::texts::{Fetched, ignores_delay, may_fetch, write_rejected};
 use printable_text::delay::Delay;
 use printable_text::report::Report;
 use std::fmt;
@@ -41,11 +41,16 @@ fn write_crawler(out: &mut Report, agent: &AgentAudit<'_>) -> fmt::Result {
     if let Some(micros) = agent.delay {
         let delay = Delay(micros);
         write!(out, ", delay {delay}")?;
+        if ignores_delay(agent) {
+            out.write_str(", which it ignores")?;
+        }
     }
     if may_fetch(agent.rejected, agent.reach).is_some() {
         let fetched = Fetched(agent.reach, &agent.allows);
         write!(out, ", may fetch {fetched}")?;
     }
+    let vendor = agent.vendor;
+    write!(out, "{vendor}")?;
     out.end_line()
 }
 

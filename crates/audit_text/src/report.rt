@@ -9,7 +9,7 @@ use audit_core::joined::{AlsoIn, in_order, shared_lines};
 use audit_core::request::Request;
 use audit_core::rows::write_rows;
 use audit_core::syntax::{Standard, has_directive};
-use audit_core::texts::{Applied, DelayOrNone, Fetched, may_fetch, write_rejected};
+use audit_core::texts::{Applied, Delayed, Fetched, may_fetch, write_rejected};
 use printable_text::level::Level;
 use printable_text::report::Report;
 use rfc9309_laws::conformance::Conformance;
@@ -28,17 +28,15 @@ fn write_fetched(out: &mut Report, audit: &AgentAudit<'_>) -> fmt::Result {
 }
 
 fn write_agent(out: &mut Report, is_quiet: bool, audit: &AgentAudit<'_>) -> fmt::Result {
-    let (agent, group) = (audit.agent, audit.group);
-    let applied = Applied { agent, group };
-    write!(out, "group: {applied}")?;
+    let (applied, vendor, delayed) = (Applied(audit), audit.vendor, Delayed(audit));
+    write!(out, "group: {applied}{vendor}")?;
     out.end_line()?;
-    let delay = DelayOrNone(audit.delay);
-    write!(out, "delay: {delay}")?;
+    write!(out, "delay: {delayed}")?;
     out.end_line()?;
     if !is_quiet {
         write_fetched(out, audit)?;
     }
-    write_rejected(out, agent, audit.rejected)?;
+    write_rejected(out, audit.agent, audit.rejected)?;
     write_verdicts(out, None, &audit.verdicts)
 }
 
@@ -125,10 +123,16 @@ pub fn write_warnings(
         let lines = shared_lines(alloc, warning, &all)?;
         write_warning(out, file, &lines, warning)?;
     }
+    let mut messages = found.warnings.len();
     for more in &found.more {
         write_more(out, file, more)?;
+        messages = messages.saturating_add(more.number);
     }
     let counts = counts_of(warnings);
     write!(out, "{file}: {counts}")?;
+    if messages < warnings.len() {
+        let end = if messages > 1 { "s" } else { "" };
+        write!(out, " (in {messages} message{end})")?;
+    }
     out.end_line()
 }

@@ -18,7 +18,8 @@ use Rattle.robots_needless.specs.Needless.{numbers_of}
 use Rattle.robots_needless.proofs.{LeftLemmas.left_within, LeftLemmas.same_robot}
 use Rattle.robots_needless.proofs.{SettledLemmas.nothing_found}
 use Rattle.audit_core.specs.Audit.{AgentValue, AreOfSitemaps, AuditValue, IsAgentAudit, IsAuditOf, IsRuling}
-use Rattle.audit_core.specs.Audit.{IsVerdictOn, VerdictValue, agents_requested, group_of}
+use Rattle.audit_core.specs.Audit.{IsVerdictOn, VerdictValue, agents_requested, at_vendor, group_of}
+use Rattle.robots_warnings.specs.Crawlers.{other_group}
 use Rattle.audit_core.specs.Audit.{labels_requested, naming_line, sitemap_warning}
 use Rattle.audit_core.specs.Audit.{sitemaps_asked, warnings_requested}
 use Rattle.audit_core.specs.{Request.RequestValue, Asked.asked_target}
@@ -243,6 +244,7 @@ some_agent urls lines agent =
         rules = length (placed_rules agent lines);
         reach = Part;
         allows = [];
+        vendor = at_vendor (other_group lines agent);
         delay = delay_for agent lines;
         rejected = rejected;
         verdicts = verdicts;

@@ -16,6 +16,7 @@ agent_of audit = record {
   rules = audit.rules;
   reach = audit.reach;
   allows = audit.allows.items;
+  vendor = audit.vendor;
   delay = audit.delay;
   rejected = audit.rejected;
   verdicts = audit.verdicts.items;

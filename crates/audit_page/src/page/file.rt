@@ -5,7 +5,7 @@ use crate::page::slices::{after, first};
 use crate::page::warnings::write_warning_row;
 use audit_core::audit::{Audit, labeling_agent};
 use audit_core::joined::in_order;
-use audit_core::rows::{Shown, comment_of, kind_text, membership_word};
+use audit_core::rows::{Shown, comment_of, membership_word, shown_kind};
 use audit_core::sitemaps::sitemaps_of;
 use printable_text::report::Untrusted;
 use robots_warnings::warning::Warning;
@@ -49,10 +49,10 @@ fn write_line_row(page: &mut Page, label: &LabeledLine<'_>) -> fmt::Result {
         Line::UserAgent(_) => page.html.open("td", &[("class", "agent")])?,
         _ => page.html.open("td", &[])?,
     }
-    page.html.write_str(kind_text(label.line))?;
+    page.html.write_str(shown_kind(label))?;
     page.html.close()?;
     page.html.open("td", &[])?;
-    let value = Shown(label.line);
+    let value = Shown(label);
     write!(page.html, "{value}")?;
     let comment = comment_of(label.line, label.body);
     if !comment.is_empty() {

@@ -4,8 +4,9 @@ ghost use Rattle.html_writer.specs.Page.{is_tag};
 
 use crate::page::elements::Page;
 use audit_core::audit::{AgentAudit, Verdict};
+use audit_core::group::AtVendor;
 use audit_core::reach::Reach;
-use audit_core::texts::{Applied, DelayOrNone, Fetched, may_fetch};
+use audit_core::texts::{Applied, Delayed, Fetched, may_fetch};
 use std::fmt;
 use std::fmt::Write;
 
@@ -57,8 +58,7 @@ fn write_url_table(page: &mut Page, verdicts: &[Verdict<'_>]) -> fmt::Result {
 }
 
 fn write_group_note(page: &mut Page, audit: &AgentAudit<'_>) -> fmt::Result {
-    let (agent, group) = (audit.agent, audit.group);
-    let applied = Applied { agent, group };
+    let (applied, vendor) = (Applied(audit), audit.vendor);
     write!(page.html, "{applied}")?;
     if let Some(line) = audit.group_line {
         page.html.write_str(", ")?;
@@ -68,7 +68,7 @@ fn write_group_note(page: &mut Page, audit: &AgentAudit<'_>) -> fmt::Result {
         page.html.write_str("; rejected: ")?;
         page.line_link(line)?;
     }
-    Ok(())
+    write!(page.html, "{vendor}")
 }
 
 fn write_fetch(page: &mut Page, name: &'static str, agent: &AgentAudit<'_>) -> fmt::Result
@@ -77,10 +77,11 @@ fn write_fetch(page: &mut Page, name: &'static str, agent: &AgentAudit<'_>) -> f
     let class = may_fetch(agent.rejected, agent.reach).unwrap_or("some");
     page.html.open(name, &[("class", class)])?;
     let fetched = Fetched(agent.reach, &agent.allows);
-    match (agent.rejected, agent.reach) {
-        (Some(_), _) => page.html.write_str("not decided")?,
-        (None, Reach::Part) => page.html.write_str("some, by its rules")?,
-        (None, _) => write!(page.html, "{fetched}")?,
+    match (agent.vendor, agent.rejected, agent.reach) {
+        (AtVendor::NoGroup, _, _) => page.html.write_str("everything")?,
+        (AtVendor::OtherGroup, _, _) | (_, Some(_), _) => page.html.write_str("not decided")?,
+        (_, None, Reach::Part) => page.html.write_str("some, by its rules")?,
+        (_, None, _) => write!(page.html, "{fetched}")?,
     }
     page.html.close()
 }
@@ -101,7 +102,7 @@ fn write_agent_entry(page: &mut Page, agent: &AgentAudit<'_>) -> fmt::Result {
     page.element("dt", "Rules")?;
     write_fact(page, "dd", agent.rules)?;
     page.element("dt", "Crawl delay")?;
-    write_fact(page, "dd", DelayOrNone(agent.delay))?;
+    write_fact(page, "dd", Delayed(agent))?;
     page.element("dt", "May fetch")?;
     write_fetch(page, "dd", agent)
 }
@@ -113,7 +114,7 @@ fn write_agent_row(page: &mut Page, agent: &AgentAudit<'_>) -> fmt::Result {
     write_group_note(page, agent)?;
     page.html.close()?;
     write_fact(page, "td", agent.rules)?;
-    write_fact(page, "td", DelayOrNone(agent.delay))?;
+    write_fact(page, "td", Delayed(agent))?;
     write_fetch(page, "td", agent)?;
     for verdict in &agent.verdicts {
         write_verdict_cell(page, true, verdict)?;
