@@ -4,6 +4,7 @@ ghost use Rattle.audit_core.specs.Findings.{Adds, agent_findings, denials, findi
 ghost use Rattle.audit_core.specs.Findings.{found_of, rejections, warning_findings, warning_found};
 
 use crate::audit::{AgentAudit, Audit, Verdict};
+use crate::group::AtVendor;
 use crate::texts::Rejected;
 use printable_text::level::Level;
 use printable_text::report::Line;
@@ -60,6 +61,7 @@ fn add_denial(
     alloc: Global,
     found: &mut Findings,
     agent: &str,
+    vendor: AtVendor,
     verdict: &Verdict<'_>,
 ) -> fmt::Result
     ensures { OnOk result (Adds found.old.items found.new.items (denials verdict.now)) }
@@ -68,7 +70,7 @@ fn add_denial(
         return Ok(());
     }
     let (mut message, url) = (Line::new(alloc), verdict.url);
-    write!(message, "{agent} may not fetch {url}")?;
+    write!(message, "{agent} may not fetch {url}{vendor}")?;
     add(
         alloc,
         found,
@@ -83,12 +85,13 @@ fn add_denials(
     alloc: Global,
     found: &mut Findings,
     agent: &str,
+    vendor: AtVendor,
     verdicts: &[Verdict<'_>],
 ) -> fmt::Result
     ensures { OnOk result (Adds found.old.items found.new.items (flat_map denials verdicts.now)) }
 {
     for verdict in verdicts {
-        add_denial(alloc, found, agent, verdict)?;
+        add_denial(alloc, found, agent, vendor, verdict)?;
     }
     Ok(())
 }
@@ -114,7 +117,7 @@ fn add_agent(alloc: Global, found: &mut Findings, agent: &AgentAudit<'_>) -> fmt
     ensures { OnOk result (Adds found.old.items found.new.items (agent_findings agent.now)) }
 {
     add_rejection(alloc, found, agent.agent, agent.rejected)?;
-    add_denials(alloc, found, agent.agent, &agent.verdicts)
+    add_denials(alloc, found, agent.agent, agent.vendor, &agent.verdicts)
 }
 
 fn add_agents(alloc: Global, found: &mut Findings, agents: &[AgentAudit<'_>]) -> fmt::Result

@@ -71,7 +71,7 @@ fn reach_below(
         return Ok((Reach::Nothing, lines));
     }
     if has_open_site(rules) {
-        return Ok((Reach::Part, lines));
+        return Ok((Reach::Part, Vec::new(alloc)));
     }
     Ok((Reach::Listed, lines))
 }

@@ -7,7 +7,7 @@ use Rattle.std.specs.Str.{IsUtf8, all_scalars, chars, encode_utf8_all}
 use Rattle.std.proofs.lemmas.Bool.{and_parts, cases_Bool, Decides.nat_tests}
 use Rattle.std.proofs.lemmas.{List.Concat.flat_map-append, List.Folds.list_all-append, Simd.map-map}
 use Rattle.std.proofs.lemmas.Str.{chars-encodes, encodes-append, scalars-chars}
-use Rattle.serde_json.specs.Data.{Data, Members, array, null, number, object, unsigned}
+use Rattle.serde_json.specs.Data.{Data, Members, array, null, object}
 use Rattle.serde_json.specs.{View.items_of, Written.compact_text, Written.has_float, Written.members_text}
 use Rattle.texting_robots.specs.Callers.{Allow, CrawlDelay, Disallow, Label, LineValue, Raw, Sitemap}
 use Rattle.texting_robots.specs.Callers.{UserAgent}
@@ -15,15 +15,13 @@ use Rattle.printable_text.specs.{Sanitize.sanitized, Text.IsReport}
 use Rattle.printable_text.proofs.{ReportLemmas.brace_plain}
 use Rattle.audit_core.specs.Audit.{AgentValue, AuditValue, VerdictValue}
 use Rattle.audit_core.specs.{Rows.comment_of, Texts.may_fetch, declared.findings.Finding.Finding}
-use Rattle.audit_core.specs.declared.reach.Reach.{Reach, TheVariants.Everything, TheVariants.Listed}
-use Rattle.audit_core.specs.declared.reach.Reach.{TheVariants.Nothing, TheVariants.Part}
 use Rattle.rfc9309_laws.specs.{Conformance.has_syntax, Conformance.has_verdicts}
 use Rattle.rfc9309_laws.specs.declared.conformance.Conformance.{Conformance}
 use Rattle.rfc9309_laws.specs.declared.conformance.Conformance.TheVariants.{OtherFile, OtherLine, Syntax}
 use Rattle.rfc9309_laws.specs.declared.conformance.Conformance.TheVariants.{Verdicts}
 use Rattle.robots_warnings.specs.Table.{all_causes, level_of, name_of}
-use Rattle.audit_json.specs.Json.{agent_json, audit_json, fault_json, finding_json, findings_json}
-use Rattle.audit_json.specs.Json.{findings_text, json_line, known_json, line_json, list_json, listed_json, number_json}
+use Rattle.audit_json.specs.Json.{agent_json, audit_json, count_json, fault_json, finding_json, findings_json}
+use Rattle.audit_json.specs.Json.{findings_text, json_line, known_json, line_json, list_json, number_json}
 use Rattle.audit_json.specs.Json.{rows_json, sanitized_json, text_json, value_json, vendor_word, verdict_json}
 use Rattle.audit_json.specs.Json.{word_json}
 use Rattle.audit_json.specs.Sarif.{all_rules, has_level_for, is_brace, literal_char, literal_text, log_json}
@@ -70,12 +68,6 @@ word_whole : (word : Option (List ℕ)) → has_float (word_json word) ≡ false
 word_whole None = refl
 word_whole (Some word) = refl
 
-listed_whole : (reach : Reach) (lines : List ℕ) → has_float (listed_json reach lines) ≡ false
-listed_whole Listed lines = list_whole (λ line. number (unsigned line)) (λ line. refl) lines
-listed_whole Everything lines = refl
-listed_whole Nothing lines = refl
-listed_whole Part lines = refl
-
 printed_whole : (is_empty : Bool) (text : List ℕ)
     → has_float (if is_empty then null else sanitized_json text) ≡ false
 printed_whole true text = refl
@@ -113,7 +105,7 @@ agent_whole agent = rw (
   number_whole agent.delay,
   number_whole agent.group_line,
   word_whole (may_fetch agent.rejected agent.reach),
-  listed_whole agent.reach agent.allows,
+  list_whole count_json (λ n. refl) agent.allows,
   number_whole agent.rejected,
   word_whole (vendor_word agent.vendor),
   list_whole verdict_json verdict_whole agent.verdicts,

@@ -13,7 +13,6 @@ use Rattle.rfc9309_laws.specs.declared.conformance.Conformance.{Conformance}
 use Rattle.rfc9309_laws.specs.declared.conformance.Conformance.TheVariants.{OtherLine, Syntax}
 use Rattle.audit_core.specs.declared.group.AtVendor.{AtVendor, TheVariants.NoGroup, TheVariants.OtherGroup}
 use Rattle.audit_core.specs.declared.group.AtVendor.{TheVariants.Same}
-use Rattle.audit_core.specs.declared.reach.Reach.{Reach, TheVariants.Listed}
 use Rattle.audit_core.specs.declared.group.Group.TheVariants.{Everyone, Named, Nobody, Star}
 use Rattle.audit_core.specs.Rows.{comment_of, kind_text, membership_word}
 use Rattle.audit_core.specs.Findings.{found_of, warning_found}
@@ -27,10 +26,13 @@ sanitized_json text = string (sanitized text)
 abbrev pub text_json : List ℕ → Data
 text_json text = if length text == 0 then null else sanitized_json text
 
+abbrev pub count_json : ℕ → Data
+count_json n = number (unsigned n)
+
 -- null for `None`
 abbrev pub number_json : Option ℕ → Data
 number_json None = null
-number_json (Some n) = number (unsigned n)
+number_json (Some n) = count_json n
 
 abbrev pub list_json : {X : Type 0} → (X → Data) → List X → Data
 list_json value xs = array (items_of (map value xs))
@@ -47,11 +49,6 @@ group_word Named = codes "named"
 group_word Star = codes "star"
 group_word Nobody = codes "none"
 group_word Everyone = codes "everyone"
-
--- the lines of what is listed
-abbrev pub listed_json : Reach → List ℕ → Data
-listed_json Listed lines = list_json (λ line. number (unsigned line)) lines
-listed_json reach lines = null
 
 -- which other group the crawler's vendor applies
 abbrev pub vendor_word : AtVendor → Option (List ℕ)
@@ -74,9 +71,9 @@ agent_json agent = object
     (member (codes "group_line") (number_json agent.group_line)
     (member (codes "may_fetch")
     (word_json (may_fetch agent.rejected agent.reach))
-    (member (codes "may_fetch_lines") (listed_json agent.reach agent.allows)
+    (member (codes "may_fetch_lines") (list_json count_json agent.allows)
     (member (codes "rejected") (number_json agent.rejected)
-    (member (codes "rules") (number (unsigned agent.rules))
+    (member (codes "rules") (count_json agent.rules)
     (member (codes "vendor") (word_json (vendor_word agent.vendor))
     (member (codes "verdicts") (list_json verdict_json agent.verdicts) no_members))))))))))
 
@@ -95,7 +92,7 @@ line_json label = object
     (member (codes "comment") (text_json (comment_of label.line label.body))
     (member (codes "kind") (string (kind_text label.line))
     (member (codes "membership") (string (membership_word label.membership))
-    (member (codes "number") (number (unsigned label.number))
+    (member (codes "number") (count_json label.number)
     (member (codes "value") (value_json label.line) no_members)))))
 
 abbrev pub rows_json : (has_rows : Bool) → List Label → Data
@@ -115,8 +112,8 @@ known_json is_known = if is_known then boolean true else null
 
 -- the line that keeps a file from the grammar, or else from verdicts that are the standard's
 abbrev pub fault_json : Conformance → Data
-fault_json (OtherLine line) = number (unsigned line)
-fault_json (Syntax line) = number (unsigned line)
+fault_json (OtherLine line) = count_json line
+fault_json (Syntax line) = count_json line
 fault_json _ = null
 
 -- what the file means for each crawler, its syntax and verdicts, the lines if there are rows, the line at

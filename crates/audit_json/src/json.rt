@@ -4,14 +4,13 @@ ghost use Rattle.serde_json.specs.{View.view, Written.has_float};
 ghost use Rattle.texting_robots.specs.Callers.{by_value, label_by_value, sitemaps_in};
 ghost use Rattle.audit_json.specs.Json.{IsJson, agent_json, audit_json, fault_json, findings_json};
 ghost use Rattle.audit_json.specs.Json.{findings_text, group_word, json_line, known_json, line_json};
-ghost use Rattle.audit_json.specs.Json.{list_json, listed_json, number_json, rows_json, sanitized_json, text_json};
+ghost use Rattle.audit_json.specs.Json.{list_json, number_json, rows_json, sanitized_json, text_json};
 ghost use Rattle.audit_json.specs.Json.{value_json, vendor_word, word_json};
 ghost use Rattle.robots_warnings.specs.File.{lines_of};
 
 use audit_core::audit::{AgentAudit, Audit, Verdict};
 use audit_core::findings::{Finding, warnings_found};
 use audit_core::group::{AtVendor, Group};
-use audit_core::reach::Reach;
 use audit_core::rows::{comment_of, kind_text, membership_word};
 use audit_core::sitemaps::sitemaps_of;
 use audit_core::texts::may_fetch;
@@ -130,7 +129,7 @@ impl<'a> Json for AgentAudit<'a> {
             "group": group_word(self.group),
             "group_line": line_number(self.group_line),
             "may_fetch": word_json(alloc, may_fetch(self.rejected, self.reach))?,
-            "may_fetch_lines": listed_json(alloc, self.reach, &self.allows)?,
+            "may_fetch_lines": list_json(alloc, &self.allows)?,
             "rejected": line_number(self.rejected),
             "rules": self.rules,
             "vendor": word_json(alloc, vendor_word(self.vendor))?,
@@ -140,22 +139,12 @@ impl<'a> Json for AgentAudit<'a> {
 }
 
 impl Json for usize {
-    ghost use Rattle.serde_json.specs.Data.{number, unsigned};
+    ghost use Rattle.audit_json.specs.Json.{count_json};
 
-    ghost json = { λ line. number (unsigned line) };
+    ghost json = { count_json };
 
     fn json(&self, alloc: Global) -> Result<Value, AllocError> {
         Ok(Value::from(*self))
-    }
-}
-
-/// Null if what the crawler may fetch isn't listed.
-fn listed_json(alloc: Global, reach: Reach, lines: &[usize]) -> Result<Value, AllocError>
-    ensures { IfOk result (λ value. view value ≡ listed_json reach lines.now) }
-{
-    match reach {
-        Reach::Listed => list_json(alloc, lines),
-        _ => Ok(Value::Null),
     }
 }
 
