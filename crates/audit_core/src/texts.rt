@@ -7,6 +7,7 @@ use crate::group::Group;
 use crate::reach::Reach;
 use printable_text::delay::Delay;
 use printable_text::report::Report;
+use robots_warnings::crawlers::is_wrong;
 use std::fmt;
 use std::fmt::Write;
 
@@ -88,6 +89,9 @@ impl<'a> fmt::Display for Applied<'a> {
         let agent = self.agent;
         match self.group {
             Group::Named => f.write_str(agent),
+            Group::Star if is_wrong(agent.as_bytes()) => {
+                write!(f, "* (no crawler has the name {agent})")
+            }
             Group::Star => write!(f, "* ({agent} has no group of its own)"),
             Group::Nobody if agent == "*" => {
                 f.write_str("none (no group for *; everything is allowed)")
