@@ -104,8 +104,8 @@ pub record AreFailuresOn (file : List ℕ) (expectations : List ExpectationValue
 abbrev pub elsewhere : List LineValue → List ℕ → List (List ℕ)
 elsewhere lines name = if is_some (other_group lines name) then name ∷ [] else []
 
--- `*`, each crawler that the lines name, and each known one with such a vendor: for any other crawler the lines
--- say what they say for `*`
+-- `*`, each crawler that the lines name, and each known one with such a vendor: to any other crawler the rules
+-- of `*` apply
 abbrev pub all_crawlers : List LineValue → List (List ℕ)
 all_crawlers lines = crawlers_in lines ++ flat_map (λ (row : Row). elsewhere lines row.0) crawlers
 
@@ -119,4 +119,5 @@ pub record AreFailuresOf (text file : List ℕ) (found : List Found) : Type 0 wh
   pub expectations : List ExpectationValue
   pub all : expectations_in text ≡ Ok expectations
   pub some : (length expectations == 0) ≡ false
-  pub failures : AreFailuresOn file (flat_map (about_each (all_crawlers (lines_read file))) expectations) found
+  pub failures : AreFailuresOn file (flat_map (about_each (all_crawlers (lines_read file))) expectations)
+      found

@@ -116,7 +116,7 @@ pub record AreNamesOf (matches : ArgMatches) (id : List ℕ) (names : List (List
   pub all : names ≡ values_of matches id
   pub known : IsTrue (list_all is_name names)
 
--- needless rules are looked for with `--needless`, or if one of these names of `--only` is that of a warning about them
+-- needless rules are looked for with `--needless`, or if one of these names of `--only` is about them
 abbrev pub AsksNeedless : ArgMatches → List (List ℕ) → Bool → Type 0
 AsksNeedless matches only answer =
     (is_given : Bool) × IsOn matches (codes "needless") is_given

@@ -24,12 +24,12 @@ use robots_warnings::urls::as_text;
 use std::alloc::{AllocError, Global};
 
 const AFTER_HELP: &str = "\
-The report goes to standard output; as text, its warnings go to standard error. In it, \"deny 2 /a\" means that
+The report goes to standard output; as text, its warnings go to standard error. \"deny 2 /a\" means that
 line 2 denies /a, and \"allow - /b\" that no line decides about /b, so it is allowed.
 
-In the lines of --expect, AGENT is a crawler's name, \"any\" for every crawler, or * for those without a group of
-their own. PATTERN means all paths that begin with it, or, with a $ at its end, that are as it is before the $;
-a * in it stands for any text.
+In a line of --expect, AGENT is a crawler's name, \"any\" (every crawler) or * (those without a group of
+their own). PATTERN means all paths that begin with it, or, with a $ at its end, all that end there; a *
+in it is any text.
 
 With --expect, give only FILE; with --compare only FILE, URLs, --urls, --agent, --known and --verdicts; with
 either also --json, --github or --format; with --list-warnings or --explain nothing else. With --denied, give
