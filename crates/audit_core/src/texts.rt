@@ -9,6 +9,7 @@ use crate::group::{AtVendor, Group};
 use crate::reach::Reach;
 use printable_text::delay::Delay;
 use printable_text::report::Report;
+use robots_warnings::crawlers::is_wrong;
 use robots_warnings::positions::is_ignored;
 use std::fmt;
 use std::fmt::Write;
@@ -124,6 +125,9 @@ impl<'a> fmt::Display for Applied<'a> {
         let (audit, agent) = (self.0, self.0.agent);
         match audit.group {
             Group::Named => f.write_str(agent),
+            Group::Star if is_wrong(agent.as_bytes()) => {
+                write!(f, "* (no crawler has the name {agent})")
+            }
             Group::Star => write!(f, "* ({agent} has no group of its own)"),
             Group::Nobody if audit.vendor == AtVendor::OtherGroup => {
                 write!(f, "none (no group for {agent} or *)")
