@@ -221,6 +221,18 @@ def test_table_of_crawlers():
     assert CRAWLERS.replace("\n", "") in page("--agent", "Long", "--agent", "B", "-", "/b", file=file)
 
 
+@pytest.mark.parametrize("agent, vendor, fetch", [
+    ("AdsBot-Google", "; its vendor applies no group, so it may fetch everything", "everything"),
+    ("Googlebot-Image", "; its vendor applies another group", "not decided"),
+])
+def test_page_has_what_vendors_do(agent, vendor, fetch):
+    file = b"User-agent: *\nDisallow: /a\nCrawl-delay: 10\nUser-agent: Googlebot\nDisallow:"
+    found = entries_of(f"--agent={agent}", "-", file=file)
+    assert found["Group"] == f"* ({agent} has no group of its own), line 1{vendor}"
+    assert (found["Crawl delay"], found["May fetch"]) == (f"10 s ({agent} ignores it)", fetch)
+    assert "<td>disallow</td><td>(empty: allows everything)</td>" in page(f"--agent={agent}", "-", file=file)
+
+
 def test_page_has_the_lines_and_warnings_of_the_json():
     elements, found = Reader(page(*FERRIS, *URLS)).elements, audit(*FERRIS, *URLS)
     rows = rows_of(found)

@@ -1,7 +1,7 @@
 -- The audit of a file: its lines, what applies to each requested crawler, and the warnings.
-use Rattle.std.specs.Prelude.{◌≡◌, ◌⊎◌, ◌==◌, ℕ, Bool, false, List, [], ◌∷◌, ◌++◌, Option, Some, None, codes, map}
-use Rattle.std.specs.Prelude.{count_by, filter, flat_map, if◌then◌else◌, is_none, is_some, length, not, take}
-use Rattle.std.specs.Prelude.{option_map, sum_by, zip}
+use Rattle.std.specs.Prelude.{◌≡◌, ◌⊎◌, ◌==◌, ℕ, Bool, false, true, List, [], ◌∷◌, ◌++◌, Option, Some, None}
+use Rattle.std.specs.Prelude.{codes, count_by, filter, flat_map, if◌then◌else◌, is_none, is_some, length, map}
+use Rattle.std.specs.Prelude.{not, option_map, sum_by, take, zip}
 use Rattle.std.specs.{List.AllZip, List.list_all, List.list_any, List.position_from, Str.is_utf8}
 use Rattle.texting_robots.specs.Callers.{IsFirstOverlong, IsRejected, Label, LineValue, PlacedRule, Sitemap}
 use Rattle.texting_robots.specs.Callers.{UserAgent, delay_for, file_limit, group_name, is_agent_named}

@@ -8,7 +8,6 @@ ghost use Rattle.audit_core.specs.Audit.{agents_requested, all_allowed, allows_a
 ghost use Rattle.audit_core.specs.Audit.{labels_requested, rejects_some};
 ghost use Rattle.audit_core.specs.{Request.requested_by, Needless.needless_warnings, Internal.IsReading};
 ghost use Rattle.audit_core.specs.Reach.{IsReach};
-ghost use Rattle.audit_core.specs.declared.group.AtVendor.{TheVariants.Same};
 ghost use Rattle.robots_warnings.specs.{Message.WarningValue, Read.IsRead, Warnings.warnings};
 
 use crate::agents::agents_requested;
@@ -157,7 +156,7 @@ fn reach_for(
     rules: &[Rule],
 ) -> Result<(Reach, Vec<usize>), AllocError>
     ensures reach { IfOk result (λ found. IsReach rules.now found.0 found.1.items) }
-    ensures own { IfOk result (λ found. (vendor ≡ Same) ⊎ (found.0 ≡ Reach.Part)) }
+    ensures own { IfOk result (λ found. (vendor ≡ AtVendor.Same) ⊎ (found.0 ≡ Reach.Part)) }
 {
     match reading {
         Reading::Accepted(robot) if vendor == AtVendor::Same => reach_of(alloc, robot, rules),

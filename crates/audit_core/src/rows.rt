@@ -69,15 +69,14 @@ pub fn shown_kind(labeled: &LabeledLine<'_>) -> &'static str {
     }
 }
 
-/// What is shown of a line: a delay in seconds, or another value.
+/// What is shown of a line with this content: a delay in seconds, or another value.
 #[derive(Clone, Copy)]
-pub struct Shown<'a>(pub &'a LabeledLine<'a>);
+pub struct Shown<'a>(pub Line<'a>, pub &'a [u8]);
 
 impl<'a> fmt::Display for Shown<'a> {
     fn fmt<W: fmt::Write>(&self, f: &mut fmt::Formatter<W>) -> fmt::Result {
-        let (line, body) = (self.0.line, self.0.body);
-        match line {
-            Line::Allow(_) if is_empty_disallow(line, body) => {
+        match self.0 {
+            Line::Allow(_) if is_empty_disallow(self.0, self.1) => {
                 f.write_str("(empty: allows everything)")
             }
             Line::UserAgent(value)
@@ -102,7 +101,7 @@ fn write_row(out: &mut Report, width: usize, labeled: &LabeledLine<'_>) -> fmt::
     write!(out, "{number:>width$} {mark} ")?;
     let kind = shown_kind(labeled);
     if has_value(labeled.line) {
-        let value = Shown(labeled);
+        let value = Shown(labeled.line, labeled.body);
         write!(out, "{kind:<12}{value}")?;
     } else {
         out.write_str(kind)?;

@@ -17,7 +17,10 @@ impl fmt::Display for Standard {
             Conformance::OtherFile => Ok(()),
             Conformance::OtherLine(line) => write!(f, "not RFC 9309 syntax, first at line {line}"),
             Conformance::Syntax(line) => {
-                write!(f, "RFC 9309 syntax; verdicts may differ from RFC 9309's: line {line}")
+                write!(
+                    f,
+                    "RFC 9309 syntax; verdicts may differ from RFC 9309's: line {line}"
+                )
             }
             Conformance::Verdicts => {
                 f.write_str("RFC 9309 syntax and verdicts, for URLs in normal form")

@@ -90,13 +90,14 @@ pub fn ignores_delay(audit: &AgentAudit<'_>) -> bool
 
 /// The delay of a crawler, or `none`, and whether the crawler ignores it.
 #[derive(Clone, Copy)]
-pub struct Delayed<'a>(pub &'a AgentAudit<'a>);
+pub struct Delayed<'a, 'b>(pub &'a AgentAudit<'b>);
 
-impl<'a> fmt::Display for Delayed<'a> {
+impl<'a, 'b> fmt::Display for Delayed<'a, 'b> {
     fn fmt<W: fmt::Write>(&self, f: &mut fmt::Formatter<W>) -> fmt::Result {
-        let (agent, delay) = (self.0.agent, DelayOrNone(self.0.delay));
+        let audit = self.0;
+        let (agent, delay) = (audit.agent, DelayOrNone(audit.delay));
         write!(f, "{delay}")?;
-        if ignores_delay(self.0) {
+        if ignores_delay(audit) {
             write!(f, " ({agent} ignores it)")?;
         }
         Ok(())
@@ -118,11 +119,12 @@ impl fmt::Display for AtVendor {
 
 /// The group that applies to a crawler, and the reason if it isn't the crawler's own.
 #[derive(Clone, Copy)]
-pub struct Applied<'a>(pub &'a AgentAudit<'a>);
+pub struct Applied<'a, 'b>(pub &'a AgentAudit<'b>);
 
-impl<'a> fmt::Display for Applied<'a> {
+impl<'a, 'b> fmt::Display for Applied<'a, 'b> {
     fn fmt<W: fmt::Write>(&self, f: &mut fmt::Formatter<W>) -> fmt::Result {
-        let (audit, agent) = (self.0, self.0.agent);
+        let audit = self.0;
+        let agent = audit.agent;
         match audit.group {
             Group::Named => f.write_str(agent),
             Group::Star if is_wrong(agent.as_bytes()) => {

@@ -10,7 +10,7 @@ mod style;
 mod verdicts;
 mod warnings;
 
-use audit_core::audit::{AgentAudit, Audit};
+use audit_core::audit::Audit;
 use audit_core::request::Request;
 use audit_core::syntax::{Standard, has_directive};
 use audit_core::version::VERSION;
@@ -26,20 +26,16 @@ use style::{CSS, POLICY};
 use verdicts::{write_crawler_entries, write_verdict_part};
 use warnings::write_warning_entry;
 
+/// Of a report on this crawler, or else on so many.
 #[derive(Clone, Copy)]
-struct Title<'a>(&'a [AgentAudit<'a>]);
+struct Title<'a>(Option<&'a str>, usize);
 
 impl<'a> fmt::Display for Title<'a> {
     fn fmt<W: fmt::Write>(&self, f: &mut fmt::Formatter<W>) -> fmt::Result {
-        match self.0 {
-            [audit] => {
-                let agent = audit.agent;
-                write!(f, "robots.txt for {agent}")
-            }
-            audits => {
-                let count = audits.len();
-                write!(f, "robots.txt for {count} crawlers")
-            }
+        match *self {
+            Title(Some(agent), _) => write!(f, "robots.txt for {agent}"),
+            Title(None, 1) => f.write_str("robots.txt for all crawlers"),
+            Title(None, count) => write!(f, "robots.txt for {count} crawlers"),
         }
     }
 }
@@ -130,7 +126,7 @@ pub fn page_text(
     ensures { IfOk result (λ page. IsSomePage page.items) }
 {
     let mut page = Page::new(alloc);
-    let title = Title(&audit.agents);
+    let title = Title(request.agent, audit.agents.len());
     page.html.open("html", &[("lang", "en")])?;
     write_head(&mut page, title)?;
     page.html.open("body", &[])?;

@@ -52,7 +52,7 @@ fn write_line_row(page: &mut Page, label: &LabeledLine<'_>) -> fmt::Result {
     page.html.write_str(shown_kind(label))?;
     page.html.close()?;
     page.html.open("td", &[])?;
-    let value = Shown(label);
+    let value = Shown(label.line, label.body);
     write!(page.html, "{value}")?;
     let comment = comment_of(label.line, label.body);
     if !comment.is_empty() {
