@@ -265,14 +265,14 @@ ANSWERS = {
     "Is it to AI, and open to search?": [(group("GPTBot", "Disallow: /"), 1, ["deny 2 GPTBot /", "allow - ClaudeBot /", "allow - Googlebot /"])],
     "Which known crawlers may fetch a page?": [(group("Bingbot", "Disallow: /search"), 1, ["deny 2 Bingbot /search", "allow - Googlebot /search"])],
     "Why may Bing not?": [(SEARCH, 1, ["group: * (Bingbot has no group of its own)", "deny 2 /search"])],
-    "Did an edit change a verdict?": [(group("*", "Disallow: /b", "Disallow: /a"), 0, ["no URL's verdict changes"]), (SEARCH, 1, ["verdicts change"])],
+    "Did an edit change a verdict?": [(group("*", "Disallow: /b", "Disallow: /a"), 0, ["so no URL's verdict does"]), (SEARCH, 1, ["verdicts change"])],
     "Which URLs of a list are denied?": [(SEARCH, 1, ["deny 2 * /search/tea", "1 allowed, 1 denied"]), (HIDDEN, 1, ["deny 2 * /b", "0 allowed, 2 denied"])],
     "Is a folder closed?": [
         ("Disallow: /private/\n", 0, ["1 expectation holds"]),
         ("Disallow: /private/\nAllow: /private/press\n", 1, ["* must be denied all of /private/, but line 2 allows /private/press"]),
         (group("*", "Disallow: /private/"), 1, ["AdsBot-Google must be denied all of /private/, but its vendor doesn't apply the group * to it"]),
     ],
-    "Which rules can go?": [(group("*", "Disallow: /a", "Disallow: /ab"), 0, ["robots.txt:3: note: ", "[needless-rule]"]), (SEARCH, 0, ["robots.txt: no warnings"])],
+    "Which rules can go?": [(group("*", "Disallow: /a", "Disallow: /ab"), 0, ["robots.txt:3: note: ", "[needless-rule]"]), (SEARCH, 0, ["RFC 9309 syntax and verdicts"])],
     "Which lines are mistakes?": [(group("*", "Disalow: /a"), 3, ["robots.txt:2: warning: "]), (SEARCH, 0, [])],
 }  # fmt: skip
 QUESTIONS = {row[0]: re.match(r"`(.*?)`(?:.*`(.*)`)?", row[1]).groups() for row in tables(PROGRAMS) if row[1].startswith("`robots_audit ")}
