@@ -21,7 +21,7 @@ returns-clause-ok c =
       rules_are = c.count_of.ensures ∙ ap length (c.deref-3.ensures.value ∙ c.in_ok-rules.ensures)
           ∙ ap (λ text. length (placed_rules agent (file_lines text))) site;
       reach_is = rw (c.deref.ensures.value, c.in_ok-rules.ensures, site) at c.in_ok-reach.ensures.reach;
-      vendor_is = rw site at c.at_vendor.ensures;
+      vendor_is = rw site at c.at_vendor-vendor.ensures;
       reach_elsewhere = c.in_ok-reach.ensures.own;
       delay_is = delay_read agent file _ (rw site at c.delay.ensures);
       ruling = c.in_ok-rejected.ensures.ok agent file c.requires.reading;
