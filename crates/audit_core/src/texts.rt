@@ -110,9 +110,13 @@ impl fmt::Display for AtVendor {
         match *self {
             AtVendor::Same => Ok(()),
             AtVendor::NoGroup => {
-                f.write_str("; its vendor applies no group, so it may fetch everything")
+                f.write_str(
+                    "; but its vendor applies no group, so it may fetch all, also what is denied here",
+                )
             }
-            AtVendor::OtherGroup => f.write_str("; its vendor applies another group"),
+            AtVendor::OtherGroup => f.write_str(
+                "; but its vendor applies another group, whose verdicts may differ",
+            ),
         }
     }
 }
