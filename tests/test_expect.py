@@ -195,6 +195,7 @@ PATTERNS = {
     "which is an Allow": (b"Disallow: /\nDisallow:", b"allow-all B /a", None),
     "the group of Googlebot": (b"Disallow: /b\n\nUser-agent: Googlebot\nDisallow: /a", b"allow-all Googlebot-News /a", f"Googlebot-News must be allowed all of /a, {GOOGLEBOT}, and line 5 denies /a"),
     "no group": (b"Disallow: /", b"deny-all AdsBot-Google /a", f"AdsBot-Google must be denied all of /a, {NOBODY}"),
+    "no group, and an exception in that of *": (b"Disallow: /a\nAllow: /a/b", b"deny-all AdsBot-Google /a", f"AdsBot-Google must be denied all of /a, {NOBODY}"),
     "a rejected file": (b"Disallow: /" + b"x" * 4096 + b"$", b"deny-all B /", "B must be denied all of /, but the file is rejected for B: line 2"),
     "a pattern of 4,096 bytes": (b"Disallow: /a", b"deny-all B /" + b"a" * 4_093 + b"*$", None),
     "many stars": (b"Disallow: /\n" + b"".join(b"Allow: /x*%c*%c*%c*%c\n" % letters for letters in permutations(b"abcdefgh", 4)), b"deny-all B /x", "B must be denied all of /x, but that isn't decided, since there are many stars"),

@@ -32,19 +32,11 @@ abbrev is_disallow : Option Kind → Bool
 is_disallow (Some Disallow) = true
 is_disallow _ = false
 
-letter_d : (letter : ℕ) → is_disallow (kind_with letter) ≡ (letter == 100)
-letter_d letter = grind (arith, nat_tests)
-
-lower_d : (b : ℕ) → (b == 100 || b == 68) ≡ (to_ascii_lowercase b == 100)
-lower_d b = grind (arith, nat_tests)
-
 begins : (text : List ℕ) → begins_with_d text ≡ is_disallow (kind_by text)
-begins [] = refl
-begins (b ∷ text) = grind (arith, letter_d, lower_d)
+begins text = grind (arith, nat_tests)
 
 skipped : (body : List ℕ) → without_front body ≡ skip_blanks body
-skipped [] = refl
-skipped (b ∷ body) = cc (skipped body)
+skipped body = grind arith
 
 module _ (body : List ℕ) where
   selected : (kind : Kind) (value : List ℕ) → statement_of body ≡ Some (kind, value)

@@ -38,13 +38,8 @@ longer_matches number pattern front longer first are text is =
     let rest = drop (length front) pattern in
     let stars = repeat (suc number) (codes "*") in
     let same : front ++ rest ≡ pattern = rw first (rejoined _ pattern) in
-    let parts : escaped pattern ≡ escaped front ++ escaped rest =
-    sym (ap escaped same) ∙ flat_map-append escape_byte front rest in
-    let whole : longer ≡ escaped front ++ (stars ++ escaped rest) =
-    are
-    ∙ ap (λ (t : List ℕ). t ++ escaped rest)
-    (append_assoc (escaped front) (codes "*") (repeat number (codes "*")))
-    ∙ append_assoc (escaped front) stars (escaped rest) in
+    let parts : escaped pattern ≡ escaped front ++ escaped rest = grind (arith, flat_map-append, same) in
+    let whole : longer ≡ escaped front ++ (stars ++ escaped rest) = grind (arith, append_assoc, are) in
     rw whole (more_stars (suc number) (escaped front) (escaped rest) text (rw parts at is))
 
 module _ (rules : List PlacedRule) (longer : PlacedRule) (pattern : List ℕ) (allowed : Bool)

@@ -163,7 +163,7 @@ pub(crate) fn is_unexpected(allowed: bool, decision: &Decision) -> bool
     allowed != decision.allowed
 }
 
-fn fails_at(allowed: bool, judgment: &Judgment) -> bool
+pub(crate) fn fails_at(allowed: bool, judgment: &Judgment) -> bool
     ensures { result ≡ fails_at allowed judgment.now }
 {
     match judgment {
@@ -187,7 +187,7 @@ fn fails_at_vendor(allowed: bool, vendor: &AtVendor<'_>) -> bool
     }
 }
 
-pub(crate) fn fails_here(checked: &Checked<'_>) -> bool
+fn fails_here(checked: &Checked<'_>) -> bool
     ensures { result ≡ fails_here (checked_value checked.now) }
 {
     fails_at(checked.expectation.allowed, &checked.judgment)

@@ -8,7 +8,7 @@ ghost use Rattle.audit_expect.specs.Expectations.{AreFailuresOf, AreFailuresOn, 
 ghost use Rattle.audit_expect.specs.Internal.Expectations.{IsReadFor, checked_value, expectation_value};
 
 use crate::any::about_each;
-use crate::checks::{AtVendor, Checked, Judgment, checked_on, fails, fails_here, is_unexpected};
+use crate::checks::{AtVendor, Checked, Judgment, checked_on, fails, fails_at, is_unexpected};
 use crate::entries::without_entries;
 use crate::expect::{Expectation, expectations_in, is_any};
 use crate::patterns::OnPaths;
@@ -99,19 +99,16 @@ fn write_judgment(
     }
 }
 
-/// Why an expectation fails.
+/// Why an expectation fails: at the vendor, or else here.
 fn write_reason(out: &mut Line, target: &str, checked: &Checked<'_>) -> fmt::Result {
     let (agent, allowed) = (checked.expectation.agent, checked.expectation.allowed);
-    if fails_here(checked) {
-        return write_judgment(out, agent, target, allowed, &checked.judgment);
-    }
     match &checked.vendor {
-        AtVendor::Same => Ok(()),
-        AtVendor::Group(name, judgment) => {
+        AtVendor::Group(name, judgment) if fails_at(allowed, judgment) => {
             write!(out, "its vendor applies the group {name} to it, and ")?;
             write_judgment(out, name, target, allowed, judgment)
         }
-        AtVendor::Nobody => out.write_str("its vendor doesn't apply the group * to it"),
+        AtVendor::Nobody if !allowed => out.write_str("its vendor doesn't apply the group * to it"),
+        _ => write_judgment(out, agent, target, allowed, &checked.judgment),
     }
 }
 

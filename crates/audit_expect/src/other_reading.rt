@@ -5,7 +5,7 @@ ghost use Rattle.std.specs.Option.{option_map_or};
 ghost use Rattle.texting_robots.specs.Callers.{IsBetter, IsOverlong, IsRejected, Matches, PlacedRule, bodies_read};
 ghost use Rattle.texting_robots.specs.Callers.{label_by_value, lines_read, placed_rules};
 ghost use Rattle.texting_robots.specs.Decision.{IsDecisionOn};
-ghost use Rattle.audit_core.specs.Asked.{asked_target};
+ghost use Rattle.robots_warnings.specs.Targets.{asked_target};
 ghost use Rattle.robots_warnings.specs.Read.{IsRead};
 ghost use Rattle.audit_expect.specs.OtherReading.{IsNormalDecision, IsOtherDecision};
 ghost use Rattle.audit_expect.specs.Internal.Expectations.{IsDecidedBy, IsPreferred, decision_with, marks_in};

@@ -175,7 +175,7 @@ const PARAMETERS: &[Parameter] = &[
         short: None,
         long: Some("needless"),
         value: Value::Absent,
-        help: "Warn also of rules that can be deleted, as --only needless-rule does",
+        help: "Warn also of rules that aren't needed, as --only needless-rule does",
         excludes: &[],
     },
     Parameter {
