@@ -120,7 +120,7 @@ def level_and_text(name, detail=""):
             return level, text
     level, text = WARNINGS[name][-1]
     if name in OF_RULES:
-        return level, f"{text} ({detail} in all)"
+        return level, f"{text} ({detail} rule{'' if detail == '1' else 's'})"
     if name in OF_A_LINE:
         return level, f"{text} (see line {detail})"
     if name == "misspelled-name":

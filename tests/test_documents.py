@@ -249,6 +249,50 @@ def test_command_runs(command, tmp_path):
     assert result.status in (0, 1) and "robots_audit: " not in result.err
 
 
+def group(name, *rules):
+    """Lines of a file."""
+    return "\n".join([f"User-agent: {name}", *rules, ""])
+
+
+HIDDEN = group("*", "Disallow: /")
+SEARCH = group("*", "Disallow: /search")
+
+# For each question that docs/PROGRAMS.md answers by a command: files with different answers, with the exit status and what is printed.
+# The other files of the command are below.
+ANSWERS = {
+    "Is the site closed?": [(HIDDEN, 1, ["deny 2 * /"]), (SEARCH, 0, ["allow - * /"])],
+    "Is it to Google?": [(HIDDEN, 1, ["deny 2 /"]), (HIDDEN + group("Googlebot", "Allow: /"), 0, ["allow 4 /"])],
+    "Is it to AI, and open to search?": [(group("GPTBot", "Disallow: /"), 1, ["deny 2 GPTBot /", "allow - ClaudeBot /", "allow - Googlebot /"])],
+    "Which known crawlers may fetch a page?": [(group("Bingbot", "Disallow: /search"), 1, ["deny 2 Bingbot /search", "allow - Googlebot /search"])],
+    "Why may Bing not?": [(SEARCH, 1, ["group: * (Bingbot has no group of its own)", "deny 2 /search"])],
+    "Did an edit change a verdict?": [(group("*", "Disallow: /b", "Disallow: /a"), 0, ["so no URL's verdict does"]), (SEARCH, 1, ["verdicts change"])],
+    "Which URLs of a list are denied?": [(SEARCH, 1, ["deny 2 * /search/tea", "1 allowed, 1 denied"]), (HIDDEN, 1, ["deny 2 * /b", "0 allowed, 2 denied"])],
+    "Is a folder closed?": [
+        ("Disallow: /private/\n", 0, ["1 expectation holds"]),
+        ("Disallow: /private/\nAllow: /private/press\n", 1, ["* must be denied all of /private/, but line 2 allows /private/press"]),
+        (group("*", "Disallow: /private/"), 1, ["AdsBot-Google must be denied all of /private/, but its vendor doesn't apply the group * to it"]),
+    ],
+    "Which rules can go?": [(group("*", "Disallow: /a", "Disallow: /ab"), 0, ["robots.txt:3: note: ", "[needless-rule]"]), (SEARCH, 0, ["RFC 9309 syntax and verdicts"])],
+    "Which lines are mistakes?": [(group("*", "Disalow: /a"), 3, ["robots.txt:2: warning: "]), (SEARCH, 0, [])],
+}  # fmt: skip
+QUESTIONS = {row[0]: re.match(r"`(.*?)`(?:.*`(.*)`)?", row[1]).groups() for row in tables(PROGRAMS) if row[1].startswith("`robots_audit ")}
+
+
+@pytest.mark.parametrize("question, file, status, printed", [(question, *answer) for question in ANSWERS for answer in ANSWERS[question]])
+def test_question_is_answered(question, file, status, printed, tmp_path):
+    command, expectation = QUESTIONS[question]
+    files = {"robots.txt": file, "old.txt": group("*", "Disallow: /a", "Disallow: /b"), "urls.txt": "/search/tea\n/b\n", "expect.txt": expectation or ""}
+    for name, text in files.items():
+        (tmp_path / name).write_text(text)
+    result = run(shlex.split(command)[0], shlex.split(command)[1:], cwd=tmp_path)
+    assert result.status == status
+    assert [text for text in printed if text not in result.out + result.err] == []
+
+
+def test_questions_are_those_of_the_document():
+    assert list(QUESTIONS) == list(ANSWERS)
+
+
 def test_proofs_name_the_toolchain():
     version = subprocess.run(["rt", "version"], capture_output=True, text=True).stdout.splitlines()[0]
     assert version in [line.strip() for line in PROOFS.splitlines()]

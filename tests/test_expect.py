@@ -1,5 +1,6 @@
 """`robots_audit --expect`: a line for each expectation that fails, in order, or how many hold if none fails."""
 
+import json
 from itertools import permutations
 
 import pytest
@@ -199,8 +200,32 @@ PATTERNS = {
     "many stars": (b"Disallow: /\n" + b"".join(b"Allow: /x*%c*%c*%c*%c\n" % letters for letters in permutations(b"abcdefgh", 4)), b"deny-all B /x", "B must be denied all of /x, but that isn't decided, since there are many stars"),
 }
 
+# the known crawlers that ignore the group of `*`
+IGNORING = ["AdsBot-Google", "AdsBot-Google-Mobile", "APIs-Google", "Mediapartners-Google", "YandexMobileBot", "YandexMetrika", "YandexDirect"]
+
+NAMED = "".join(f"User-agent: {name}\n" for name in ["*", *IGNORING]).encode()
+
+# A file, an expectation about any crawler, the crawlers for which it fails, in this order, and why for the first of them. With the group
+# `*`, those fail that ignore it; with one of Googlebot, those too that get this one from their vendor.
+ANY = {
+    "no group": (b"Disallow: /a", b"deny any /a", [], None),
+    "allowed to all": (b"User-agent: *\nDisallow: /a", b"allow any /b", [], None),
+    "denied to *": (b"User-agent: *\nDisallow: /a", b"allow any /a", ["*", *IGNORING], "line 2 denies it"),
+    "those that ignore *": (b"User-agent: *\nDisallow: /a", b"deny any /a", IGNORING, "its vendor doesn't apply the group * to it"),
+    "which are named": (NAMED + b"Disallow: /a", b"deny-all Any /a", [], None),
+    "a crawler of the file": (NAMED + b"Disallow: /a\nUser-agent: Ferris\nDisallow: /b", b"deny-all any /a", ["Ferris"], "no rule matches /a"),
+    "a name with a version": (b"User-agent: A/2\nDisallow: /a", b"allow ANY /a", ["A/2"], "line 2 denies it"),
+    "those that get the group of Googlebot": (
+        b"User-agent: Googlebot\nDisallow: /a",
+        b"allow any /a",
+        ["Googlebot", "Googlebot-Image", "Googlebot-News", "Googlebot-Video", "Google-InspectionTool", "Storebot-Google", "Google-CloudVertexBot", "Applebot"],
+        "line 2 denies it",
+    ),
+    "a group of this name": (b"User-agent: any\nDisallow: /a", b"allow any /a", ["any"], "line 2 denies it"),
+}
+
 # a name, and which one it probably means
-WRONG_NAMES = {"Google": "Googlebot", "google": "Googlebot", '"Chat GPT"': "ChatGPT-User", "all": "*"}
+WRONG_NAMES = {"Google": "Googlebot", "google": "Googlebot", '"Chat GPT"': "ChatGPT-User", "all": "any, for every crawler, or *, for those without a group of their own"}
 NEAR_NAMES = {"googlebott": "Googlebot", "GTPBot": "GPTBot", "GPT-Bot": "GPTBot"}
 
 FORM = 'write "allow AGENT URL" or "deny AGENT URL", or for a pattern allow-all or deny-all'
@@ -313,6 +338,32 @@ def test_normal_forms(tmp_path, rules, text, line):
 def test_pattern(tmp_path, rules, text, line):
     expected = (1, f"expect.txt:1: {line}\n", "") if line else (0, "1 expectation holds\n", "")
     assert outcome(check(tmp_path, text, robots=b"User-agent: *\n" + rules)) == expected
+
+
+def names_in(messages):
+    """The crawlers that they are about."""
+    return [message.split(" must be ")[0] for message in messages]
+
+
+@pytest.mark.parametrize("robots, text, names, why", ANY.values(), ids=ANY)
+def test_any_crawler(tmp_path, robots, text, names, why):
+    """A text has a line for each of the first five crawlers for which it fails, and JSON a finding for each."""
+    result, found = (check(tmp_path, b"\n" + text, *more, robots=robots) for more in ([], ["--json"]))
+    others = [f"expect.txt:2: and {len(names) - 5} more crawlers\n"] if len(names) > 5 else []
+    lines = result.out.splitlines(keepends=True)
+    told = [line.removeprefix("expect.txt:2: ") for line in lines[: min(len(names), 5)]]
+    assert (names_in(told), lines[len(told) :]) == (names[:5], others if names else ["1 expectation holds\n"])
+    assert not names or told[0].endswith(f", but {why}\n")
+    findings = json.loads(found.out)["findings"]
+    assert (names_in(it["text"] for it in findings), {it["line"] for it in findings} <= {2}) == (names, True)
+    assert result.status == found.status == (1 if names else 0)
+
+
+def test_any_crawler_in_two_lines(tmp_path):
+    result = check(tmp_path, b"deny any /a\nallow A /a\ndeny any /b", robots=b"User-agent: *\nDisallow: /a\nDisallow: /b")
+    lines = [*[1] * 6, 2, *[3] * 6]
+    assert [int(line.split(":")[1]) for line in result.out.splitlines()] == lines
+    assert result.out.count(": and 2 more crawlers\n") == 2
 
 
 @pytest.mark.parametrize("name, meant", WRONG_NAMES.items())

@@ -222,8 +222,8 @@ def test_table_of_crawlers():
 
 
 @pytest.mark.parametrize("agent, vendor, fetch", [
-    ("AdsBot-Google", "; its vendor applies no group, so it may fetch everything", "everything"),
-    ("Googlebot-Image", "; its vendor applies another group", "not decided"),
+    ("AdsBot-Google", "; but its vendor applies no group, so it may fetch all, also what is denied here", "everything"),
+    ("Googlebot-Image", "; but its vendor applies another group, whose verdicts may differ", "not decided"),
 ])
 def test_page_has_what_vendors_do(agent, vendor, fetch):
     file = b"User-agent: *\nDisallow: /a\nCrawl-delay: 10\nUser-agent: Googlebot\nDisallow:"

@@ -34,7 +34,7 @@ status = 1
 | `indented` | also runs the case with each line of `robots` indented |
 
 The detail in `warn` can also be the level, if the name has several; a word of the message, such as
-`comma`, `invisible` or `=`; the number in `(3 in all)` or `(see line 3)`; or for `needless-rule`,
+`comma`, `invisible` or `=`; the number in `(3 rules)` or `(see line 3)`; or for `needless-rule`,
 `never`, `nothing`, `allowed` or `covered`, and then the line. In JSON, a warning is written without
 its level, and with `[NAME]` or `[NAME DETAIL]` as its text. In strings, `\\` is a backslash, `\r`
 CR, `\xHH` a byte, and `\{N TEXT}` N times the TEXT.

@@ -159,10 +159,12 @@ impl From<WriteFault> for Fault {
 fn write_flaw(out: &mut Report, flaw: Flaw) -> fmt::Result {
     out.write_str(flaw_text(flaw))?;
     match flaw {
-        Flaw::Meant(crawler) => {
-            let name = row_at(crawler).0;
-            write!(out, "{name}?")
-        }
+        Flaw::Meant(crawler) => match row_at(crawler).0 {
+            "*" => out.write_str(
+                "any, for every crawler, or *, for those without a group of their own?",
+            ),
+            name => write!(out, "{name}?"),
+        },
         _ => Ok(()),
     }
 }

@@ -9,6 +9,7 @@ use crate::group::{AtVendor, Group};
 use crate::reach::Reach;
 use printable_text::delay::Delay;
 use printable_text::report::Report;
+use robots_warnings::crawlers::is_wrong;
 use robots_warnings::positions::is_ignored;
 use std::fmt;
 use std::fmt::Write;
@@ -109,9 +110,13 @@ impl fmt::Display for AtVendor {
         match *self {
             AtVendor::Same => Ok(()),
             AtVendor::NoGroup => {
-                f.write_str("; its vendor applies no group, so it may fetch everything")
+                f.write_str(
+                    "; but its vendor applies no group, so it may fetch all, also what is denied here",
+                )
             }
-            AtVendor::OtherGroup => f.write_str("; its vendor applies another group"),
+            AtVendor::OtherGroup => f.write_str(
+                "; but its vendor applies another group, whose verdicts may differ",
+            ),
         }
     }
 }
@@ -126,6 +131,9 @@ impl<'a, 'b> fmt::Display for Applied<'a, 'b> {
         let agent = audit.agent;
         match audit.group {
             Group::Named => f.write_str(agent),
+            Group::Star if is_wrong(agent.as_bytes()) => {
+                write!(f, "* (no crawler has the name {agent})")
+            }
             Group::Star => write!(f, "* ({agent} has no group of its own)"),
             Group::Nobody if audit.vendor == AtVendor::OtherGroup => {
                 write!(f, "none (no group for {agent} or *)")

@@ -2,7 +2,8 @@
 use Rattle.std.specs.Prelude.{◌≡◌, ℕ, nat_eq, suc, ◌==◌, Bool, true, false, not, ◌&&◌, ◌||◌, List, [], ◌∷◌, ◌++◌}
 use Rattle.std.specs.Prelude.{Option, Some, None, Result, Ok, Err, bytes_eq, codes, filter, if◌then◌else◌}
 use Rattle.std.specs.Prelude.{◌-◌, length, nat_lt, option_map, string_bytes, take}
-use Rattle.std.specs.{List.ends_with, List.list_any, List.starts_with, Option.option_or, Option.option_to_list, Str.byte, Str.is_utf8}
+use Rattle.std.specs.{List.ends_with, List.list_any, List.starts_with, Option.option_or, Option.option_to_list}
+use Rattle.std.specs.Str.{byte, is_utf8, str_eq_ignore_ascii_case}
 use Rattle.texting_robots.specs.Callers.{escaped}
 use Rattle.robots_warnings.specs.Rules.{after_byte, before_byte, has}
 use Rattle.robots_warnings.specs.Crawlers.{is_wrong, meant}
@@ -151,11 +152,15 @@ demand_of word =
     else if bytes_eq word (codes "allow-all") then Some (true, true)
     else if bytes_eq word (codes "deny-all") then Some (false, true) else None
 
+-- the word for every crawler
+abbrev pub is_any : List ℕ → Bool
+is_any name = str_eq_ignore_ascii_case name (codes "any")
+
 -- a name that no crawler has, or in whose place another is probably meant
 abbrev pub name_flaw : List ℕ → Option Flaw
 name_flaw name =
     if not (is_crawler_name name) then Some Agent
-    else if is_wrong name then option_map Meant (meant name) else None
+    else if not (is_any name) && is_wrong name then option_map Meant (meant name) else None
 
 -- the entry, unless something is wrong
 abbrev pub unless_flaw : ExpectationValue → Option Flaw → LineOf ExpectationValue

@@ -1,18 +1,19 @@
 -- Expectations checked against a robots.txt file, and those that fail.
 use Rattle.std.specs.Prelude.{◌≡◌, ℕ, ◌==◌, Bool, true, false, not, ◌||◌, List, Some, None, Ok, []}
-use Rattle.std.specs.Prelude.{codes, filter, if◌then◌else◌, length, map}
+use Rattle.std.specs.Prelude.{◌∷◌, ◌++◌, codes, filter, flat_map, if◌then◌else◌, is_some, length, map}
 use Rattle.std.specs.{List.AllByRecursion as Each}
-use Rattle.texting_robots.specs.Callers.{IsFirstOverlong, IsRejected, bodies_read, escaped}
+use Rattle.texting_robots.specs.Callers.{IsFirstOverlong, IsRejected, LineValue, bodies_read, escaped}
 use Rattle.texting_robots.specs.Callers.{lines_read, placed_rules}
 use Rattle.texting_robots.specs.{Decision.IsDecisionOn, declared.decision.Decision.Decision}
 use Rattle.printable_text.specs.declared.level.Level.TheVariants.{Error}
-use Rattle.robots_warnings.specs.{Crawlers.other_group, Targets.normal_target, Targets.written_target}
+use Rattle.robots_warnings.specs.Crawlers.{Row, crawlers, other_group}
+use Rattle.robots_warnings.specs.Targets.{normal_target, written_target}
 use Rattle.audit_expect.specs.declared.checks.AtVendor.{AtVendor}
 use Rattle.audit_expect.specs.declared.checks.Judgment.{Judgment, TheVariants.Decided, TheVariants.Rejected}
 use Rattle.audit_expect.specs.declared.checks.Judgment.{TheVariants.Everywhere, TheVariants.Rewritten}
 use Rattle.audit_expect.specs.declared.checks.AtVendor.TheVariants.{Group, Nobody, Same}
-use Rattle.audit_core.specs.{Asked.asked_target, Findings.Found}
-use Rattle.audit_expect.specs.Expect.{ExpectationValue, expectations_in}
+use Rattle.audit_core.specs.{Asked.asked_target, Audit.crawlers_in, Findings.Found}
+use Rattle.audit_expect.specs.Expect.{ExpectationValue, expectations_in, is_any}
 use Rattle.audit_expect.specs.OtherReading.{IsNormalDecision, IsOtherDecision}
 use Rattle.audit_expect.specs.{Patterns.IsOnPaths, Patterns.holds}
 
@@ -99,9 +100,24 @@ pub record AreFailuresOn (file : List ℕ) (expectations : List ExpectationValue
   pub judged : Each (IsChecked file) checked
   pub whole : found ≡ failures checked
 
+-- the name, if the vendor of the crawler applies another group to it than the one that applies here
+abbrev pub elsewhere : List LineValue → List ℕ → List (List ℕ)
+elsewhere lines name = if is_some (other_group lines name) then name ∷ [] else []
+
+-- `*`, each crawler that the lines name, and each known one with such a vendor: to any other crawler the rules
+-- of `*` apply
+abbrev pub all_crawlers : List LineValue → List (List ℕ)
+all_crawlers lines = crawlers_in lines ++ flat_map (λ (row : Row). elsewhere lines row.0) crawlers
+
+-- the expectation, or if it is about any crawler, one about each of these
+abbrev pub about_each : List (List ℕ) → ExpectationValue → List ExpectationValue
+about_each names one =
+    if is_any one.agent then map (λ name. record one { agent = name }) names else one ∷ []
+
 -- those of the expectations in the text, of which there are some
 pub record AreFailuresOf (text file : List ℕ) (found : List Found) : Type 0 where
   pub expectations : List ExpectationValue
   pub all : expectations_in text ≡ Ok expectations
   pub some : (length expectations == 0) ≡ false
-  pub failures : AreFailuresOn file expectations found
+  pub failures : AreFailuresOn file (flat_map (about_each (all_crawlers (lines_read file))) expectations)
+      found

@@ -17,7 +17,7 @@ use audit_core::fault::Fault;
 use robots_same::rule::rules_of;
 use robots_warnings::crawlers::other_group;
 use robots_warnings::read::FileRead;
-use std::alloc::Global;
+use std::alloc::{AllocError, Global};
 use texting_robots::Robot;
 use texting_robots::robot::Decision;
 
@@ -58,12 +58,11 @@ fn on_pattern(
     agent: &str,
     expectation: &Expectation<'_>,
     read: &FileRead<'_>,
-) -> Result<Judgment, Fault>
+) -> Result<Judgment, AllocError>
     requires read { IsRead read.now }
     requires accepted { ¬ IsRejected agent.now (lines_read read.now.bytes.now) }
     requires pattern { expectation.now.is_pattern ≡ true }
-    ensures ok { IfOk result (IsJudgmentOn read.now.bytes.now agent.now (expectation_value expectation.now)) }
-    ensures fault { IfErr result (λ fault. fault ≡ Fault.Memory) }
+    ensures { IfOk result (IsJudgmentOn read.now.bytes.now agent.now (expectation_value expectation.now)) }
 {
     let rules = rules_of(alloc, &read.site, agent)?;
     let copy = rules_of(alloc, &read.site, agent)?;
@@ -84,7 +83,7 @@ fn decided_on(
     ensures fault { IfErr result (λ fault. fault ≡ Fault.Memory) }
 {
     if expectation.is_pattern {
-        return on_pattern(alloc, agent, expectation, read);
+        return Ok(on_pattern(alloc, agent, expectation, read)?);
     }
     let url = expectation.url;
     let form = written_form(alloc, url)?;

@@ -2,7 +2,7 @@
 ghost use Rattle.std.specs.Prelude.{◌≡◌, ◌≢◌, ◌<◌, ◌∷◌, ◌++◌, [], IfErr, IfOk, MatchOption, Ok, OnOk};
 ghost use Rattle.std.specs.Prelude.{if◌then◌else◌, length, map};
 ghost use Rattle.audit_expect.specs.Expect.{IsLineFault, asked, asked_flaw, demand_of, entries_at, entries_of, expectation_in};
-ghost use Rattle.audit_expect.specs.Expect.{expectations_in, expects, is_asked_otherwise, is_comment, is_in};
+ghost use Rattle.audit_expect.specs.Expect.{expectations_in, expects, is_any, is_asked_otherwise, is_comment, is_in};
 ghost use Rattle.audit_expect.specs.Expect.{is_path, is_path_or_url, is_pattern, name_flaw, lines, malformed_at, parts, words};
 ghost use Rattle.audit_expect.specs.Expect.{words_with_name};
 ghost use Rattle.audit_core.specs.Request.{is_word};
@@ -190,6 +190,13 @@ fn asked(expects_all: bool, word: &[u8]) -> (bool, &[u8])
     }
 }
 
+/// Whether it stands for every crawler.
+pub(crate) fn is_any(name: &str) -> bool
+    ensures { result ≡ is_any name.now }
+{
+    name.eq_ignore_ascii_case("any")
+}
+
 /// What is wrong with a crawler's name.
 fn name_flaw(alloc: Global, name: &str) -> Result<Option<Flaw>, AllocError>
     ensures { IfOk result (λ flaw. flaw ≡ name_flaw name.now) }
@@ -197,7 +204,7 @@ fn name_flaw(alloc: Global, name: &str) -> Result<Option<Flaw>, AllocError>
     if !is_crawler_name(name) {
         return Ok(Some(Flaw::Agent));
     }
-    if !is_wrong(name.as_bytes()) {
+    if is_any(name) || !is_wrong(name.as_bytes()) {
         return Ok(None);
     }
     Ok(meant(alloc, name.as_bytes())?.map(Flaw::Meant))

@@ -7,9 +7,10 @@ ghost use Rattle.audit_expect.specs.Expect.{IsEntryFault, expectations_in as spe
 ghost use Rattle.audit_expect.specs.Expectations.{AreFailuresOf, AreFailuresOn, failures};
 ghost use Rattle.audit_expect.specs.Internal.Expectations.{IsReadFor, checked_value, expectation_value};
 
+use crate::any::about_each;
 use crate::checks::{AtVendor, Checked, Judgment, checked_on, fails, fails_here, is_unexpected};
 use crate::entries::without_entries;
-use crate::expect::{Expectation, expectations_in};
+use crate::expect::{Expectation, expectations_in, is_any};
 use crate::patterns::OnPaths;
 use audit_core::asked::asked_target;
 use audit_core::audit::{Reading, read_for};
@@ -187,6 +188,33 @@ fn write_failure(out: &mut Report, name: &str, finding: &Finding) -> fmt::Result
     out.end_line()
 }
 
+/// How many failures of one line are written, if it is about any crawler.
+const MOST: usize = 5;
+
+fn write_others(out: &mut Report, name: &str, line: Option<usize>, number: usize) -> fmt::Result {
+    match (line, number.saturating_sub(MOST)) {
+        (None, _) | (_, 0) => return Ok(()),
+        (Some(line), 1) => write!(out, "{name}:{line}: and 1 more crawler")?,
+        (Some(line), others) => write!(out, "{name}:{line}: and {others} more crawlers")?,
+    }
+    out.end_line()
+}
+
+fn write_failures(out: &mut Report, name: &str, found: &[Finding]) -> fmt::Result {
+    let (mut line, mut number) = (None, 0usize);
+    for finding in found {
+        if finding.line != line {
+            write_others(out, name, line, number)?;
+            (line, number) = (finding.line, 0);
+        }
+        if number < MOST {
+            write_failure(out, name, finding)?;
+        }
+        number = number.saturating_add(1);
+    }
+    write_others(out, name, line, number)
+}
+
 /// Writes a note for a name that is like that of a known crawler, if the file doesn't have it.
 fn write_note(
     alloc: Global,
@@ -196,7 +224,7 @@ fn write_note(
     site: &Site,
 ) -> fmt::Result {
     let (line, agent) = (expectation.number, expectation.agent);
-    if site.is_named(agent) {
+    if is_any(agent) || site.is_named(agent) {
         return Ok(());
     }
     if let Some(crawler) = meant(alloc, agent.as_bytes())? {
@@ -224,9 +252,7 @@ fn report_on(
     if found.is_empty() {
         write_holding(&mut out, expectations.len())?;
     }
-    for finding in found {
-        write_failure(&mut out, name, finding)?;
-    }
+    write_failures(&mut out, name, found)?;
     Ok(out)
 }
 
@@ -262,7 +288,8 @@ pub fn check(
 {
     let expectations = parsed(alloc, name, text)?;
     let read = FileRead::new(alloc, "*", file)?;
-    let found = failures(alloc, &expectations, &read)?;
+    let all = about_each(alloc, &expectations, &read)?;
+    let found = failures(alloc, &all, &read)?;
     let report = report_on(alloc, name, &expectations, &read.site, &found)?;
     Ok((report, found))
 }

@@ -1,6 +1,7 @@
 //! Files with a line for each URL: the expectations of `--expect`, with the report on them, and the URLs of `--urls`.
 #![tactic(auto)]
 
+mod any;
 mod checks;
 mod entries;
 mod expect;

@@ -1,23 +1,22 @@
 //! Normal forms of rules and of what is written for a URL, in which RFC 9309 compares them.
-ghost use Rattle.std.specs.Prelude.{◌≡◌, IfErr, IfOk, MatchOption, map, string_bytes};
+ghost use Rattle.std.specs.Prelude.{◌≡◌, IfOk, MatchOption, map, string_bytes};
 ghost use Rattle.robots_warnings.specs.Targets.{normal_target, normal_text, written_target};
 ghost use Rattle.audit_expect.specs.{Expectations.IsAskedAsWritten, OtherReading.normal_pattern, OtherReading.normal_rule};
 
-use audit_core::asked::asked_target;
-use audit_core::fault::Fault;
 use percent_encoding::{AsciiSet, ascii_set};
 use robots_same::rule::Rule;
-use robots_warnings::targets::{IN_TARGETS, normal_target, normal_text, written_target};
+use robots_warnings::targets::{
+    IN_TARGETS, asked_target, normal_target, normal_text, written_target,
+};
 use std::alloc::{AllocError, Global};
 
 /// What is escaped in a rule before a `$` at its end, where a star is special.
 const IN_RULES: AsciiSet = ascii_set!(IN_TARGETS.remove(b'*'));
 
 /// The normal form of what is written, if that of what is asked for is the same.
-pub(crate) fn written_form(alloc: Global, url: &str) -> Result<Option<String>, Fault>
-    ensures ok { IfOk result (λ found. MatchOption found (¬ IsAskedAsWritten url.now)
+pub(crate) fn written_form(alloc: Global, url: &str) -> Result<Option<String>, AllocError>
+    ensures { IfOk result (λ found. MatchOption found (¬ IsAskedAsWritten url.now)
         (λ form. (string_bytes form ≡ normal_target (written_target url.now)) × IsAskedAsWritten url.now)) }
-    ensures fault { IfErr result (λ fault. fault ≡ Fault.Memory) }
 {
     let asked = asked_target(alloc, url)?;
     let asked = normal_target(alloc, asked.as_bytes())?;

@@ -1,6 +1,6 @@
 //! Other readings: of an empty Disallow, which here is an Allow of `/`, and for RFC 9309 and Google no rule;
 //! and of characters that RFC 9309 compares in their normal forms.
-ghost use Rattle.std.specs.Prelude.{◌≡◌, ◌↔◌, All, Decides, IfErr, IfOk, IsTrue, false, map, option_map};
+ghost use Rattle.std.specs.Prelude.{◌≡◌, ◌↔◌, All, Decides, IfOk, IsTrue, false, map, option_map};
 ghost use Rattle.std.specs.Option.{option_map_or};
 ghost use Rattle.texting_robots.specs.Callers.{IsBetter, IsOverlong, IsRejected, Matches, PlacedRule, bodies_read};
 ghost use Rattle.texting_robots.specs.Callers.{label_by_value, lines_read, placed_rules};
@@ -12,11 +12,10 @@ ghost use Rattle.audit_expect.specs.Internal.Expectations.{IsDecidedBy, IsPrefer
 ghost use Rattle.audit_expect.specs.Internal.Expectations.{is_marked, others_of};
 
 use crate::normal_form::normal_rules;
-use audit_core::asked::asked_target;
-use audit_core::fault::Fault;
 use robots_same::rule::{Rule, rules_of};
 use robots_warnings::empty_disallows::is_empty_disallow;
 use robots_warnings::read::FileRead;
+use robots_warnings::targets::asked_target;
 use std::alloc::{AllocError, Global};
 use texting_robots::Error;
 use texting_robots::labels::LabeledLine;
@@ -47,14 +46,13 @@ fn other_rules(alloc: Global, agent: &str, read: &FileRead<'_>) -> Result<Vec<Ru
     Ok(rules)
 }
 
-fn is_match(alloc: Global, rule: &Rule, target: &str) -> Result<bool, Fault>
+fn is_match(alloc: Global, rule: &Rule, target: &str) -> Result<bool, AllocError>
     requires { ¬ IsOverlong rule.now.rule.0 }
-    ensures ok { IfOk result (λ answer. IsTrue answer ↔ Matches rule.now.rule.0 target.now) }
-    ensures fault { IfErr result (λ fault. fault ≡ Fault.Memory) }
+    ensures { IfOk result (λ answer. IsTrue answer ↔ Matches rule.now.rule.0 target.now) }
 {
     match MinRegex::new(alloc, &rule.pattern) {
         Ok(pattern) => Ok(pattern.is_match(target)),
-        Err(Error::Memory) => Err(Fault::Memory),
+        Err(Error::Memory) => Err(AllocError),
         Err(Error::InvalidRobots | Error::InvalidRule) => unreachable!(),
     }
 }
@@ -85,10 +83,9 @@ fn deciding_rule<'r>(
     alloc: Global,
     rules: &'r [Rule],
     target: &str,
-) -> Result<Option<&'r Rule>, Fault>
+) -> Result<Option<&'r Rule>, AllocError>
     requires { All (λ (placed : PlacedRule). ¬ IsOverlong placed.rule.0) rules.now }
-    ensures ok { IfOk result (λ found. IsDecidedBy rules.now target.now (option_map (λ rule. rule.now) found)) }
-    ensures fault { IfErr result (λ fault. fault ≡ Fault.Memory) }
+    ensures { IfOk result (λ found. IsDecidedBy rules.now target.now (option_map (λ rule. rule.now) found)) }
 {
     let mut best = None;
     for rule in rules {
@@ -114,10 +111,13 @@ fn decision_with(rule: Option<&Rule>) -> Decision
     }
 }
 
-pub(crate) fn decision_of(alloc: Global, rules: &[Rule], target: &str) -> Result<Decision, Fault>
+pub(crate) fn decision_of(
+    alloc: Global,
+    rules: &[Rule],
+    target: &str,
+) -> Result<Decision, AllocError>
     requires { All (λ (placed : PlacedRule). ¬ IsOverlong placed.rule.0) rules.now }
-    ensures ok { IfOk result (IsDecisionOn rules.now target.now) }
-    ensures fault { IfErr result (λ fault. fault ≡ Fault.Memory) }
+    ensures { IfOk result (IsDecisionOn rules.now target.now) }
 {
     if target == "/robots.txt" {
         return Ok(decision_with(None));
@@ -143,14 +143,13 @@ pub(crate) fn other_decision(
     url: &str,
     decision: &Decision,
     read: &FileRead<'_>,
-) -> Result<Decision, Fault>
+) -> Result<Decision, AllocError>
     requires read { IsRead read.now }
     requires accepted { ¬ IsRejected agent.now (lines_read read.now.bytes.now) }
     requires decided { IsDecisionOn (placed_rules agent.now (lines_read read.now.bytes.now)) (asked_target url.now)
         decision.now }
-    ensures ok { IfOk result (IsOtherDecision (bodies_read read.now.bytes.now)
+    ensures { IfOk result (IsOtherDecision (bodies_read read.now.bytes.now)
         (placed_rules agent.now (lines_read read.now.bytes.now)) (asked_target url.now)) }
-    ensures fault { IfErr result (λ fault. fault ≡ Fault.Memory) }
 {
     if !is_by_marked(decision, &read.labels) {
         return Ok(*decision);
@@ -167,12 +166,11 @@ pub(crate) fn normal_decision(
     agent: &str,
     target: &str,
     read: &FileRead<'_>,
-) -> Result<Decision, Fault>
+) -> Result<Decision, AllocError>
     requires read { IsRead read.now }
     requires accepted { ¬ IsRejected agent.now (lines_read read.now.bytes.now) }
-    ensures ok { IfOk result (IsNormalDecision (bodies_read read.now.bytes.now)
+    ensures { IfOk result (IsNormalDecision (bodies_read read.now.bytes.now)
         (placed_rules agent.now (lines_read read.now.bytes.now)) target.now) }
-    ensures fault { IfErr result (λ fault. fault ≡ Fault.Memory) }
 {
     let rules = other_rules(alloc, agent, read)?;
     let rules = normal_rules(alloc, &rules)?;

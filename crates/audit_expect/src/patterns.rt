@@ -1,11 +1,10 @@
 //! Expectations about all paths that a pattern matches.
-ghost use Rattle.std.specs.Prelude.{◌≡◌, ℕ, All, IfErr, IfOk, List, length, nat_lt, string_bytes};
+ghost use Rattle.std.specs.Prelude.{◌≡◌, ℕ, All, IfOk, List, length, nat_lt, string_bytes};
 ghost use Rattle.std.specs.List.{list_all};
 ghost use Rattle.texting_robots.specs.Callers.{IsOverlong, Matches, PlacedRule, escaped};
 ghost use Rattle.audit_expect.specs.Patterns.{IsOnPaths, holds};
 
 use crate::other_reading::decision_of;
-use audit_core::fault::Fault;
 use robots_same::compare::{Comparison, compare};
 use robots_same::rule::Rule;
 use robots_warnings::rules::before_byte;
@@ -49,14 +48,13 @@ fn failure_on(
     pattern: &str,
     rules: &[Rule],
     text: &str,
-) -> Result<OnPaths, Fault>
+) -> Result<OnPaths, AllocError>
     requires { All (λ (placed : PlacedRule). ¬ IsOverlong placed.rule.0) rules.now }
-    ensures ok { IfOk result (IsOnPaths allowed pattern.now rules.now) }
-    ensures fault { IfErr result (λ fault. fault ≡ Fault.Memory) }
+    ensures { IfOk result (IsOnPaths allowed pattern.now rules.now) }
 {
     let regex = match MinRegex::new(alloc, pattern) {
         Ok(regex) => regex,
-        Err(Error::Memory) => return Err(Fault::Memory),
+        Err(Error::Memory) => return Err(AllocError),
         Err(_) => return Ok(OnPaths::Undecided),
     };
     let [b'/', ..] = text.as_bytes() else {
@@ -108,11 +106,10 @@ pub(crate) fn on_paths(
     url: &str,
     rules: &[Rule],
     copy: Vec<Rule>,
-) -> Result<OnPaths, Fault>
+) -> Result<OnPaths, AllocError>
     requires rules { All (λ (placed : PlacedRule). ¬ IsOverlong placed.rule.0) rules.now }
     requires copy { copy.items ≡ rules.now }
-    ensures ok { IfOk result (IsOnPaths allowed (escaped url.now) rules.now) }
-    ensures fault { IfErr result (λ fault. fault ≡ Fault.Memory) }
+    ensures { IfOk result (IsOnPaths allowed (escaped url.now) rules.now) }
 {
     let longer = longer_pattern(alloc, url.as_bytes(), rules)?;
     if !are_shorter(rules, longer.as_bytes().len()) {

@@ -67,7 +67,7 @@ answer_for_terminal by_default matches answer (inr (off, is)) = by _ _ _ is
         → AnswersOptions explain expect compare by_default matches answer
         → IsShownReport (requested_colors (value_of matches (codes "color")) by_default)
         (string_bytes answer.outcome.warnings)
-    by (Some name) expect compare (known, is) = silent _ answer is.quiet
+    by (Some name) expect compare (bare, within, known, is) = silent _ answer is.quiet
     by None (Some name) compare is = silent _ answer is.checked.listed.silent
     by None None (Some name) is = silent _ answer is.compared.listed.silent
     by None None None is = audited_for_terminal by_default matches answer is
@@ -107,7 +107,7 @@ report_safe by_default matches answer (inr (off, is)) = by _ _ _ is
   where
     by : (explain expect compare : Option (List ℕ))
         → AnswersOptions explain expect compare by_default matches answer → IsSafe answer.report.items
-    by (Some name) expect compare (known, is) = inl is.report
+    by (Some name) expect compare (bare, within, known, is) = inl is.report
     by None (Some name) compare is = listed_safe _ _ _ _ _ is.checked.listed.report
     by None None (Some name) is = listed_safe _ _ _ _ _ is.compared.listed.report
     by None None None is = output_safe _ _ _ _ is.audited.report

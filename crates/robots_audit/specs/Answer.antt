@@ -16,7 +16,7 @@ use Rattle.audit_core.specs.{declared.findings.Finding.Finding}
 use Rattle.audit_core.specs.Findings.{Found, findings, found_of}
 use Rattle.audit_core.specs.declared.fault.Fault.TheVariants.{File, Format as OfAudits, Memory, Words}
 use Rattle.audit_core.specs.declared.request.Format.TheVariants.{Github, Html, Json, Sarif}
-use Rattle.robots_audit.specs.Command.{HasFile, IsFormatOf, IsOn, IsRequestOf, value_of}
+use Rattle.robots_audit.specs.Command.{HasFile, IsFormatOf, IsOn, IsRequestOf, IsWithoutBrackets, value_of}
 use Rattle.audit_compare.specs.Compare.{ComparisonValue, IsComparison, all_differences, differs_nowhere}
 use Rattle.audit_compare.specs.Compare.{keeps_verdicts}
 use Rattle.audit_compare.specs.Compare.{rejects_some as rejects_one}
@@ -170,7 +170,7 @@ pub record AnswersComparison (matches : ArgMatches) (name : List ℕ) (answer : 
 abbrev pub AnswersOptions : (explain expect compare : Option (List ℕ)) → (by_default : Bool) → ArgMatches
     → Answer → Type 0
 AnswersOptions (Some name) expect compare by_default matches answer =
-    (is_name name ≡ true) × IsText answer
+    (bare : List ℕ) × IsWithoutBrackets name bare × (is_name bare ≡ true) × IsText answer
 AnswersOptions None (Some name) compare by_default matches answer = AnswersExpectations matches name answer
 AnswersOptions None None (Some name) by_default matches answer = AnswersComparison matches name answer
 AnswersOptions None None None by_default matches answer = AnswersAudit by_default matches answer

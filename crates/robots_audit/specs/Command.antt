@@ -1,8 +1,8 @@
 -- The request that the arguments contain, specified by what `clap` found in them.
 use Rattle.std.specs.Prelude.{◌≡◌, ◌⊎◌, ℕ, Bool, true, false, List, [], Option, Some, None, Contains, IsTrue}
 use Rattle.std.specs.Prelude.{Result, Ok, Err, bytes_eq, codes, if◌then◌else◌, is_none, is_some, map, not}
-use Rattle.std.specs.Prelude.{◌&&◌, ◌||◌, option_map}
-use Rattle.std.specs.{List.list_all, Option.option_map_or}
+use Rattle.std.specs.Prelude.{◌&&◌, ◌||◌, ◌++◌, nat_eq, option_map}
+use Rattle.std.specs.{List.list_all, List.list_any, List.starts_with, Option.option_map_or}
 use Rattle.clap.specs.Words.{first_value, found_of, matched_of, one_text, raw_values}
 use Rattle.clap.specs.declared.parser.matches.{ArgMatches.ArgMatches}
 use Rattle.audit_core.specs.Request.{requested_colors, IsNoCrawlerIn, is_crawler_name, single, format_named}
@@ -116,6 +116,16 @@ pub record AreNamesOf (matches : ArgMatches) (id : List ℕ) (names : List (List
   pub all : names ≡ values_of matches id
   pub known : IsTrue (list_all is_name names)
 
+-- needless rules are looked for with `--needless`, or if one of these names of `--only` is about them
+abbrev pub AsksNeedless : ArgMatches → List (List ℕ) → Bool → Type 0
+AsksNeedless matches only answer =
+    (is_given : Bool) × IsOn matches (codes "needless") is_given
+    × (answer ≡ (is_given || list_any (λ name. starts_with nat_eq name (codes "needless-")) only))
+
+-- a name as it is, or without the brackets that it has in a report
+abbrev pub IsWithoutBrackets : (name bare : List ℕ) → Type 0
+IsWithoutBrackets name bare = (bare ≡ name) ⊎ (name ≡ codes "[" ++ bare ++ codes "]")
+
 -- `by_default` is whether warnings have colors without `--color`
 pub record IsRequestOf (by_default : Bool) (matches : ArgMatches) (request : Request) : Type 0 where
   pub has_file : HasFile matches
@@ -125,7 +135,7 @@ pub record IsRequestOf (by_default : Bool) (matches : ArgMatches) (request : Req
   pub date : option_map (λ date. date.now) request.date ≡ value_of matches (codes "date")
   pub denied : IsOn matches (codes "denied") request.is_denied_only
   pub totals : request.has_totals ≡ (request.is_denied_only || is_some (value_of matches (codes "urls")))
-  pub needless : IsOn matches (codes "needless") request.has_needless
+  pub needless : AsksNeedless matches (map (λ name. name.now) request.only.items) request.has_needless
   pub colors : request.has_colors ≡ requested_colors (value_of matches (codes "color")) by_default
   pub strict : request.strict ≡ option_map level_named (value_of matches (codes "strict"))
   pub agents : AreAgentsOf matches (map (λ agent. agent.now) request.agents.items)

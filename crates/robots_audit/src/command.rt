@@ -3,7 +3,8 @@ ghost use Rattle.std.specs.Prelude.{◌≡◌, IfErr, IfOk, IsTrue, OnOk, codes,
 ghost use Rattle.std.specs.List.{list_all};
 ghost use Rattle.robots_warnings.specs.Table.{is_name};
 ghost use Rattle.audit_expect.specs.UrlList.{IsUrlFault};
-ghost use Rattle.robots_audit.specs.Command.{AreAgentsOf, AreGiven, AreNamesOf, IsNoCrawlerOf, AreUrlsOf, Asks, HasFile, LacksUrls};
+ghost use Rattle.robots_audit.specs.Command.{AreAgentsOf, AreGiven, AreNamesOf, IsNoCrawlerOf, AreUrlsOf, Asks, AsksNeedless, HasFile};
+ghost use Rattle.robots_audit.specs.Command.{IsWithoutBrackets, LacksUrls};
 ghost use Rattle.robots_audit.specs.Command.{file_read, IsFileFault, IsFormatOf, requested_format, has_urls, is_stdin, IsUnknownIn, known_names};
 ghost use Rattle.robots_audit.specs.Command.{level_named, reads_stdin_twice, values_of};
 
@@ -19,9 +20,17 @@ use clap::{ArgMatches, Command};
 use printable_text::level::Level;
 use robots_warnings::crawlers::crawlers;
 use robots_warnings::table::is_name;
+use robots_warnings::urls::as_text;
 use std::alloc::{AllocError, Global};
 
 const AFTER_HELP: &str = "\
+The report goes to standard output; as text, its warnings go to standard error. \"deny 2 /a\" means that
+line 2 denies /a, and \"allow - /b\" that no line decides about /b, so it is allowed.
+
+In a line of --expect, AGENT is a crawler's name, \"any\" (every crawler) or * (those without a group of
+their own). PATTERN means all paths that begin with it, or, with a $ at its end, all that end there; a *
+in it is any text.
+
 With --expect, give only FILE; with --compare only FILE, URLs, --urls, --agent, --known and --verdicts; with
 either also --json, --github or --format; with --list-warnings or --explain nothing else. With --denied, give
 URLs or --urls.
@@ -240,6 +249,24 @@ fn has_totals(is_denied_only: bool, urls: Option<&str>) -> bool
     is_denied_only || urls.is_some()
 }
 
+/// Whether needless rules are looked for: with `--needless`, or if `--only` names warnings of them.
+fn has_needless(matches: &ArgMatches<'_>, only: &[&str]) -> bool
+    ensures { AsksNeedless matches.now (map (λ name. name.now) only.now) result }
+{
+    let is_given = matches.get_flag("needless");
+    is_given || only.iter().any(|name| name.starts_with("needless-"))
+}
+
+/// A name as it is, or without the brackets that it has in a report.
+pub fn without_brackets(name: &str) -> &str
+    ensures { IsWithoutBrackets name.now result.now }
+{
+    match name.as_bytes() {
+        [b'[', inner @ .., b']'] => as_text(inner).unwrap_or(name),
+        _ => name,
+    }
+}
+
 /// The request that the arguments contain, without the URLs in a file; `has_colors` is whether warnings have
 /// colors without `--color` or with `--color auto`.
 pub fn requested<'a>(
@@ -256,6 +283,7 @@ pub fn requested<'a>(
     let ignored = names_of(alloc, matches, "ignore")?;
     are_apart(alloc, &only, &ignored)?;
     let is_denied_only = matches.get_flag("denied");
+    let has_needless = has_needless(matches, &only);
     Ok(Request {
         file: file_read(matches.get_str("file")),
         is_quiet: matches.get_flag("quiet"),
@@ -270,6 +298,6 @@ pub fn requested<'a>(
         ignored,
         is_denied_only,
         has_totals: has_totals(is_denied_only, matches.get_str("urls")),
-        has_needless: matches.get_flag("needless"),
+        has_needless,
     })
 }

@@ -35,7 +35,7 @@ use audit_expect::url_list::with_urls;
 use audit_text::explain::{explain, list_warnings};
 use clap::ArgMatches;
 use clap::error::ErrorKind as WordsKind;
-use command::{check_files, command, file_read, format_of, requested};
+use command::{check_files, command, file_read, format_of, requested, without_brackets};
 use printable_text::report::Report;
 use program::{audited, comparison, expectations, given_name, unread};
 use robots_io::streams::{ReadFault, read_all};
@@ -179,7 +179,7 @@ fn answered(rt: &HostRuntime, matches: &ArgMatches<'_>, has_colors: bool) -> Res
         return list_warnings(rt.alloc());
     }
     if let Some(name) = matches.get_str("explain") {
-        return explain(rt.alloc(), name);
+        return explain(rt.alloc(), without_brackets(name));
     }
     if let Some(expected) = matches.get_str("expect") {
         return checked(rt, matches, expected);

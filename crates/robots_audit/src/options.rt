@@ -175,7 +175,7 @@ const PARAMETERS: &[Parameter] = &[
         short: None,
         long: Some("needless"),
         value: Value::Absent,
-        help: "Warn also of rules that can be deleted",
+        help: "Warn also of rules that can be deleted, as --only needless-rule does",
         excludes: &[],
     },
     Parameter {
@@ -200,8 +200,7 @@ const PARAMETERS: &[Parameter] = &[
         long: Some("expect"),
         value: Value::Text("FILE"),
         help: "Check instead the lines \"allow AGENT URL\", \"deny AGENT URL\", \"allow-all AGENT PATTERN\" and \
-            \"deny-all AGENT PATTERN\" of this file (-: standard input); AGENT * is a crawler without a group of \
-            its own",
+            \"deny-all AGENT PATTERN\" of this file (-: standard input)",
         excludes: &[OF_QUERIES, OF_AUDITS],
     },
     Parameter {

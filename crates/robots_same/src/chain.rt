@@ -95,7 +95,7 @@ fn steps<'a>(
     ensures answer { IfOk result (IsAnswer front.now pool.new.items) }
 {
     let mut to = pool.len();
-    let share = *budget / 8 / (to / size.max(1) + 1);
+    let share = *budget / 2 / (to / size.max(1) + 1);
     while to > 0 {
         let from = to - size.clamp(1, to);
         let differs = match pool.get(from..to) {
@@ -114,9 +114,6 @@ fn steps<'a>(
     }
     Ok(Comparison::Undecided)
 }
-
-/// How much is compared when texts are tried: for each, its length times that of all patterns.
-const TRIALS: usize = 10_000_000;
 
 /// The pattern without its stars, which it matches.
 fn text_of(alloc: Global, rest: &[u8]) -> Result<Vec<u8>, AllocError> {
@@ -137,15 +134,20 @@ fn total_len(pool: &[Entry<'_>]) -> usize {
     total
 }
 
-/// Tries texts of rules that one list alone has, if nothing else decides.
-fn tried(alloc: Global, pool: &[Entry<'_>], front: &[u8]) -> Result<Comparison, AllocError>
+/// Tries texts of rules that one list alone has, if nothing else decides. Each costs its length times that of
+/// all patterns, in bytes, of which four are compared in the time of a step.
+fn tried(
+    alloc: Global,
+    pool: &[Entry<'_>],
+    front: &[u8],
+    budget: &mut usize,
+) -> Result<Comparison, AllocError>
     ensures { IfOk result (IsAnswer front.now pool.now) }
 {
-    let (total, mut left) = (total_len(pool), TRIALS);
+    let total = total_len(pool) / 4;
     for entry in pool {
         let cost = entry.item.rest().len().saturating_mul(total);
-        if cost <= left && entry.old != entry.new {
-            left -= cost;
+        if entry.old != entry.new && spend(budget, cost) {
             let text = text_of(alloc, entry.item.rest())?;
             if differ_on(alloc, pool, front, text.as_slice())? {
                 return Ok(Comparison::Differ(text));
@@ -155,7 +157,7 @@ fn tried(alloc: Global, pool: &[Entry<'_>], front: &[u8]) -> Result<Comparison, 
     Ok(Comparison::Undecided)
 }
 
-/// All rules at once.
+/// All rules at once. A quarter of the budget is kept for texts to try.
 fn compare_all(
     alloc: Global,
     pool: &[Entry<'_>],
@@ -164,11 +166,14 @@ fn compare_all(
 ) -> Result<Comparison, AllocError>
     ensures { IfOk result (IsAnswer front.now pool.now) }
 {
+    let mut kept = *budget / 4;
+    *budget = budget.saturating_sub(kept);
     let copy = refined(alloc, pool, 0, b"", 0)?;
     let answer = compare_pool(alloc, copy, front, budget)?;
     if matches!(answer, Comparison::Undecided) {
-        return tried(alloc, pool, front);
+        return tried(alloc, pool, front, &mut kept);
     }
+    *budget = budget.saturating_add(kept);
     Ok(answer)
 }
 
@@ -181,36 +186,78 @@ fn first_size(pool: &[Entry<'_>], budget: usize) -> usize {
     pool.len().saturating_mul(pool.len()) / (budget / 16 + 1)
 }
 
-/// Smaller and smaller blocks in both lists, and at last what is left, for which half of the budget is kept.
-pub(crate) fn compare_by_steps(
+/// Smaller and smaller blocks, in each list in turn.
+fn turns<'a>(
     alloc: Global,
-    start: Vec<Entry<'_>>,
+    pool: &mut Vec<Entry<'a>>,
     front: &[u8],
+    new_first: bool,
     budget: &mut usize,
 ) -> Result<Comparison, AllocError>
-    ensures { IfOk result (IsAnswer front.now start.entry.items) }
+    ensures leads { OnOk result (Leads front.now pool.new.items pool.old.items) }
+    ensures answer { IfOk result (IsAnswer front.now pool.new.items) }
 {
-    let half = *budget / 2;
-    let mut left = half;
-    let mut pool = start;
-    let mut size = first_size(&pool, half);
+    let mut size = first_size(pool, *budget);
     let mut before = 0;
     for round in 0..ROUNDS {
-        let of_new = round % 2 == 1;
-        let count = differences(&pool);
-        if count <= 1 || !of_new && size == 0 && count == before {
+        let is_first = round % 2 == 0;
+        let count = differences(pool);
+        if count <= 1 || is_first && size == 0 && count == before {
             break;
         }
-        let answer = steps(alloc, &mut pool, front, size, of_new, &mut left)?;
+        let answer = steps(alloc, pool, front, size, is_first == new_first, budget)?;
         if matches!(answer, Comparison::Differ(_)) {
             return Ok(answer);
         }
-        if of_new {
-            size /= 2;
-        } else {
+        if is_first {
             before = count;
+        } else {
+            size /= 2;
         }
     }
-    *budget = budget.saturating_sub(half.saturating_sub(left));
+    Ok(Comparison::Undecided)
+}
+
+/// By steps, of which the first ones change this list; and at last what is left, for which half of the budget
+/// is kept. If steps that begin with the old list leave much, it gives up.
+fn compare_in_order(
+    alloc: Global,
+    start: &[Entry<'_>],
+    front: &[u8],
+    new_first: bool,
+    budget: &mut usize,
+) -> Result<Comparison, AllocError>
+    ensures { IfOk result (IsAnswer front.now start.now) }
+{
+    let mut pool = refined(alloc, start, 0, b"", 0)?;
+    let kept = *budget / 2;
+    *budget = budget.saturating_sub(kept);
+    let answer = turns(alloc, &mut pool, front, new_first, budget)?;
+    *budget = budget.saturating_add(kept);
+    if matches!(answer, Comparison::Differ(_)) {
+        return Ok(answer);
+    }
+    if !new_first && differences(&pool) > 1 {
+        return Ok(Comparison::Undecided);
+    }
     compare_all(alloc, pool.as_slice(), front, budget)
+}
+
+/// Half of the budget is for steps that begin with the old list.
+pub(crate) fn compare_by_steps(
+    alloc: Global,
+    pool: &[Entry<'_>],
+    front: &[u8],
+    budget: &mut usize,
+) -> Result<Comparison, AllocError>
+    ensures { IfOk result (IsAnswer front.now pool.now) }
+{
+    let kept = *budget / 2;
+    *budget = budget.saturating_sub(kept);
+    let answer = compare_in_order(alloc, pool, front, false, budget)?;
+    *budget = budget.saturating_add(kept);
+    if matches!(answer, Comparison::Undecided) {
+        return compare_in_order(alloc, pool, front, true, budget);
+    }
+    Ok(answer)
 }

@@ -176,7 +176,7 @@ pub fn compare<'a>(
         return Ok(Comparison::Undecided);
     }
     let pool = merged(alloc, old_items.as_slice(), new_items.as_slice())?;
-    let answer = compare_by_steps(alloc, pool, front, budget)?;
+    let answer = compare_by_steps(alloc, pool.as_slice(), front, budget)?;
     Ok(answer)
 }
 

@@ -96,7 +96,9 @@ fn cost_of(items: &[Item<'_>]) -> usize {
 fn hash_items(start: u64, items: &[Item<'_>]) -> u64 {
     let mut hash = start;
     for item in items {
-        let place = (item.number() as u64).wrapping_mul(1_000_003);
+        let place = (item.number() as u64)
+            .wrapping_add(1)
+            .wrapping_mul(1_000_003);
         let part = place.wrapping_add(item.rest().len() as u64);
         hash = (hash ^ part).wrapping_mul(0x9E37_79B9_7F4A_7C15);
         hash ^= hash >> 29;

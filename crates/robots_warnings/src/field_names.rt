@@ -45,8 +45,10 @@ const UNSUPPORTED: [(&str, Cause); 12] = [
 ];
 
 /// Names before a colon that mean a usual one.
-const OTHER_FORMS: [(&str, Cause); 3] = [
+const OTHER_FORMS: [(&str, Cause); 5] = [
     ("agent", Cause::LikeUserAgent),
+    ("useragnet", Cause::LikeUserAgent),
+    ("user agnet", Cause::LikeUserAgent),
     ("allowed", Cause::LikeAllow),
     ("disallowed", Cause::LikeDisallow),
 ];

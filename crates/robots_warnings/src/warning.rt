@@ -61,7 +61,8 @@ impl<'a> Warning<'a> {
 impl fmt::Display for Detail {
     fn fmt<W: fmt::Write>(&self, f: &mut fmt::Formatter<W>) -> fmt::Result {
         match *self {
-            Detail::Rules(count) => write!(f, " ({count} in all)"),
+            Detail::Rules(1) => f.write_str(" (1 rule)"),
+            Detail::Rules(count) => write!(f, " ({count} rules)"),
             Detail::Line(line) => write!(f, " (see line {line})"),
             Detail::Group(number) => {
                 let group = row_at(number).1;

@@ -10,7 +10,7 @@ on_pattern-requires-clause-accepted c =
 pub returns-in_default-clause-ok : goal.returns-in_default-clause-ok
 returns-in_default-clause-ok c = (
   (read_robot _ c.args.read.now.bytes.now _ c.requires.robot.2).accepted,
-  rw c.in_default.is at c.in_ok-form.ensures.ok,
+  rw c.in_default.is at c.in_ok-form.ensures,
   cc,
 )
 

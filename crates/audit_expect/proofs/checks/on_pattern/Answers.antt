@@ -6,9 +6,9 @@ on_paths-requires-clause-rules c =
     rw (c.deref.ensures.value, c.in_ok-rules.ensures, c.requires.read.site_is)
     (all_accepted c.args.agent.now _ c.requires.accepted)
 
-pub returns-clause-ok : goal.returns-clause-ok
-returns-clause-ok c = (
+pub returns : goal.returns
+returns c = (
   c.requires.accepted,
-  rw (c.deref.ensures.value, c.in_ok-rules.ensures, c.requires.read.site_is) at c.in_ok-found.ensures.ok,
+  rw (c.deref.ensures.value, c.in_ok-rules.ensures, c.requires.read.site_is) at c.in_ok-found.ensures,
   c.requires.pattern,
 )

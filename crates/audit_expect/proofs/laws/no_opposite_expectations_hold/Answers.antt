@@ -39,30 +39,20 @@ expected : (allowed : Bool) (decision : Decision) → is_unexpected allowed deci
 expected true decision is = sym (not-false _ is)
 expected false decision is = sym is
 
-module _ (file agent : List ℕ) (this other : ExpectationValue) (plain : this.is_pattern ≡ false)
-    (both : other.is_pattern ≡ false)
-    (same : normal_target (written_target this.url) ≡ normal_target (written_target other.url)) where
-  agree : (allowed too : Bool) (one two : Judgment) → IsJudgmentOn file agent this one
-      → IsJudgmentOn file agent other two → fails_at allowed one ≡ false → fails_at too two ≡ false
-      → allowed ≡ too
-  agree allowed too (Rejected line) two is also holds all = cc
-  agree allowed too Rewritten two is also holds all = cc
-  agree allowed too (Everywhere found) two is also holds all = absurd (false≢true (sym plain ∙ is.2))
-  agree allowed too one (Rejected line) is also holds all = cc
-  agree allowed too one Rewritten is also holds all = cc
-  agree allowed too one (Everywhere found) is also holds all = absurd (false≢true (sym both ∙ also.2))
-  agree allowed too (Decided one first normal) (Decided two second also_normal) is also holds all =
-      let rules = placed_rules agent (lines_read file) in
-      let decided = subst (λ target. IsNormalDecision (bodies_read file) rules target also_normal) (sym same)
-      also.3 in
-      expected allowed normal (or_parts _ _ (or_parts _ _ holds).1).1
-      ∙ same_normally (bodies_read file) rules _ normal also_normal is.3 decided
-      ∙ sym (expected too also_normal (or_parts _ _ (or_parts _ _ all).1).1)
+-- an expectation that holds and isn't about a pattern is as the decision in normal forms is
+normally : (file agent : List ℕ) (one : ExpectationValue) (judgment : Judgment)
+    → IsJudgmentOn file agent one judgment → one.is_pattern ≡ false → fails_at one.allowed judgment ≡ false
+    → (normal : Decision) × IsNormalDecision (bodies_read file) (placed_rules agent (lines_read file))
+    (normal_target (written_target one.url)) normal × (one.allowed ≡ normal.allowed)
+normally file agent one (Decided decision other normal) is plain holds =
+    (normal, is.3, expected one.allowed normal (or_parts _ _ (or_parts _ _ holds).1).1)
+normally file agent one (Everywhere found) is plain holds = absurd (false≢true (sym plain ∙ is.2))
+normally file agent one _ is plain holds = cc
 
 pub returns : goal.returns
 returns c file one other is also plain both agent target holds all =
-    let here = subst (λ agent. IsJudgmentOn file agent other.expectation other.judgment) (sym agent)
-    also.here in
-    agree file one.expectation.agent one.expectation other.expectation plain both target
-    one.expectation.allowed other.expectation.allowed one.judgment other.judgment is.here here
-    (or_parts (fails_here one) _ holds).0 (or_parts (fails_here other) _ all).0
+    let (first, decided, wanted) = normally file one.expectation.agent one.expectation one.judgment is.here plain
+    (or_parts (fails_here one) _ holds).0 in
+    let (second, too, desired) = normally file one.expectation.agent other.expectation other.judgment
+    (rw agent also.here) both (or_parts (fails_here other) _ all).0 in
+    wanted ∙ same_normally (bodies_read file) _ _ first second decided (rw target too) ∙ sym desired

@@ -12,7 +12,7 @@ loop-rule-preserved c = elim c.if-branch.branch [
       rw w.best-is
       (rw (take_more c.args.rules.now c.loop-rule.rule-index c.rule-item.result c.loop-rule-test.true)
       (here _ c.args.target.now _ _ w.preferred.result.now
-      (rw c.rule-item.is at (c.in_ok-is_match.ensures.ok.0 (search rules)))
+      (rw c.rule-item.is at (c.in_ok-is_match.ensures.0 (search rules)))
       c.loop-rule.invariant (rw c.rule-item.is at w.preferred.ensures)))
   | else-branch w ↦
       let isnt : ¬ Matches c.rule-item.result.rule.0 c.args.target.now = λ matches. search rules in
@@ -22,7 +22,7 @@ loop-rule-preserved c = elim c.if-branch.branch [
       (rw c.rule-item.is at isnt) c.loop-rule.invariant))
 ]
 
-pub returns-clause-ok : goal.returns-clause-ok
-returns-clause-ok c =
+pub returns : goal.returns
+returns c =
     subst (λ rules. IsDecidedBy rules c.args.target.now (option_map (λ rule. rule.now) c.loop-rule.best))
     (take_all c.loop-rule.rule-index c.args.rules.now (search rules)) c.loop-rule.invariant

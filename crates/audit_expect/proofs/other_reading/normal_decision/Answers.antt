@@ -9,8 +9,8 @@ decision_of-requires c =
     (normal_accepted _ (others_accepted (bodies_read file) c.args.agent.now (lines_read file)
     c.requires.accepted))
 
-pub returns-clause-ok : goal.returns-clause-ok
-returns-clause-ok c =
+pub returns : goal.returns
+returns c =
     let file = c.args.read.now.bytes.now in
     decided_normally (bodies_read file) (placed_rules c.args.agent.now (lines_read file)) _
     c.in_ok-decision.decision
@@ -19,4 +19,4 @@ returns-clause-ok c =
       c.in_ok-rules-2.ensures,
       c.deref.ensures.value,
       c.in_ok-rules.ensures,
-    ) at c.in_ok-decision.ensures.ok)
+    ) at c.in_ok-decision.ensures)

@@ -16,4 +16,4 @@ returns c =
     (c.in_ok-new_items.ensures (rw c.as_slice-2.ensures.value at new_up))
     (rw c.as_slice-3.ensures.value at c.in_ok-pool.ensures.old)
     (rw c.as_slice-4.ensures.value at c.in_ok-pool.ensures.new) c.args.front.now c.in_ok-answer.answer
-    c.in_ok-answer.ensures
+    (rw c.as_slice-5.ensures.value at c.in_ok-answer.ensures)
