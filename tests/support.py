@@ -173,9 +173,10 @@ def shared(level, name, text):
     return name, re.sub(r"^(crawler|URL) '.*?': |( \(and \d+ other crawlers?\))$", "", text) if level == "note" else text
 
 
-def warning_lines(warnings, file="robots.txt"):
+def warning_lines(warnings, file="robots.txt", agent=None):
     """The lines for such warnings, by line and level: those with one message are one, and a note may name another crawler or URL; of each
-    name and level the first twenty, and how many more there are; and how many of each level there are, and in how many messages."""
+    name and level the first twenty, and how many more there are; and how many of each level there are, in how many messages, and, in a
+    report on one crawler, that rules of others aren't checked."""
     joined, met = [], {}
     for warning in sorted(warnings, key=order_of):
         line, name, level, text = parts_of(warning)
@@ -195,8 +196,9 @@ def warning_lines(warnings, file="robots.txt"):
         if counts[kind] == 21:  # the numbers are in the order of these
             counts[kind] = counts.pop(kind)
     more = [f"{file}: {level}: and {count - 20} more [{name}]\n" for (level, name), count in counts.items() if count > 20]
-    messages = f" (in {len(joined)} message{'s' * (len(joined) > 1)})" if len(joined) < len(warnings) else ""
-    total = [f"{file}: {counted([parts_of(warning)[2] for warning in warnings])}{messages}\n"] if warnings else []
+    messages = f" in {len(joined)} message{'s' * (len(joined) > 1)}" if len(joined) < len(warnings) else ""
+    rules = f" (of rules, only {agent}'s are checked)" if agent else ""
+    total = [f"{file}: {counted([parts_of(warning)[2] for warning in warnings])}{messages}{rules}\n"] if warnings else []
     return "".join(shown + more + total)
 
 
@@ -273,4 +275,6 @@ def wanted_of(case):
     warnings = spelled(case.get("warn", "")).decode().splitlines()
     named = re.match(r"(?!-)\S+", case.get("args", ""))  # a named file is the first argument in golden cases
     file = named[0] if named else "robots.txt"
-    return Result(case.get("status", 0), out, lines(case.get("err", "")) + warning_lines(warnings, file).encode())
+    agents = re.findall(r"--(?:user-)?agent[ =](\S+)", case.get("args", ""))
+    agent = agents[0] if len(agents) == 1 else None
+    return Result(case.get("status", 0), out, lines(case.get("err", "")) + warning_lines(warnings, file, agent).encode())

@@ -21,7 +21,7 @@ VERDICT_INPUT = (CRATES / "robots_verdict/stdin").read_bytes()
 AUDIT_INPUT = (CRATES / "robots_audit/stdin").read_bytes()
 AUDIT_ARGS = (CRATES / "robots_audit/args").read_text().splitlines()
 VERDICT = Result(0, (CRATES / "robots_verdict/stdout").read_bytes(), "")
-AUDIT_WARNINGS = warning_lines(["nul-ends-line", "5 several-values space", "6 rule-not-utf-8", "11 noindex-line", "2 rule-before-user-agent"])
+AUDIT_WARNINGS = warning_lines(["nul-ends-line", "5 several-values space", "6 rule-not-utf-8", "11 noindex-line", "2 rule-before-user-agent"], agent="Ferris")
 AUDIT = Result(1, (CRATES / "robots_audit/stdout").read_bytes(), AUDIT_WARNINGS)
 URLS = ["https://example.com/b", "/a%20b/c"]
 OLDER = ROOT / "examples/robots.txt"

@@ -18,7 +18,7 @@ def lines(*numbers, name="unrecognized-line", file="robots.txt"):
 
 
 def total(text, file="robots.txt"):
-    return f"{file}: {text}\n"
+    return f"{file}: {text} (of rules, only Ferris's are checked)\n"
 
 
 def more(level, number, name="unrecognized-line", file="robots.txt"):
@@ -50,14 +50,14 @@ def test_the_others_are_counted():
 def test_causes_with_one_name_have_a_line_each():
     text = FRONT + "hello\nDisalow; /a\n" * 11
     wanted = joined("3 unrecognized-line", *range(5, 25, 2)) + joined("4 unrecognized-line Disallow", *range(6, 26, 2))
-    assert audit(text).err == wanted + total("22 warnings (in 2 messages)")
+    assert audit(text).err == wanted + total("22 warnings in 2 messages")
 
 
 def test_each_name_has_a_line():
     text = FRONT + "".join(f"Nofollow: a\nDisallow: b{n}\nNoindex: c\n" for n in range(21)) + "Noindex: d\n"
     names = {3: "nofollow-line", 4: "missing-slash", 5: "noindex-line"}
     wanted = "".join(joined(f"{n} {name}", *range(n + 3, 66, 3), *[66] * (n == 5)) for n, name in names.items())
-    assert audit(text).err == wanted + total("21 errors, 43 warnings (in 3 messages)")
+    assert audit(text).err == wanted + total("21 errors, 43 warnings in 3 messages")
 
 
 def test_the_levels_of_a_name_have_a_line_each():
@@ -65,7 +65,7 @@ def test_the_levels_of_a_name_have_a_line_each():
     text = "User-agent: *\n" + "Disallow: /a#b\n" * 21 + "Disallow: /#/admin\n" * 22
     wanted = joined("2 hash-cuts-rule", *range(3, 23)) + joined("23 hash-cuts-rule error", *range(24, 45))
     result = audit(text, "--only=hash-cuts-rule", "--strict=error")
-    assert (result.status, result.err) == (3, wanted + total("22 errors, 21 warnings (in 2 messages)"))
+    assert (result.status, result.err) == (3, wanted + total("22 errors, 21 warnings in 2 messages"))
 
 
 def test_the_file_is_named(tmp_path):
@@ -100,14 +100,14 @@ LINES = {"clean-param-line": "Clean-param: a /", "unrecognized-line": "hello", "
 def test_those_with_one_message_are_one(count, name):
     *_, level, text = parts_of(f"3 {name}")
     wanted = f"robots.txt:3: {level}: {text}{ALSO[count - 1]} [{name}]\n"
-    counts = f"{count} {level}s (in 1 message)" if count > 1 else f"1 {level}"
+    counts = f"{count} {level}s in 1 message" if count > 1 else f"1 {level}"
     assert audit(FRONT + f"{LINES[name]}\n" * count, "--ignore=repeated-rule").err == wanted + total(counts)
 
 
 def test_those_with_other_messages_between_them():
     text = FRONT + "Clean-param: a /\nhello\nContent-usage: a\nClean-param: b /\nhello\nContent-usage: a\n"
     wanted = joined("3 clean-param-line", 6) + joined("4 unrecognized-line", 7) + joined("5 content-usage-line", 8)
-    assert audit(text).err == wanted + total("2 warnings, 4 notes (in 3 messages)")
+    assert audit(text).err == wanted + total("2 warnings, 4 notes in 3 messages")
 
 
 def test_one_of_each_level():
@@ -128,7 +128,7 @@ def test_a_file_of_a_hundred_closed_groups():
     err = run("robots_audit", ["-q", "-"], groups.encode()).err.splitlines()
     closed = [line for line in err if line.endswith("[closes-everything]")]
     assert len(closed) == 1 and closed[0].startswith("robots.txt:2: note: ") and " (also in lines 5, 8, 11 and 96 more) [" in closed[0]
-    assert err[-1] == "robots.txt: 100 notes (in 1 message)"
+    assert err[-1] == "robots.txt: 100 notes in 1 message"
 
 
 def test_a_file_of_short_lines():

@@ -151,10 +151,10 @@ def test_a_rule_with_a_byte_that_urls_escape_is_warned_about(start, misses):
         args = ["--only", "unencoded-character", "--agent", "Ferris", "-", f"http://example.com{start}{sent.get(byte, byte)}/"]
         result = run("robots_audit", args, f"User-agent: *\nDisallow: {rule}".encode())
         if result.status == 0:
-            assert result.err == warning_lines(["2 unencoded-character"])
+            assert result.err == warning_lines(["2 unencoded-character"], agent="Ferris")
             warned += byte
         else:
-            assert result.status == 1 and result.err in ("", warning_lines(["2 unencoded-character note"]))
+            assert result.status == 1 and result.err in ("", warning_lines(["2 unencoded-character note"], agent="Ferris"))
     assert warned == misses
 
 
@@ -182,7 +182,7 @@ def test_many_rules_and_urls(rules, count):
     result = run("robots_audit", ["--agent", "Ferris", "-", *urls], file_of(rules).encode())
     warnings = ["1 empty-group"] * (rules == 0)
     out = report_on(rules, urls)
-    assert result == Result(1 if "\ndeny" in out else 0, out, warning_lines(warnings))
+    assert result == Result(1 if "\ndeny" in out else 0, out, warning_lines(warnings, agent="Ferris"))
 
 
 def test_many_agents():

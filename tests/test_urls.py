@@ -46,7 +46,7 @@ def check(folder, text, agent, *args, robots=ROBOTS):
 @pytest.mark.parametrize("text, lines", LISTED.values(), ids=LISTED)
 def test_each_line_is_a_url(tmp_path, text, lines):
     out = "group: * (Ferris has no group of its own)\ndelay: none\n" + lines
-    err = warning_lines(["url-not-normal /tea#cup"] if b"#cup" in text else [])
+    err = warning_lines(["url-not-normal /tea#cup"] if b"#cup" in text else [], agent="Ferris")
     assert outcome(check(tmp_path, text, "Ferris")) == (1 if "deny" in out else 0, report(out), err)
 
 
@@ -54,7 +54,7 @@ def test_a_url_is_asked_without_its_fragment(tmp_path):
     """In a path, `#` is a byte like others."""
     out = "group: * (Ferris has no group of its own)\ndelay: none\ndeny 2 https://e.com/a#b\nallow - /a#b\n1 allowed, 1 denied\n"
     result = check(tmp_path, b"https://e.com/a#b\n/a#b\n", "Ferris", robots=b"User-agent: *\nDisallow: /a$\n")
-    assert outcome(result) == (1, report(out, "verdicts"), warning_lines(["url-not-normal /a#b"]))
+    assert outcome(result) == (1, report(out, "verdicts"), warning_lines(["url-not-normal /a#b"], agent="Ferris"))
 
 
 def test_urls_of_the_command_line_come_first(tmp_path):

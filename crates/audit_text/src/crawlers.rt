@@ -5,6 +5,7 @@ use audit_core::group::Group;
 use audit_core::texts::{Fetched, ignores_delay, may_fetch, write_rejected};
 use printable_text::delay::Delay;
 use printable_text::report::Report;
+use robots_warnings::crawlers::is_wrong;
 use std::fmt;
 use std::fmt::Write;
 
@@ -32,6 +33,13 @@ fn write_rules(out: &mut Report, group: Group, rules: usize) -> fmt::Result {
     }
 }
 
+pub(crate) fn write_wrong(out: &mut Report, name: &str) -> fmt::Result {
+    if !is_wrong(name.as_bytes()) {
+        return Ok(());
+    }
+    out.write_str("; no crawler has this name")
+}
+
 /// Such as `crawler GPTBot: group * (line 1), 3 rules, delay 2 s`.
 fn write_crawler(out: &mut Report, agent: &AgentAudit<'_>) -> fmt::Result {
     let name = agent.agent;
@@ -51,6 +59,7 @@ fn write_crawler(out: &mut Report, agent: &AgentAudit<'_>) -> fmt::Result {
     }
     let vendor = agent.vendor;
     write!(out, "{vendor}")?;
+    write_wrong(out, name)?;
     out.end_line()
 }
 

@@ -1,10 +1,11 @@
 //! The audit as lines of text, and the warnings.
-use crate::crawlers::write_crawlers;
+use crate::crawlers::{write_crawlers, write_wrong};
 use crate::denied::Totals;
 use crate::listed::{More, listing_of};
 use crate::verdicts::write_verdicts;
 use audit_core::audit::{AgentAudit, Audit};
 use audit_core::counts::counts_of;
+use audit_core::group::Group;
 use audit_core::joined::{AlsoIn, in_order, shared_lines};
 use audit_core::request::Request;
 use audit_core::rows::write_rows;
@@ -30,6 +31,9 @@ fn write_fetched(out: &mut Report, audit: &AgentAudit<'_>) -> fmt::Result {
 fn write_agent(out: &mut Report, is_quiet: bool, audit: &AgentAudit<'_>) -> fmt::Result {
     let (applied, vendor, delayed) = (Applied(audit), audit.vendor, Delayed(audit));
     write!(out, "group: {applied}{vendor}")?;
+    if audit.group != Group::Star {
+        write_wrong(out, audit.agent)?;
+    }
     out.end_line()?;
     write!(out, "delay: {delayed}")?;
     out.end_line()?;
@@ -107,16 +111,18 @@ fn write_more(out: &mut Report, file: &str, more: &More) -> fmt::Result {
     out.end_line()
 }
 
-/// Writes the warnings that are listed, how many more there are, and how many there are of each level.
+/// Writes the warnings that are listed, how many more there are, and how many there are of each level; and for which
+/// crawler alone rules are checked.
 pub fn write_warnings(
     alloc: Global,
     out: &mut Report,
-    file: &str,
+    request: &Request<'_>,
     warnings: &[Warning<'_>],
 ) -> fmt::Result {
     if warnings.is_empty() {
         return Ok(());
     }
+    let file = request.shown_name();
     let all = in_order(alloc, warnings)?;
     let found = listing_of(alloc, &all)?;
     for warning in &found.warnings {
@@ -132,7 +138,10 @@ pub fn write_warnings(
     write!(out, "{file}: {counts}")?;
     if messages < warnings.len() {
         let end = if messages > 1 { "s" } else { "" };
-        write!(out, " (in {messages} message{end})")?;
+        write!(out, " in {messages} message{end}")?;
+    }
+    if let Some(agent) = request.agent {
+        write!(out, " (of rules, only {agent}'s are checked)")?;
     }
     out.end_line()
 }

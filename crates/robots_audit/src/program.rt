@@ -94,7 +94,7 @@ fn message(alloc: Global, request: &Request<'_>, audit: &Audit<'_>) -> Result<St
 {
     let mut out = Report::new(alloc);
     if let Format::Text = request.format {
-        write_warnings(alloc, &mut out, request.shown_name(), &audit.warnings)?;
+        write_warnings(alloc, &mut out, request, &audit.warnings)?;
     }
     out.shown(request.has_colors)
 }

@@ -96,6 +96,7 @@ fn write_counts(page: &mut Page, warnings: &[Warning<'_>]) -> fmt::Result {
 pub(crate) fn write_warning_entry(
     alloc: Global,
     page: &mut Page,
+    agent: Option<&str>,
     rows: usize,
     warnings: &[Warning<'_>],
 ) -> fmt::Result {
@@ -106,6 +107,9 @@ pub(crate) fn write_warning_entry(
     page.element("dt", "Findings")?;
     page.html.open("dd", &[])?;
     write_counts(page, warnings)?;
+    if let Some(agent) = agent {
+        write!(page.html, " (of rules, only {agent}'s are checked)")?;
+    }
     page.html.open("ul", &[])?;
     write_items(alloc, page, rows, &all, first(&found, LISTED_WARNINGS))?;
     write_items(alloc, page, rows, &all, &others)?;
