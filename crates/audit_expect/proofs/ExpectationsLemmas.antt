@@ -1,10 +1,13 @@
 -- Expectations: how they are found and checked.
 use Rattle.std.proofs.{Common.◌≡◌, lemmas.Bool.cond-false, lemmas.Bool.cond-true}
 use Rattle.std.proofs.Common.{◌≢◌, ℕ, zero, suc, ◌+◌, List, [], ◌∷◌, ◌++◌, arith, drop, length, refl}
-use Rattle.std.proofs.Common.{take, ◌<◌, map, slice_index_or}
+use Rattle.std.proofs.Common.{take, ◌<◌, map, slice_index_or, flat_map, ◌∙◌, ap, append-nil, append_assoc, sym}
+use Rattle.std.specs.{Borrow.Bor}
 use Rattle.audit_expect.specs.Expect.{parts}
 use Rattle.audit_expect.specs.Internal.Expectations.{HasNone, IsFirstSeparator, expectation_value}
-use Rattle.std.proofs.lemmas.List.{map-append, take_more, Elements.filter-append}
+use Rattle.std.proofs.lemmas.List.{map-append, take-map, take_more, Elements.filter-append}
+use Rattle.std.proofs.lemmas.{List.Concat.flat_map-append}
+use Rattle.robots_warnings.specs.{Crawlers.Row, Internal.row_value}
 use Rattle.texting_robots.specs.Callers.{IsRejected, IsRobotWithoutSitemaps, RobotValue, file_limit, lines_read}
 use Rattle.texting_robots.specs.Callers.{placed_rules}
 use Rattle.texting_robots.specs.{Decision.IsDecisionOn, declared.decision.Decision.Decision}
@@ -83,3 +86,19 @@ failures_next file old new items place d next below are same is added =
       whole =
           grind (arith, filter-append, map-append);
     }
+
+-- a step of a loop over all known crawlers
+pub row_next : (f : Row → List (List ℕ)) (rows : List (Bor (List ℕ) × Bor (List ℕ))) (all : List Row) (at : ℕ)
+    (row : Bor (List ℕ) × Bor (List ℕ)) (old : List (List ℕ)) {found new : List (List ℕ)}
+    → map row_value rows ≡ all → at < length rows → found ≡ old ++ flat_map f (take at all)
+    → new ≡ found ++ f (row_value (slice_index_or rows at row))
+    → new ≡ old ++ flat_map f (take (at + 1) all)
+row_next f rows all at row old same below was is =
+    let last = f (row_value (slice_index_or rows at row)) in
+    is ∙ ap (λ found. found ++ last) was ∙ append_assoc old (flat_map f (take at all)) last
+    ∙ ap (λ more. old ++ more) (sym (rw (
+      ← same,
+      take-map row_value (at + 1) rows,
+      take-map row_value at rows,
+      take_more rows at row below,
+    ) (simp (map-append, flat_map-append, append-nil))))

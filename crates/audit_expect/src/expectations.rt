@@ -274,11 +274,11 @@ fn parsed<'a>(alloc: Global, name: &str, text: &'a [u8]) -> Result<Vec<Expectati
 /// `Fault::Malformed` for all malformed lines of the text, `Fault::Empty` if there are no expectations in it,
 /// and `Fault::Memory` if an allocation failed or a URL is too long for `url`. An expectation fails if the
 /// file is rejected for its crawler, which isn't an error.
-pub fn check(
+pub fn check<'a>(
     alloc: Global,
     name: &str,
-    text: &[u8],
-    file: &[u8],
+    text: &'a [u8],
+    file: &'a [u8],
 ) -> Result<(Report, Findings), Fault>
     ensures ok { IfOk result (λ checked. AreFailuresOf text.now file.now (map found_of checked.1.items)) }
     ensures fault { IfErr result (IsEntryFault name.now entry.Expectation (specified_in text.now)) }

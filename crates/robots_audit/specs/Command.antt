@@ -116,11 +116,15 @@ pub record AreNamesOf (matches : ArgMatches) (id : List ℕ) (names : List (List
   pub all : names ≡ values_of matches id
   pub known : IsTrue (list_all is_name names)
 
--- needless rules are looked for with `--needless`, or if one of these names of `--only` is about them
+-- the warning with this name is about needless rules
+abbrev pub is_needless : List ℕ → Bool
+is_needless name = starts_with nat_eq name (codes "needless-")
+
+-- they are looked for with `--needless`, or if one of these names of `--only` is that of such a warning
 abbrev pub AsksNeedless : ArgMatches → List (List ℕ) → Bool → Type 0
 AsksNeedless matches only answer =
     (is_given : Bool) × IsOn matches (codes "needless") is_given
-    × (answer ≡ (is_given || list_any (λ name. starts_with nat_eq name (codes "needless-")) only))
+    × (answer ≡ (is_given || list_any is_needless only))
 
 -- a name as it is, or without the brackets that it has in a report
 abbrev pub IsWithoutBrackets : (name bare : List ℕ) → Type 0

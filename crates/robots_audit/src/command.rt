@@ -1,10 +1,10 @@
 //! The command line, and the request that it results in.
 ghost use Rattle.std.specs.Prelude.{◌≡◌, IfErr, IfOk, IsTrue, OnOk, codes, is_some, map, option_map, ◌||◌};
-ghost use Rattle.std.specs.List.{list_all};
+ghost use Rattle.std.specs.List.{list_all, list_any};
 ghost use Rattle.robots_warnings.specs.Table.{is_name};
 ghost use Rattle.audit_expect.specs.UrlList.{IsUrlFault};
 ghost use Rattle.robots_audit.specs.Command.{AreAgentsOf, AreGiven, AreNamesOf, IsNoCrawlerOf, AreUrlsOf, Asks, AsksNeedless, HasFile};
-ghost use Rattle.robots_audit.specs.Command.{IsWithoutBrackets, LacksUrls};
+ghost use Rattle.robots_audit.specs.Command.{IsWithoutBrackets, LacksUrls, is_needless};
 ghost use Rattle.robots_audit.specs.Command.{file_read, IsFileFault, IsFormatOf, requested_format, has_urls, is_stdin, IsUnknownIn, known_names};
 ghost use Rattle.robots_audit.specs.Command.{level_named, reads_stdin_twice, values_of};
 
@@ -249,12 +249,23 @@ fn has_totals(is_denied_only: bool, urls: Option<&str>) -> bool
     is_denied_only || urls.is_some()
 }
 
-/// Whether needless rules are looked for: with `--needless`, or if `--only` names warnings of them.
+/// Whether one of the names is that of a warning about needless rules.
+fn names_needless(names: &[&str]) -> bool
+    ensures { result ≡ list_any is_needless (map (λ name. name.now) names.now) }
+{
+    for name in names {
+        if name.as_bytes().starts_with(b"needless-") {
+            return true;
+        }
+    }
+    false
+}
+
 fn has_needless(matches: &ArgMatches<'_>, only: &[&str]) -> bool
     ensures { AsksNeedless matches.now (map (λ name. name.now) only.now) result }
 {
     let is_given = matches.get_flag("needless");
-    is_given || only.iter().any(|name| name.starts_with("needless-"))
+    is_given || names_needless(only)
 }
 
 /// A name as it is, or without the brackets that it has in a report.

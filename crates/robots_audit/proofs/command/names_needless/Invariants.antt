@@ -1,0 +1,9 @@
+use Rattle.std.proofs.Common.{◌≡◌, drop, map}
+use Rattle.std.specs.List.{list_any}
+use Rattle.robots_audit.specs.Command.{is_needless}
+use Rattle.robots_audit.proofs.command.names_needless.Given as goal
+
+abbrev pub invariant-loop-name : goal.invariant-loop-name
+invariant-loop-name l =
+    list_any is_needless (map (λ name. name.now) (drop l.name-index l.names))
+    ≡ list_any is_needless (map (λ name. name.now) l.names)
