@@ -86,11 +86,21 @@ fn write_fetch(page: &mut Page, name: &'static str, agent: &AgentAudit<'_>) -> f
     page.html.close()
 }
 
-fn write_fact<D: fmt::Display + Drop>(page: &mut Page, name: &'static str, fact: D) -> fmt::Result
+fn write_rules(page: &mut Page, name: &'static str, agent: &AgentAudit<'_>) -> fmt::Result
     requires { is_tag name.now ≡ true }
 {
+    let rules = agent.rules;
     page.html.open(name, &[])?;
-    write!(page.html, "{fact}")?;
+    write!(page.html, "{rules}")?;
+    page.html.close()
+}
+
+fn write_delay(page: &mut Page, name: &'static str, agent: &AgentAudit<'_>) -> fmt::Result
+    requires { is_tag name.now ≡ true }
+{
+    let delayed = Delayed(agent);
+    page.html.open(name, &[])?;
+    write!(page.html, "{delayed}")?;
     page.html.close()
 }
 
@@ -100,9 +110,9 @@ fn write_agent_entry(page: &mut Page, agent: &AgentAudit<'_>) -> fmt::Result {
     write_group_note(page, agent)?;
     page.html.close()?;
     page.element("dt", "Rules")?;
-    write_fact(page, "dd", agent.rules)?;
+    write_rules(page, "dd", agent)?;
     page.element("dt", "Crawl delay")?;
-    write_fact(page, "dd", Delayed(agent))?;
+    write_delay(page, "dd", agent)?;
     page.element("dt", "May fetch")?;
     write_fetch(page, "dd", agent)
 }
@@ -113,8 +123,8 @@ fn write_agent_row(page: &mut Page, agent: &AgentAudit<'_>) -> fmt::Result {
     page.html.open("td", &[])?;
     write_group_note(page, agent)?;
     page.html.close()?;
-    write_fact(page, "td", agent.rules)?;
-    write_fact(page, "td", Delayed(agent))?;
+    write_rules(page, "td", agent)?;
+    write_delay(page, "td", agent)?;
     write_fetch(page, "td", agent)?;
     for verdict in &agent.verdicts {
         write_verdict_cell(page, true, verdict)?;
