@@ -266,6 +266,24 @@ fn parsed<'a>(alloc: Global, name: &str, text: &'a [u8]) -> Result<Vec<Expectati
     Ok(found)
 }
 
+/// Checks the expectations in a text against a file that was read.
+fn check_read<'a>(
+    alloc: Global,
+    name: &str,
+    text: &'a [u8],
+    read: &'a FileRead<'_>,
+) -> Result<(Report, Findings), Fault>
+    requires { IsRead read.now }
+    ensures ok { IfOk result (λ checked. AreFailuresOf text.now read.now.bytes.now (map found_of checked.1.items)) }
+    ensures fault { IfErr result (IsEntryFault name.now entry.Expectation (specified_in text.now)) }
+{
+    let expectations = parsed(alloc, name, text)?;
+    let all = about_each(alloc, &expectations, read)?;
+    let found = failures(alloc, &all, read)?;
+    let report = report_on(alloc, name, &expectations, &read.site, &found)?;
+    Ok((report, found))
+}
+
 /// Checks the expectations in a text, of a file with this name, against a robots.txt file. The report has a
 /// line for each that fails, or how many hold if none fails; the findings are those that fail.
 ///
@@ -274,19 +292,15 @@ fn parsed<'a>(alloc: Global, name: &str, text: &'a [u8]) -> Result<Vec<Expectati
 /// `Fault::Malformed` for all malformed lines of the text, `Fault::Empty` if there are no expectations in it,
 /// and `Fault::Memory` if an allocation failed or a URL is too long for `url`. An expectation fails if the
 /// file is rejected for its crawler, which isn't an error.
-pub fn check<'a>(
+pub fn check(
     alloc: Global,
     name: &str,
-    text: &'a [u8],
-    file: &'a [u8],
+    text: &[u8],
+    file: &[u8],
 ) -> Result<(Report, Findings), Fault>
     ensures ok { IfOk result (λ checked. AreFailuresOf text.now file.now (map found_of checked.1.items)) }
     ensures fault { IfErr result (IsEntryFault name.now entry.Expectation (specified_in text.now)) }
 {
-    let expectations = parsed(alloc, name, text)?;
     let read = FileRead::new(alloc, "*", file)?;
-    let all = about_each(alloc, &expectations, &read)?;
-    let found = failures(alloc, &all, &read)?;
-    let report = report_on(alloc, name, &expectations, &read.site, &found)?;
-    Ok((report, found))
+    check_read(alloc, name, text, &read)
 }
