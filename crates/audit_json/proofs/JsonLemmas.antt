@@ -20,9 +20,9 @@ use Rattle.rfc9309_laws.specs.declared.conformance.Conformance.{Conformance}
 use Rattle.rfc9309_laws.specs.declared.conformance.Conformance.TheVariants.{OtherFile, OtherLine, Syntax}
 use Rattle.rfc9309_laws.specs.declared.conformance.Conformance.TheVariants.{Verdicts}
 use Rattle.robots_warnings.specs.Table.{all_causes, level_of, name_of}
-use Rattle.audit_json.specs.Json.{agent_json, audit_json, count_json, fault_json, finding_json, findings_json}
+use Rattle.audit_json.specs.Json.{agent_json, audit_json, fault_json, finding_json, findings_json}
 use Rattle.audit_json.specs.Json.{findings_text, json_line, known_json, line_json, list_json, number_json}
-use Rattle.audit_json.specs.Json.{rows_json, sanitized_json, text_json, value_json, vendor_word, verdict_json}
+use Rattle.audit_json.specs.Json.{rows_json, sanitized_json, text_json, value_json, verdict_json}
 use Rattle.audit_json.specs.Json.{word_json}
 use Rattle.audit_json.specs.Sarif.{all_rules, has_level_for, is_brace, literal_char, literal_text, log_json}
 use Rattle.audit_json.specs.Sarif.{result_json, rule_json, rules_named, shown, shown_after, takes_backslash}
@@ -105,9 +105,7 @@ agent_whole agent = rw (
   number_whole agent.delay,
   number_whole agent.group_line,
   word_whole (may_fetch agent.rejected agent.reach),
-  list_whole count_json (λ n. refl) agent.allows,
   number_whole agent.rejected,
-  word_whole (vendor_word agent.vendor),
   list_whole verdict_json verdict_whole agent.verdicts,
 ) refl
 

@@ -50,19 +50,19 @@ group_word Star = codes "star"
 group_word Nobody = codes "none"
 group_word Everyone = codes "everyone"
 
--- which other group the crawler's vendor applies
-abbrev pub vendor_word : AtVendor → Option (List ℕ)
-vendor_word Same = None
-vendor_word NoGroup = Some (codes "none")
-vendor_word OtherGroup = Some (codes "other")
+-- which group the crawler's vendor applies
+abbrev pub vendor_word : AtVendor → List ℕ
+vendor_word Same = codes "same"
+vendor_word NoGroup = codes "none"
+vendor_word OtherGroup = codes "other"
 
 abbrev pub word_json : Option (List ℕ) → Data
 word_json None = null
 word_json (Some word) = string word
 
 -- the crawler, its delay in microseconds, the group that applies to it and the first line that names it, what
--- the crawler may fetch, the lines if that is listed, the line for which the file is rejected, how many rules
--- apply, which other group its vendor applies, and the verdicts
+-- the crawler may fetch, the line for which the file is rejected, how many rules apply, which group its vendor
+-- applies, and the verdicts
 abbrev pub agent_json : AgentValue → Data
 agent_json agent = object
     (member (codes "agent") (sanitized_json agent.agent)
@@ -71,11 +71,10 @@ agent_json agent = object
     (member (codes "group_line") (number_json agent.group_line)
     (member (codes "may_fetch")
     (word_json (may_fetch agent.rejected agent.reach))
-    (member (codes "may_fetch_lines") (list_json count_json agent.allows)
     (member (codes "rejected") (number_json agent.rejected)
     (member (codes "rules") (count_json agent.rules)
-    (member (codes "vendor") (word_json (vendor_word agent.vendor))
-    (member (codes "verdicts") (list_json verdict_json agent.verdicts) no_members))))))))))
+    (member (codes "vendor") (string (vendor_word agent.vendor))
+    (member (codes "verdicts") (list_json verdict_json agent.verdicts) no_members)))))))))
 
 -- a delay in microseconds; for other lines the sanitized value; null if there is no value
 abbrev pub value_json : LineValue → Data

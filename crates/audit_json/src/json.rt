@@ -2,6 +2,7 @@
 ghost use Rattle.std.specs.Prelude.{◌≡◌, false, IfOk, map, option_map, string_bytes};
 ghost use Rattle.serde_json.specs.{View.view, Written.has_float};
 ghost use Rattle.texting_robots.specs.Callers.{by_value, label_by_value, sitemaps_in};
+ghost use Rattle.audit_core.specs.Texts.{may_fetch};
 ghost use Rattle.audit_json.specs.Json.{IsJson, agent_json, audit_json, fault_json, findings_json};
 ghost use Rattle.audit_json.specs.Json.{findings_text, group_word, json_line, known_json, line_json};
 ghost use Rattle.audit_json.specs.Json.{list_json, number_json, rows_json, sanitized_json, text_json};
@@ -86,13 +87,13 @@ fn group_word(group: Group) -> &'static str
     }
 }
 
-fn vendor_word(vendor: AtVendor) -> Option<&'static str>
-    ensures { option_map (λ word. word.now) result ≡ vendor_word vendor }
+fn vendor_word(vendor: AtVendor) -> &'static str
+    ensures { result.now ≡ vendor_word vendor }
 {
     match vendor {
-        AtVendor::Same => None,
-        AtVendor::NoGroup => Some("none"),
-        AtVendor::OtherGroup => Some("other"),
+        AtVendor::Same => "same",
+        AtVendor::NoGroup => "none",
+        AtVendor::OtherGroup => "other",
     }
 }
 
@@ -117,6 +118,12 @@ fn delay_json(delay: Option<u64>) -> Value
     Value::from(delay)
 }
 
+fn fetch_json(alloc: Global, audit: &AgentAudit<'_>) -> Result<Value, AllocError>
+    ensures { IfOk result (λ value. view value ≡ word_json (may_fetch audit.now.rejected audit.now.reach)) }
+{
+    word_json(alloc, may_fetch(audit.rejected, audit.reach))
+}
+
 impl<'a> Json for AgentAudit<'a> {
     ghost use Rattle.audit_json.specs.Json.{agent_json};
 
@@ -128,23 +135,12 @@ impl<'a> Json for AgentAudit<'a> {
             "delay": delay_json(self.delay),
             "group": group_word(self.group),
             "group_line": line_number(self.group_line),
-            "may_fetch": word_json(alloc, may_fetch(self.rejected, self.reach))?,
-            "may_fetch_lines": list_json(alloc, &self.allows)?,
+            "may_fetch": fetch_json(alloc, self)?,
             "rejected": line_number(self.rejected),
             "rules": self.rules,
-            "vendor": word_json(alloc, vendor_word(self.vendor))?,
+            "vendor": vendor_word(self.vendor),
             "verdicts": list_json(alloc, &self.verdicts)?,
         })
-    }
-}
-
-impl Json for usize {
-    ghost use Rattle.audit_json.specs.Json.{count_json};
-
-    ghost json = { count_json };
-
-    fn json(&self, alloc: Global) -> Result<Value, AllocError> {
-        Ok(Value::from(*self))
     }
 }
 
