@@ -91,7 +91,7 @@ fn begins_ignoring(text: &[u8]) -> bool
 }
 
 /// `name` is the only name of the group.
-pub(crate) fn is_ignored(name: Option<&[u8]>, line: Line<'_>) -> bool
+pub fn is_ignored(name: Option<&[u8]>, line: Line<'_>) -> bool
     ensures { result ≡ is_ignored (option_map (λ name. name.now) name.entry) (delay_in (by_value line.entry)) }
 {
     match (name, line) {
