@@ -137,7 +137,7 @@ ROBOTS_CHECK int32_t robots_query(const robots_robot *robot, const char *url, si
 /* robots_query for a robot whose file may be hostile. Each rule that is tried costs one, and each comparison of a byte of the URL one, and
  * no more is spent than the budget. Before a rule that might cost more than is left, it gives up: the status is ROBOTS_TOO_COSTLY, and
  * there is no result. Otherwise the result is that of robots_query. Parsing the URL isn't counted, nor is one reading of it for its pairs
- * of adjacent bytes: a rule with a pair that isn't among them is mostly passed over, and then costs one. It allocates. */
+ * of adjacent bytes: a rule with a pair after a '*' that isn't among them is usually passed over, and then costs one. It allocates. */
 ROBOTS_CHECK int32_t robots_query_within(const robots_robot *robot, const char *url, size_t url_len, uint64_t budget,
                                          int64_t *result) ROBOTS_NONNULL(1, 5);
 
