@@ -104,13 +104,13 @@ def test_bytes_are_those_that_were_allocated(installed, tmp_path):
     (tmp_path / "bytes.c").write_text(BYTES)
     counted = compiled(tmp_path / "bytes", *STRICT, tmp_path / "bytes.c", installed / "lib/librobots_c.a")
     robots = []
-    for file in [b"", b"Sitemap: /s\n" * 2000, b"User-agent: a\n" * 9, b"Disallow: /a*b\n", b"Disallow: /a\n" * 60]:
+    for file in [b"", b"Sitemap: /s\n" * 2000, b"User-agent: a\n" * 9, b"Disallow: /a*bcd\n", b"Disallow: /a\n" * 60]:
         result = run(counted, [], file)
         robot, robot_bytes, own, own_bytes, site, site_bytes = map(int, result.out.split())
         assert (result.status, result.err) == (0, "") and (robot, own, site) == (robot_bytes, own_bytes, site_bytes)
         assert robot == own and site >= len(file)
         robots.append(robot)
-    assert robots[0] == robots[1] == robots[2] < robots[3] < robots[4] == robots[0] + 60 * 74
+    assert [it - robots[0] for it in robots] == [0, 0, 0, 64 + 6 + 12 + 2 * 4, 60 * (64 + 2 + 8)]  # as robots.h says
 
 
 BYTES = r"""

@@ -137,7 +137,7 @@ ROBOTS_CHECK int32_t robots_query(const robots_robot *robot, const char *url, si
 /* robots_query for a robot whose file may be hostile. Each rule that is tried costs one, and each comparison of a byte of the URL one, and
  * no more is spent than the budget. Before a rule that might cost more than is left, it gives up: the status is ROBOTS_TOO_COSTLY, and
  * there is no result. Otherwise the result is that of robots_query. Parsing the URL isn't counted, nor is one reading of it for its pairs
- * of adjacent bytes: a rule with a pair that isn't among them is mostly passed over, and then costs one. It allocates. */
+ * of adjacent bytes: a rule with a pair after a '*' that isn't among them is usually passed over, and then costs one. It allocates. */
 ROBOTS_CHECK int32_t robots_query_within(const robots_robot *robot, const char *url, size_t url_len, uint64_t budget,
                                          int64_t *result) ROBOTS_NONNULL(1, 5);
 
@@ -146,7 +146,9 @@ ROBOTS_CHECK int32_t robots_query_within(const robots_robot *robot, const char *
  * a '*' follows them, two for each byte of the length. The sum is at most UINT64_MAX. It doesn't allocate. */
 uint64_t robots_cost(const robots_robot *robot, size_t length) ROBOTS_NONNULL(1);
 
-/* How many bytes of memory the robot takes: what robots_open or robots_site_robot allocated and didn't free. It doesn't allocate. */
+/* How many bytes of memory the robot takes: what robots_open or robots_site_robot allocated and didn't free. It doesn't allocate. A rule
+ * takes 64 and its length, 8 more if there are 48 rules or more, and for each text after a '*', unless '$' follows it, 12 and 4 for each
+ * byte but the first. */
 size_t robots_bytes(const robots_robot *robot) ROBOTS_NONNULL(1);
 
 /* Writes the results for many URLs, in their order. `urls` has one '\n' between one URL and the next, so n of them are n + 1 URLs, and the
