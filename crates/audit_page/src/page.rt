@@ -108,7 +108,13 @@ fn write_summary(
     page.html.open("dl", &[])?;
     write_file_entry(page, request.shown_name())?;
     write_date_entry(page, request.date)?;
-    write_warning_entry(alloc, page, request.agent, audit.labels.len(), &audit.warnings)?;
+    write_warning_entry(
+        alloc,
+        page,
+        request.agent,
+        audit.labels.len(),
+        &audit.warnings,
+    )?;
     write_crawler_entries(page, request.agent, &audit.agents)?;
     write_sitemap_entry(alloc, page, &audit.labels)?;
     if has_directive(&audit.labels) {
