@@ -102,9 +102,10 @@ pub record AreAgentsOf (matches : ArgMatches) (agents : List (List ℕ)) : Type 
   pub given : AreGiven matches agents
   pub named : IsTrue (list_all is_crawler_name agents)
 
--- the error if one of the given names is none
+-- the error if one of the given names is none, or if an allocation failed
 abbrev pub IsNoCrawlerOf : ArgMatches → Fault → Type 0
-IsNoCrawlerOf matches fault = (agents : List (List ℕ)) × AreGiven matches agents × IsNoCrawlerIn agents fault
+IsNoCrawlerOf matches fault =
+    (fault ≡ Memory) ⊎ ((agents : List (List ℕ)) × AreGiven matches agents × IsNoCrawlerIn agents fault)
 
 -- the arguments after FILE, which are paths or URLs, as they are asked for
 pub record AreUrlsOf (matches : ArgMatches) (urls : List (List ℕ)) : Type 0 where

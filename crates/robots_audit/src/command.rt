@@ -18,7 +18,7 @@ use audit_core::version::VERSION_AND_TOOLCHAIN;
 use audit_expect::url_list::are_paths_or_urls;
 use clap::{ArgMatches, Command};
 use printable_text::level::Level;
-use robots_warnings::crawlers::crawlers;
+use robots_warnings::crawlers::{Crawler, crawlers};
 use robots_warnings::table::is_name;
 use robots_warnings::urls::as_text;
 use std::alloc::{AllocError, Global};
@@ -202,14 +202,21 @@ fn names_of<'a>(alloc: Global, matches: &ArgMatches<'a>, id: &str) -> Result<Vec
     Ok(names)
 }
 
+fn names_in(alloc: Global, rows: &'static [Crawler]) -> Result<Vec<&'static str>, AllocError>
+    ensures { IfOk result (λ names. map (λ name. name.now) names.items ≡ map (λ row. row.0.now) rows.now) }
+{
+    let mut names = Vec::with_capacity(alloc, rows.len())?;
+    for row in rows {
+        names.push(row.0)?;
+    }
+    Ok(names)
+}
+
 /// The names of the known crawlers, and `*`.
 fn known_names(alloc: Global) -> Result<Vec<&'static str>, AllocError>
     ensures { IfOk result (λ names. map (λ name. name.now) names.items ≡ known_names) }
 {
-    let mut names = Vec::new(alloc);
-    for row in crawlers() {
-        names.push(row.0)?;
-    }
+    let names = names_in(alloc, crawlers())?;
     Ok(names)
 }
 
