@@ -107,7 +107,7 @@ def test_empty_file_is_stopped_by_its_audit(folder):
     """That of a build, and standard input."""
     _, audit, *_ = shown(DOCUMENTS["docs/CI.md"]).splitlines()
     assert ran(folder, audit) == 0
-    assert ran(folder, audit.replace(" robots.txt", " - < /dev/null")) == 3
+    assert ran(folder, audit.replace(" robots.txt", " - < /dev/null")) == 2
     (folder / "robots.txt").write_text("")
     assert ran(folder, audit) == 3 and f"The second one exits with status {ran(folder, audit)} if" in " ".join(DOCUMENTS["docs/CI.md"].split())
     empty = re.search(r"An empty file allows everything: (.*?)\.\s", " ".join(DOCUMENTS["docs/CI.md"].split()))[1]

@@ -316,7 +316,7 @@ def test_page_has_the_numbers_of_warnings():
     """They are those of the last line of the text."""
     for file in (EXAMPLE, b"User-agent: *\nDisallow: a\nDisallow: b\nhello\n", b"hello\n", b"User-agent: *\nDisallow: /a"):
         listed = run("robots_audit", ["-"], file).err.splitlines()
-        numbers = listed[-1].removeprefix("robots.txt: ").replace(", ", "") if listed else "none"
+        numbers = listed[-1].removeprefix("robots.txt: ").split(" in ")[0].replace(", ", "") if listed else "none"
         assert entries_of("-", file=file)["Findings"] == numbers + "".join(joined(audit("-", file=file)["warnings"]))
 
 
@@ -338,8 +338,7 @@ def test_all_warnings_without_a_row_are_listed():
     urls = [f"/%c3{number}" for number in range(150)]
     elements = Reader(page(*FERRIS, *urls, file=b"User-agent: *\nDisallow: /a\nhello\n")).elements
     listed = texts(elements, "li")
-    assert len(listed) == 150 and all(f"'{url}'" in text for url, text in zip(urls, listed))
-    assert "and 1 more, below their lines" in texts(elements, "p")
+    assert len(listed) == 2 and "'/%c30'" in listed[0] and "(and 149 more)" in listed[0] and "[unrecognized-line]" in listed[1]
     names = b"".join(b"User-agent: a%d\nDisallow: /\n" % number for number in range(150))
     elements = Reader(page(*FERRIS, file=b"User-agent: *\nDisallow: /a\n" + b"#".ljust(511_973, b"x") + b"\n" + names)).elements
     found = [text for text in texts(elements, "li") if "[group-past-size-limit]" in text]

@@ -168,7 +168,7 @@ def report_on(rules, urls):
     width = len(str(rules + 1))
     out = [f"{1:{width}} + user-agent  Ferris"]
     out += [f"{n + 1:{width}} + {'disallow' if n % 2 else 'allow':11} /{n}/" for n in range(1, rules + 1)]
-    out += ["group: Ferris", "delay: none"]
+    out += ["group: Ferris", "delay: none"] + ["may fetch: everything"] * (rules == 0)
     for url in urls:
         n = int(url.split("/")[-2])
         line = f"{'deny' if n % 2 else 'allow'} {n + 1}" if n <= rules else "allow -"
