@@ -18,7 +18,7 @@ class Browser:
     def __init__(self, path, folder):
         from_us, self.to_it = os.pipe()
         self.from_it, to_us = os.pipe()
-        words = [path, "--headless", "--disable-gpu", "--remote-debugging-pipe", f"--user-data-dir={folder}", "about:blank"]
+        words = [path, "--headless", "--disable-gpu", "--hide-scrollbars", "--remote-debugging-pipe", f"--user-data-dir={folder}", "about:blank"]
         if os.getuid() == 0:
             words.insert(1, "--no-sandbox")
 

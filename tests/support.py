@@ -202,8 +202,13 @@ def warning_lines(warnings, file="robots.txt", agent=None):
     return "".join(shown + more + total)
 
 
-VERDICTS = "RFC 9309 syntax and verdicts, for URLs in normal form"
-KEYS = set("like args agent robots file from pieces room out more rfc warn err status indented".split())
+VERDICTS = "RFC 9309 syntax and verdicts, for URLs with usual escapes (%20, not %41)"
+KEYS = set("like args agent robots file expect old from pieces room out more rfc warn err status indented".split())
+
+
+def files_beside(case):
+    """The files of the folder in which a golden case runs, by name; if there are none, it runs in that of the repository."""
+    return {f"{key}.txt": spelled(case[key]) for key in ("expect", "old") if key in case}
 
 
 def cases_of(text):

@@ -123,7 +123,7 @@ def test_workflow_reports_what_changes(folder):
     result = ended(folder, command)
     assert result.returncode == 0 and "- Disallow: /private/ (line 2)\n" in result.stdout and "+ Disallow: / (line 2)\n" in result.stdout
     ran(folder, "git commit -q --allow-empty -m three")
-    assert "no group, delay or rule differs" in ended(folder, command).stdout
+    assert "same group, delay and rules" in ended(folder, command).stdout
 
 
 def test_workflow_reports_on_a_new_file(folder):

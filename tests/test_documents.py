@@ -167,7 +167,7 @@ def test_documents_name_functions_and_lemmas_that_exist(name):
 def test_documents_name_warnings_and_options_that_exist(name):
     """Names with a hyphen are warnings, field names or Debian's packages. Some options are those of pytest and of bench/compare.py."""
     names = set(re.findall(r"`(?!python3-)([a-z0-9]+(?:-[a-z0-9]+)+)`", DOCUMENTS[name]))
-    assert names <= {*WARNINGS, *FINDINGS, "allow-all", "crawl-delay", "deny-all", "site-map", "user-agent"}
+    assert names <= {*WARNINGS, *FINDINGS, "allow-all", "by-rules", "crawl-delay", "deny-all", "site-map", "user-agent"}
     options = set(re.findall(r"`(?:robots_audit )?(--[a-z-]+)", DOCUMENTS[name])) - {"--lf", "--google", "--results"}
     assert options <= set(re.findall(r"`(--[a-z-]+)", "".join(row[0] for row in tables(PROGRAMS))))
 
@@ -265,7 +265,7 @@ ANSWERS = {
     "Is it to AI, and open to search?": [(group("GPTBot", "Disallow: /"), 1, ["deny 2 GPTBot /", "allow - ClaudeBot /", "allow - Googlebot /"])],
     "Which known crawlers may fetch a page?": [(group("Bingbot", "Disallow: /search"), 1, ["deny 2 Bingbot /search", "allow - Googlebot /search"])],
     "Why may Bing not?": [(SEARCH, 1, ["group: * (Bingbot has no group of its own)", "deny 2 /search"])],
-    "Did an edit change a verdict?": [(group("*", "Disallow: /b", "Disallow: /a"), 0, ["so no URL's verdict does"]), (SEARCH, 1, ["verdicts change"])],
+    "Did an edit change a verdict?": [(group("*", "Disallow: /b", "Disallow: /a"), 0, ["so the same verdicts"]), (SEARCH, 1, ["verdicts change"])],
     "Which URLs of a list are denied?": [(SEARCH, 1, ["deny 2 * /search/tea", "1 allowed, 1 denied"]), (HIDDEN, 1, ["deny 2 * /b", "0 allowed, 2 denied"])],
     "Is a folder closed?": [
         ("Disallow: /private/\n", 0, ["1 expectation holds"]),

@@ -334,6 +334,6 @@ def test_manual_page_of_robots_verdict_has_the_statuses():
 def test_manual_page_says_of_an_option_what_help_says():
     page = re.sub(r"\\f[BIR]|^\.[A-Z]+ ?|\\", "", (ROOT / "man/robots_audit.1").read_text(), flags=re.M)
     usage = joined(run("robots_audit", ["--help"]).out)
-    for sentence in ["List only the URLs that are denied", "Check or compare the URLs in this file too", "Don't list the lines of the file", "Report on this crawler",
+    for sentence in ["List only the URLs that are denied", "Check or compare the URLs in this file too", "don't list the lines of the file", "Report on this crawler",
                      "Warn also of rules that aren't needed", "Give only warnings with this name", "Report instead what differs from OLD"]:  # fmt: skip
         assert sentence in usage and sentence in joined(page), sentence

@@ -210,7 +210,7 @@ CRAWLERS = """
 <tr><th scope="row"><code dir="ltr">Long</code></th><td>Long, <a href="#L4">line 4</a>; rejected: <a href="#L5">line 5</a></td>
 <td>1</td><td>none</td><td class="some">not decided</td></tr>
 <tr><th scope="row"><code dir="ltr">B</code></th><td>* (B has no group of its own), <a href="#L1">line 1</a></td>
-<td>1</td><td>2.5 s</td><td class="some">some, by its rules</td>
+<td>1</td><td>2.5 s</td><td class="by-rules">what its rules allow</td>
 <td class="denied"><code dir="ltr">/b</code>denied, <a href="#L2">line 2</a></td></tr></tbody></table></div><h2>File</h2>
 """
 
@@ -222,7 +222,7 @@ def test_table_of_crawlers():
 
 
 @pytest.mark.parametrize("agent, vendor, fetch", [
-    ("AdsBot-Google", "; but its vendor applies no group, so it may fetch all, also what is denied here", "everything"),
+    ("AdsBot-Google", "; but it ignores the group *, and obeys only one with its own name, so it may fetch all, also what is denied here", "everything"),
     ("Googlebot-Image", "; but its vendor applies another group, whose verdicts may differ", "not decided"),
 ])
 def test_page_has_what_vendors_do(agent, vendor, fetch):
@@ -241,7 +241,7 @@ def test_page_has_the_lines_and_warnings_of_the_json():
 
 
 @pytest.mark.parametrize("file, sentence", [
-    (b"User-agent: *\nDisallow: /", "RFC 9309 syntax and verdicts, for URLs in normal form"),
+    (b"User-agent: *\nDisallow: /", "RFC 9309 syntax and verdicts, for URLs with usual escapes (%20, not %41)"),
     (b"User-agent: *\nDisallow: /a$b", "RFC 9309 syntax; verdicts may differ from RFC 9309's: line 2"),
     (b"User-agent: *\nDisallow: a", "not RFC 9309 syntax, first at line 2"),
     (b"# nothing", None),
@@ -265,8 +265,8 @@ def test_page_about_all_crawlers():
     rows = [["Crawler", "Group", "Rules", "Crawl delay", "May fetch", *URLS]]
     for it in found["agents"]:
         verdicts = [one["url"] + verdict(one) for one in it["verdicts"]]
-        rows.append([it["agent"], f"{it['agent']}, line {it['group_line']}", str(it["rules"]), delay(it["delay"]), it["may_fetch"] or "some, by its rules", *verdicts])
-    assert [row[4] for row in rows] == ["May fetch", "some, by its rules", "nothing"]
+        rows.append([it["agent"], f"{it['agent']}, line {it['group_line']}", str(it["rules"]), delay(it["delay"]), it["may_fetch"].replace("by-rules", "what its rules allow"), *verdicts])
+    assert [row[4] for row in rows] == ["May fetch", "what its rules allow", "nothing"]
     assert [cells for _, cells in children(elements, "tr")][: len(rows)] == rows
     assert [row for row in children(elements, "tr") if row[0]] == rows_of({**audit("--agent=*", "-"), "warnings": found["warnings"]})
 
@@ -281,7 +281,7 @@ FILES = {
     b"\n": ("0", "everything"),
     b"User-agent: *\nAllow: /a\nAllow: /b": ("2", "everything"),
     b"User-agent: *\nDisallow: /": ("1", "nothing"),
-    b"User-agent: *\nDisallow: /a": ("1", "some, by its rules"),
+    b"User-agent: *\nDisallow: /a": ("1", "what its rules allow"),
 }
 
 

@@ -24,6 +24,7 @@ status = 1
 |---|---|
 | `args` | the arguments, separated by spaces; a named file is the first one, so that `warn` can name it |
 | `file`, `from` | standard input, or the path of a file with it |
+| `expect`, `old` | runs in a folder with a file `expect.txt` or `old.txt` of this text |
 | `agent`, `robots` | for `robots_verdict`: the input is this crawler, the URLs in `out`, and this file |
 | `out`, `err` | the lines of standard output and standard error; none if left out |
 | `warn` | instead of `err`, for each warning, also if the program counts it only, a line `[LINE] NAME [DETAIL]`; the detail is its URL, the name of one of several crawlers in quotes, or the directive that may be meant. Messages come from tests/warnings.toml |
@@ -54,7 +55,7 @@ from itertools import product
 from pathlib import Path
 
 import pytest
-from support import ROOT, WARNINGS, Result, cases_of, input_of, program, repeated, run, spelled, wanted_of, warning_lines, with_standard
+from support import ROOT, WARNINGS, Result, cases_of, files_beside, input_of, program, repeated, run, spelled, wanted_of, warning_lines, with_standard
 
 def golden():
     """The arguments of test_golden for each case, that of this module's comment too."""
@@ -115,7 +116,10 @@ def test_golden(name, case, indented, tmp_path):
             result = run_with_room(name, args, stdin, case["room"], tmp_path)
             result.out = result.out or ""
         else:
-            result = run(name, args, stdin)
+            others = files_beside(case)
+            for other, text in others.items():
+                (tmp_path / other).write_bytes(text)
+            result = run(name, args, stdin, cwd=tmp_path if others else ROOT)
     finally:
         if isinstance(stdin, int):
             os.close(stdin)
@@ -197,7 +201,7 @@ def test_many_agents():
         verdicts += "".join(f"{f'deny {2 * n}' if m == n else 'allow -'} {name} {url}\n" for m, url in enumerate(urls, 1))
     for n in range(1, 101, 2):
         text += f"User-agent: {'A' * n}_\nAllow: /none/{n}\n"
-    out += verdicts + "RFC 9309 syntax and verdicts, for URLs in normal form\n"
+    out += verdicts + "RFC 9309 syntax and verdicts, for URLs with usual escapes (%20, not %41)\n"
     assert run("robots_audit", ["-", *urls], text.encode()) == Result(1, out, "")
 
 

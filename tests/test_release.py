@@ -121,6 +121,8 @@ def test_every_file_has_the_licenses_and_no_path_of_this_machine(releases):
         if path.name.endswith("linux-x86_64.tar.gz"):
             with tarfile.open(path) as packed:
                 assert {(it.uid, it.gid, it.uname, it.gname) for it in packed} == {(0, 0, "", "")}
+                names = [it.name.split("/") for it in packed]
+                assert names == sorted(names)
         assert {"LICENSE-MIT", "LICENSE-APACHE", "LICENSE-LIBRARIES"} <= {Path(it).name for it in files}, path.name
         assert [name for name, data in files.items() if str(ROOT).encode() in data] == [], path.name
 
@@ -146,6 +148,19 @@ def test_a_folder_with_other_files_is_left_alone(tmp_path, release):
 MODULE = types.ModuleType("release")
 MODULE.__file__ = str(ROOT / "release")
 exec((ROOT / "release").read_text(), MODULE.__dict__)
+
+
+def test_what_is_older_than_its_sources_is_made_again(tmp_path, monkeypatch):
+    monkeypatch.setattr(MODULE, "CRATES", tmp_path)
+    monkeypatch.setattr(MODULE, "ROWS", {"one": ""})
+    for folder in ("one/src", "one/out"):
+        (tmp_path / folder).mkdir(parents=True)
+    source, made = tmp_path / "one/src/lib.rt", tmp_path / "one/out/made"
+    (tmp_path / "KIT-ID").touch()
+    for text, changes in [("1", source), ("2", source), ("kept", made)]:
+        changes.write_text(text)
+        os.utime(changes, (2**32, 2**32 + ["1", "2", "kept"].index(text)))
+        assert MODULE.proved("one", "made", tmp_path, "cp", "-p", "src/lib.rt", "out/made").read_text() == text
 
 
 def test_shared_objects_fit_manylinux(file, tmp_path, monkeypatch):

@@ -159,7 +159,7 @@ def test_denied_urls_alone(tmp_path):
 
 
 def test_numbers_are_those_of_all_crawlers(tmp_path):
-    out = "crawler Ferris: group * (line 1), 1 rule\ncrawler GPTBot: group GPTBot (line 4), 2 rules, may fetch only what line 6 allows\ncrawler Longbot: group Longbot (line 8), 1 rule\n"
+    out = "crawler Ferris: group * (line 1), 1 rule\ncrawler GPTBot: group GPTBot (line 4), 2 rules, may fetch only what line 6 allows: /a\ncrawler Longbot: group Longbot (line 8), 1 rule\n"
     out += "rejected for Longbot: line 9: a pattern with $ longer than 4,096 bytes isn't supported; shorten it\n"
     out += "deny 2 Ferris /private/\ndeny 5 GPTBot /b\ndeny 5 GPTBot /private/\n"
     out += "3 allowed, 3 denied\n"

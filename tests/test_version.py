@@ -13,7 +13,7 @@ QUOTED = r'"(\d+\.\d+\.\d+)'
 
 # Where the version is, as its first group, and how it is written there if it is a number or a part of it.
 PLACES = [
-    ("CHANGELOG.md", r"\A(?s:.*?)\n## (\d\S*) - \d{4}-\d\d-\d\d\n"),
+    ("CHANGELOG.md", r"\A(?s:.*?)\n## (\d+\.\d+\.\d+)"),
     ("README.md", r"\bversion (\d\S*\d)\b"),
     ("bindings/python/README.md", r"\bversion (\d\S*\d)\b"),
     ("bindings/rust/README.md", r"(?:\bversion |^texting_robots_c(?:-sys)? = .*?[-\"])(\d+\.\d+\.\d+)"),

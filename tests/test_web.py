@@ -3,6 +3,7 @@ message; a file that came with a link isn't run before somebody asks for it; and
 and in light and dark."""
 
 import base64
+import datetime
 import gzip
 import json
 import os
@@ -16,7 +17,7 @@ from types import SimpleNamespace
 import pytest
 from browser import Browser
 from library import kit
-from support import ROOT, Result, input_of, repeated, run, spelled, wanted_of
+from support import ROOT, Result, files_beside, input_of, repeated, run, spelled, wanted_of
 from test_page import HOSTILE, contrast, with_text
 from test_programs import golden
 
@@ -141,12 +142,13 @@ def cases_in_the_page():
             words = [spelled(word) for word in repeated(case.get("args", "")).split()]
             stdin = source.read_bytes() if source else input_of(case, indented)
             if "it is a folder" not in str(case.get("err")):  # a page has no folders
-                yield it.id, wanted_of(case), words, stdin
+                beside = [(os.fsencode(name), text) for name, text in files_beside(case).items()]
+                yield it.id, wanted_of(case), words, stdin, beside or opened_by(words)
 
 
 def test_golden_cases(page):
     cases = [*cases_in_the_page()]
-    given = [[[text_of(it) for it in (b"robots_audit", *words)], text_of(stdin), [[*map(text_of, it)] for it in opened_by(words)]] for *_, words, stdin in cases]
+    given = [[[text_of(it) for it in (b"robots_audit", *words)], text_of(stdin), [[*map(text_of, it)] for it in files]] for *_, words, stdin, files in cases]
     results = page.value(f"{RUN_ALL}('{text_of(gzip.compress(json.dumps(given).encode(), 1))}')")
     results = [Result(status, base64.b64decode(out), base64.b64decode(err)) for status, out, err in results]
     assert [(case[0], result, case[1]) for case, result in zip(cases, results, strict=True) if result != case[1]][:3] == []
@@ -156,6 +158,8 @@ def test_golden_cases(page):
 def test_example_of_the_readme(page):
     assert page.value("status_.textContent") == "A URL is denied to a crawler."
     assert shown(page) == audited(page, EXAMPLE, "--agent=FerrisBot")
+    earliest = datetime.date.today().isoformat()
+    assert earliest <= page.value("today()") <= datetime.date.today().isoformat()
     click(page, "needless")
     ended(page)
     assert shown(page) == audited(page, EXAMPLE, "--agent=FerrisBot", "--needless")

@@ -211,6 +211,7 @@ def test_agents_that_are_not_named_share_the_group_of_all():
         assert robots.verdicts(["/all", "/ferris"], agent) == [Verdict(False, 2), Verdict(True, None)]
     assert robots.verdicts(["/all", "/ferris"], "FERRISBOT") == [Verdict(True, None), Verdict(False, 4)]
     assert robots.allowed("/", "")
+    assert robots._site.robot("FERRISBOT") is robots._site.robot("FERRISBOT")
     kept = {agent: robot._opened for agent, robot in robots._site.robots.items()}
     assert kept[""] == kept["OtherBot"] == kept["Ferris"] != kept["FERRISBOT"]
 
@@ -319,6 +320,7 @@ def test_the_file_limit():
     whole = b"User-agent: *\nDisallow: /\n" + filler
     assert not Robots(whole).allowed("/x", "FerrisBot")
     assert len(pickle.dumps(Robots(whole))) < FILE_LIMIT + 1000
+    assert Robots(array.array("H", bytes(FILE_LIMIT + 2))).size == FILE_LIMIT
     assert repr(Robots(whole)) == f"<Robots of {FILE_LIMIT} bytes>"
     rule = b"\nUser-agent: *\nDisallow: /x"
     for over, line in [(0, None), (1, 3)]:  # with one byte too many, the rule is cut to `Disallow: /`

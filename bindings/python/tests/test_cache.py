@@ -79,6 +79,11 @@ def test_what_to_do_for_a_url(caches):
         cache.look("ftp://a.example/")
 
 
+def test_half_of_a_short_lifetime(caches):
+    site, _ = fetched(caches(lifetime=600), A, file())
+    assert (site.refresh, site.expires) == (caches.clock.now + 300, caches.clock.now + 600)
+
+
 def test_an_older_file_counts_while_a_newer_one_is_fetched_in_time(caches):
     cache = caches()
     old, _ = fetched(cache, A, file())
@@ -157,6 +162,17 @@ def test_a_file_that_has_not_changed(caches):
         assert "If-None-Match" not in cache.look(f"http://{number}.example").fetch.headers
 
 
+def test_a_file_that_has_not_changed_is_an_answer(caches):
+    """Its server doesn't fail any more."""
+    cache = caches()
+    fetched(cache, A, file(ETag='"1"'))
+    caches.clock.now += DAY
+    assert fetched(cache, A, BUSY)[0].is_failing
+    caches.clock.now += 300
+    site, _ = fetched(cache, A, (304, {}, b""))
+    assert (site.is_failing, site.expires) == (False, caches.clock.now + DAY)
+
+
 def test_a_site_that_joins_another_gets_the_file_that_has_not_changed_there(caches):
     """Its own file before had the same version, by accident."""
     cache = caches()
@@ -167,6 +183,17 @@ def test_a_site_that_joins_another_gets_the_file_that_has_not_changed_there(cach
     assert cache.received(other, *moved(HTTPS)) == ({}, None)
     known = cache.received(one, 304, {}, b"").known
     assert [cache.decide(known[address], "http://a.example/", "x").allowed for address in (HTTPS, A)] == [True, True]
+
+
+def test_two_versions_of_a_file(caches):
+    """Neither is asked for, if one site knows this one and another that one."""
+    cache = caches()
+    fetched(cache, HTTP, moved(HTTPS), file(ETag='"1"'))
+    caches.clock.now += 23 * HOUR
+    fetched(cache, HTTPS, file(ETag='"2"'))
+    caches.clock.now += 23 * HOUR
+    step = cache.received(cache.look(HTTP).fetch, *moved(HTTPS))
+    assert step.fetch.address == HTTPS and "If-None-Match" not in step.fetch.headers
 
 
 def test_http_and_https_of_one_chain_are_fetched_once(caches):
@@ -206,7 +233,7 @@ def test_a_redirect_to_a_file_that_can_not_be_reached(caches):
 
 def test_redirects_are_counted_for_each_site(caches):
     """The sixth in a row is a missing file, but not for a site that is asked later in the row."""
-    steps = [moved(f"http://a.example/{number}") for number in range(4)]
+    steps = [moved(f"/{number}") for number in range(4)]
     cache = caches()
     site, asked = fetched(cache, A, *steps, moved(A), file())
     assert site.state is State.FILE and len(asked) == 6
@@ -301,6 +328,14 @@ def test_a_file_is_parsed_again_rather_than_fetched(caches):
     assert caches.events["evicted"] == 200 - len(kept)
 
 
+def test_what_was_evicted_is_not_kept_again(caches):
+    """Also if it is still used."""
+    cache = caches(budget=1)
+    old, new = (fetched(cache, f"http://{name}.example", file())[0] for name in "ab")
+    assert not cache.decide(old, "http://a.example/private/", "x").allowed
+    assert old.rules is None and new.rules
+
+
 def test_the_memory_of_each_crawler_counts(caches):
     cache = caches()
     site, _ = fetched(cache, A, file(b"".join(b"User-agent: b%d\nDisallow: /%d\n\n" % (number, number) for number in range(50))))
@@ -330,6 +365,18 @@ def test_a_database_keeps_what_a_server_answered(caches, tmp_path):
     caches.clock.now += 40 * DAY
     caches(database=path)
     assert sqlite3.connect(path).execute("SELECT COUNT(*) FROM sites").fetchone() == (0,)
+
+
+def test_a_database_keeps_that_a_server_fails(caches, tmp_path):
+    """So the file counts on after the next start."""
+    path = str(tmp_path / "robots.sqlite3")
+    cache = caches(database=path)
+    fetched(cache, A, file())
+    caches.clock.now += DAY
+    fetched(cache, A, BUSY)
+    cache.close()
+    caches.clock.now += 300
+    assert caches(database=path).look(A)[0] is Action.REFRESH
 
 
 def test_a_clock_that_was_wrong(caches, tmp_path):
@@ -370,8 +417,8 @@ def test_with_a_database_nothing_is_fetched_again(caches, tmp_path):
 
 def test_sitemaps_are_told_once(caches):
     cache = caches(lifetime=0)
-    for names in ["a", "a", "ab", "", "ab"]:
-        fetched(cache, A, file(RULES + b"".join(b"Sitemap: /%c\n" % it for it in names.encode())))
+    for number, names in enumerate(["a", "a", "ab", "", "ab"]):
+        fetched(cache, A, file(b"# %d\n" % number + b"".join(b"Sitemap: /%c\n" % it for it in names.encode())))
     assert caches.sitemaps == [(A, ["/a"]), (A, ["/a", "/b"]), (A, ["/a", "/b"])]
 
 
@@ -383,6 +430,8 @@ def test_a_file_that_takes_too_long(caches):
     assert cache.decide(site, "http://a.example/short", "x").allowed
     assert cache.decide(site, "http://a.example/a7b", "x") == (False, 9, "")
     assert cache.decide(site, "http://a.example/" + "a" * 2000, "x") == (False, None, "a verdict may take too long")
+    cache = caches(cost_limit=5)
+    assert cache.decide(fetched(cache, A, file())[0], "http://a.example/private/", "x").problem == "a verdict may take too long"
     cache = caches(cost_limit=10**9)
     assert cache.decide(fetched(cache, A, file(body))[0], "http://a.example/" + "a" * 2000, "x").allowed
 

@@ -112,6 +112,12 @@ def test_whole_user_agents(parse, user_agent, denied, delay):
 
 
 @pytest.mark.parametrize("parse", BOTH)
+def test_a_name_with_a_space_comes_before_its_front(parse):
+    parser = parse("User-agent: Tea\nDisallow: /\nUser-agent: Tea House\nDisallow: /a")
+    assert fetchable(parser, "/b", "Tea House/1.0") and not fetchable(parser, "/b", "Tea/1.0")
+
+
+@pytest.mark.parametrize("parse", BOTH)
 def test_no_path_is_the_root(parse):
     assert not fetchable(parse("User-agent: *\nDisallow: /"), "", "FerrisBot") and fetchable(parse("User-agent: *\nDisallow: /a"), "", "FerrisBot")
 

@@ -326,6 +326,15 @@ def test_stats(caplog):
     ]
 
 
+def test_a_warning_while_an_older_file_counts_on(caplog):
+    robots, crawler = ours(file(), TEXTING_ROBOTS_LIFETIME=0)
+    assert allowed(robots, "http://a.example/")
+    crawler.engine.answer = file(status=503)
+    assert allowed(robots, "http://a.example/")
+    warnings = [it.getMessage() for it in caplog.records if it.levelname == "WARNING"]
+    assert warnings == ["http://a.example/robots.txt can't be fetched: status 503"]
+
+
 def test_what_goes_without_a_file():
     robots, crawler = ours(file(CLOSED))
     assert allowed(robots, "http://a.example/", meta={"dont_obey_robotstxt": True})
@@ -452,3 +461,6 @@ def test_slots_that_no_longer_matter_are_forgotten():
     for slot in slots:
         pace.enter(slot)
     assert list(pace._stays) == [slots[1], slots[2], slots[8]]
+    pace.leave(slots[8])
+    pace.enter(slots[0])
+    assert list(pace._stays) == [slots[1], slots[2], slots[8], slots[0]]

@@ -196,12 +196,14 @@ def test_requests_wait_outside_of_the_limit_of_the_downloader():
 
 
 def test_requests_go_back_when_the_spider_is_closed():
+    """Those of other code than the spider's never wait."""
     robots, crawler, _, outcomes = waiting(2)
+    assert isinstance(outcome(robots, Request("http://a.example/x", NO_CALLBACK))[0], Unreachable)
     robots._parking._end_of_spider()
     assert outcomes == [[], []]
     crawler.engine.slot.closing = object()
     robots._parking._end_of_spider()
-    assert [it[0].dont_filter for it in outcomes] == [True, True] and not robots._parking._timers
+    assert [it[0].dont_filter for it in outcomes] == [True, True] and not robots._parking._timers and not robots._parking._count
 
 
 def test_requests_that_have_waited_for_too_long():

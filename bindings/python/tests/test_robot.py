@@ -13,7 +13,7 @@ import package
 import pytest
 from library import random_case
 
-from texting_robots import AgentError, OverlongRuleError, Robot, Robots, TooCostlyError, Verdict
+from texting_robots import AgentError, OverlongRuleError, Robot, Robots, TooCostlyError, Verdict, _robots
 
 SHOP = b"User-agent: *\nDisallow: /search # \xff\nAllow: /search/help\nCrawl-delay: 2.5\nSitemap: /s.xml\n"
 URLS = ["/search", "/search/help", "https://example.com/s\u00e9arch", ""]
@@ -41,7 +41,7 @@ def test_a_robots_of_one_agent_takes_the_memory_of_a_robot_and_of_the_file():
     assert robots.allowed("/", "x") and robots.size > 2 * len(file) + robot.size
 
 
-def test_its_errors():
+def test_its_errors(monkeypatch):
     overlong = b"User-agent: a\nDisallow: /" + b"a" * 5000 + b"$"
     with pytest.raises(OverlongRuleError) as error:
         Robot(overlong, "a")
@@ -58,6 +58,9 @@ def test_its_errors():
         Robot(SHOP, "x").verdict_within("/search/help", 1)
     with pytest.raises(TypeError):
         pickle.dumps(Robot(SHOP, "x"))
+    monkeypatch.setattr(_robots, "_query", lambda *_: _robots.lib.NO_RESULT - _robots.lib.ROBOTS_OUT_OF_MEMORY)
+    with pytest.raises(MemoryError):
+        Robot(SHOP, "x").allowed("/")
 
 
 # ---- columns
@@ -152,7 +155,7 @@ def test_a_column_of_arrow(kind, before):
 
 def test_other_columns_of_arrow():
     results = array("q", [7])
-    for wrong in (Arrow(["/a"], b"l"), Arrow(["/a"], nulls=1)):
+    for wrong in (Arrow(["/a"], b"l"), Arrow(["/a"], nulls=1), Arrow(["/a"], nulls=-1)):
         with pytest.raises(TypeError, match="^urls has the type Arrow: it has to be an array of strings of Arrow without nulls"):
             Robot(SHOP, "x").decide(wrong, results)
     with pytest.raises(ValueError, match="^results has less room"):

@@ -10,9 +10,23 @@ from support import CC, Result, compiled, run
 NATIVE = Path(__file__).resolve().parent.parent / "native"
 
 PROGRAM = r"""
+#include <stdatomic.h>
+static void meanwhile(void);
+#undef atomic_compare_exchange_strong
+#define atomic_compare_exchange_strong(at, known, made) \
+    (meanwhile(), atomic_compare_exchange_strong_explicit(at, known, made, memory_order_seq_cst, memory_order_seq_cst))
 #include "shared.c"
 #include <pthread.h>
 #include <stdio.h>
+
+/* The site whose robot another thread opens while this one does. */
+static struct site *contended;
+
+static void meanwhile(void) {
+    struct site *site = contended;
+    if (site != NULL)
+        contended = NULL, robot_close(robot_open(site, "two", 3));
+}
 
 static int failures;
 
@@ -89,7 +103,11 @@ int main(void) {
     check("robots of a file", robot_query(one, "/a", 2) == -2 && robot_bytes(one) > 0 && robot_overlong_line(own) == 6);
     robot_close(one);
     robot_close(own);
-    site_close(site_open("", 0));
+    check("a file that isn't kept", file_matrix("x", 1, file, strlen(file), "/a", 2, results, 2) == ROBOTS_OK && results[0] == -2);
+    site = contended = site_open("", 0);
+    robot_close(robot_open(site, "one", 3));
+    check("two threads at once", contended == NULL);
+    site_close(site);
     share();
     return failures;
 }

@@ -177,7 +177,8 @@ fn verdicts_of(
     verdicts_for(alloc, agent, older, newer, budget)
 }
 
-/// The budget bounds how long rules are compared on all URLs.
+/// The budget bounds how long rules are compared on all URLs, and an eighth of it how long those of each file
+/// are by themselves.
 pub(crate) fn compared_for<'a>(
     alloc: Global,
     agent: &'a str,
@@ -192,8 +193,8 @@ pub(crate) fn compared_for<'a>(
         (lines_read older.now.bytes.now) (lines_read newer.now.bytes.now) agent.now) }
     ensures fault { IfErr result (λ fault. fault ≡ Fault.Memory) }
 {
-    let older_audit = audit_for(alloc, agent, older, urls)?;
-    let newer_audit = audit_for(alloc, agent, newer, urls)?;
+    let older_audit = audit_for(alloc, agent, older, urls, budget / 8)?;
+    let newer_audit = audit_for(alloc, agent, newer, urls, budget / 8)?;
     let rules = rule_changes(alloc, agent, &older.site, &newer.site)?;
     let changes = changes_between(alloc, &rules, &older_audit, &newer_audit)?;
     let verdicts = verdicts_of(alloc, agent, older, newer, &rules, budget)?;

@@ -6,7 +6,7 @@ ghost use Rattle.audit_compare.specs.Compare.{sitemap_changes, sitemap_name};
 
 use crate::compare::{Comparison, Side};
 use crate::compared::Compared;
-use crate::differences::{Section, add_crawler, all_unchanged, is_unchanged};
+use crate::differences::{Section, add_crawler, is_unchanged};
 use audit_core::findings::{Findings, add};
 use printable_text::level::Level;
 use printable_text::report::{Line, Report, Untrusted};
@@ -141,20 +141,30 @@ fn write_messages(out: &mut Report, found: &Findings) -> fmt::Result {
     Ok(())
 }
 
+fn write_names(out: &mut Report, crawlers: &[Compared<'_>], number: usize) -> fmt::Result {
+    out.write_str(if number == 1 { "crawler " } else { "crawlers " })?;
+    let mut is_first = true;
+    for compared in crawlers.iter().filter(|compared| is_unchanged(compared)) {
+        let (front, agent) = (if is_first { "" } else { ", " }, compared.agent);
+        write!(out, "{front}{agent}")?;
+        is_first = false;
+    }
+    Ok(())
+}
+
 /// Writes which crawlers are unchanged, if some are.
 fn write_unchanged(out: &mut Report, crawlers: &[Compared<'_>]) -> fmt::Result {
-    if !crawlers.iter().any(is_unchanged) {
-        return Ok(());
-    }
-    match crawlers {
-        [compared] => {
-            let agent = compared.agent;
-            write!(out, "crawler {agent}")?;
-        }
-        _ if all_unchanged(crawlers) => out.write_str("all compared crawlers")?,
+    let number = crawlers
+        .iter()
+        .filter(|compared| is_unchanged(compared))
+        .count();
+    match number {
+        0 => return Ok(()),
+        _ if number > 1 && number == crawlers.len() => out.write_str("all compared crawlers")?,
+        1..=5 => write_names(out, crawlers, number)?,
         _ => out.write_str("other compared crawlers")?,
     }
-    out.write_str(": no group, delay or rule differs, so no URL's verdict does")?;
+    out.write_str(": same group, delay and rules, so the same verdicts")?;
     out.end_line()
 }
 

@@ -85,24 +85,6 @@ sitemaps_next labels at labeled below =
     ap (λ labels. sitemaps_in (lines_of (map label_by_value labels))) (drop_more labels at labeled below)
     ∙ filter_map-append sitemap_in here later
 
-none_at : (number : ℕ) (line : LineValue) → is_sitemap line ≡ false → sitemap_at number line ≡ []
-none_at number (Sitemap url) isnt = absurd (false≢true (sym isnt))
-none_at number line isnt = refl
-
-none_asked : (labels : List LabeledLine)
-    → list_any (λ labeled. is_sitemap (by_value labeled.line)) labels ≡ false
-    → all_sitemaps (map label_by_value labels) ≡ []
-none_asked [] none = refl
-none_asked (labeled ∷ labels) none = grind (arith, none_at, none_asked labels)
-
-pub without_sitemaps : (lines : List LineValue) (labels : List LabeledLine)
-    → list_any (λ labeled. is_sitemap (by_value labeled.line)) labels ≡ false
-    → sitemaps_asked lines (map label_by_value labels) ≡ []
-without_sitemaps lines labels none = elim (cases_Bool (is_some (line_closing lines (codes "*")))) [
-  | inl closed ↦ rw closed refl
-  | inr not_closed ↦ rw not_closed (none_asked labels none)
-]
-
 pub none_added : (rules : List PlacedRule) (found : List WarningValue) → AddsSitemaps rules [] found found
 none_added rules found = record { verdicts = []; are = tt; added = sym (append-nil found) }
 
@@ -113,8 +95,8 @@ zips_joined R [] (y ∷ ys) more others are too = absurd are
 zips_joined R (x ∷ xs) [] more others are too = absurd are
 zips_joined R (x ∷ xs) (y ∷ ys) more others are too = (are.0, zips_joined R xs ys more others are.1 too)
 
-warnings_joined : (rules : List PlacedRule) (one two : List (ℕ × List ℕ))
-    (verdicts others : List VerdictValue) → AllZip (IsVerdictOn rules) (map (λ sitemap. sitemap.1) one) verdicts
+warnings_joined : (rules : List PlacedRule) (one two : List (ℕ × List ℕ)) (verdicts others : List VerdictValue)
+    → AllZip (IsVerdictOn rules) (map (λ sitemap. sitemap.1) one) verdicts
     → warnings_of (one ++ two) (verdicts ++ others) ≡ warnings_of one verdicts ++ warnings_of two others
 warnings_joined rules [] two [] others are = refl
 warnings_joined rules [] two (verdict ∷ verdicts) others are = absurd are
@@ -147,20 +129,10 @@ pub sitemaps_more : (labels : List LabeledLine) (at : ℕ) (labeled : LabeledLin
 sitemaps_more labels at labeled below =
     rw (take_more labels at labeled below) (simp (map-append, flat_map-append, append-nil))
 
-pub some_length : {X : Type 0} (x : X) (xs : List X) → (length (x ∷ xs) == 0) ≡ true → ⊥
-some_length x xs is = let none : length (x ∷ xs) ≡ 0 = (Decides-eqb (length (x ∷ xs)) 0).0 is in omega arith
-
 pub none_of : {X : Type 0} (xs : List X) → (length xs == 0) ≡ true → xs ≡ []
 none_of [] is = refl
-none_of (x ∷ xs) is = absurd (some_length x xs is)
-
-pub zip_push : {B V : Type 0} (R : B → V → Type 0) (items : List B) (found : List V) (item : B) (next : V)
-    → AllZip R items found → R item next → AllZip R (items ++ item ∷ []) (found ++ next ∷ [])
-zip_push R [] [] item next are is = (is, tt)
-zip_push R [] (_ ∷ _) item next are is = absurd are
-zip_push R (_ ∷ _) [] item next are is = absurd are
-zip_push R (_ ∷ items) (_ ∷ found) item next (first, later) is =
-    (first, zip_push R items found item next later is)
+none_of (x ∷ xs) is =
+    let none : length (x ∷ xs) ≡ 0 = (Decides-eqb (length (x ∷ xs)) 0).0 is in absurd (omega arith)
 
 pub zip_next : {A B V : Type 0} (R : B → V → Type 0) (f : A → B) (items : List A) (place : ℕ) (item : A)
     (found : List V) (next : V) → place < length items → AllZip R (map f (take place items)) found
@@ -168,7 +140,8 @@ pub zip_next : {A B V : Type 0} (R : B → V → Type 0) (f : A → B) (items : 
     → AllZip R (map f (take (place + 1) items)) (found ++ next ∷ [])
 zip_next R f items place item found next below are is =
     rw (take_more items place item below, map-append)
-    (zip_push R (map f (take place items)) found (f (slice_index_or items place item)) next are is)
+    (zips_joined R (map f (take place items)) found (f (slice_index_or items place item) ∷ []) (next ∷ [])
+    are (is, tt))
 
 verdicts_like : (rules others : List PlacedRule) → AnswerAlike rules others
     → (urls : List (List ℕ)) (verdicts : List VerdictValue) → AllZip (IsVerdictOn rules) urls verdicts

@@ -72,7 +72,8 @@ no_line (line ∷ lines) none has = absurd (cc)
 module _ (rules : List PlacedRule) (closing : PlacedRule) (listed : Contains rules closing)
     (closes : is_closing closing ≡ true) (rest : List ℕ) where
   abbrev opens : PlacedRule → Bool
-  opens placed = is_long_allow (length closing.rule.0) placed && matches true placed.rule.0 (codes "/" ++ rest)
+  opens placed =
+      is_long_allow (length closing.rule.0) placed && matches true placed.rule.0 (codes "/" ++ rest)
 
   shorter : (allow : PlacedRule) → opens allow ≡ false → allow.rule.1 ≡ true
       → Matches allow.rule.0 (codes "/" ++ rest) → length allow.rule.0 < length closing.rule.0
@@ -101,23 +102,26 @@ module _ (rules : List PlacedRule) (closing : PlacedRule) (listed : Contains rul
         listed = (k, below, at);
         allows = (and_parts _ _ long).0;
         matches = (matches_decides true allow.rule.0 (codes "/" ++ rest)).0 same;
-        in_line = rw are (to_map line_of _ allow (to_filter (is_long_allow _) rules allow (k, below, at) long));
+        in_line = rw are
+            (to_map line_of _ allow (to_filter (is_long_allow _) rules allow (k, below, at) long));
       }
 
 module _ (rules : List PlacedRule) (closing : PlacedRule) (lines : List ℕ) (listed : Contains rules closing)
     (closes : is_closing closing ≡ true)
     (are : lines ≡ map line_of (filter (is_long_allow (length closing.rule.0)) rules)) where
   pub fetches_listed : IsReach rules Listed lines
-  fetches_listed rest differs allowed = elim (cases_Bool (list_any (opens rules closing listed closes rest) rules)) [
-    | inl some ↦ opened rules closing listed closes rest lines are some
-    | inr none ↦ absurd (allowed (denied rules closing listed closes rest none differs))
-  ]
+  fetches_listed rest differs allowed =
+      elim (cases_Bool (list_any (opens rules closing listed closes rest) rules)) [
+        | inl some ↦ opened rules closing listed closes rest lines are some
+        | inr none ↦ absurd (allowed (denied rules closing listed closes rest none differs))
+      ]
 
   pub fetches_nothing : lines ≡ [] → IsReach rules Nothing lines
-  fetches_nothing none rest differs = elim (cases_Bool (list_any (opens rules closing listed closes rest) rules)) [
-    | inl some ↦ absurd (no_line lines none (opened rules closing listed closes rest lines are some).in_line)
-    | inr none ↦ denied rules closing listed closes rest none differs
-  ]
+  fetches_nothing none rest differs =
+      elim (cases_Bool (list_any (opens rules closing listed closes rest) rules)) [
+        | inl some ↦ absurd (no_line lines none (opened rules closing listed closes rest lines are some).in_line)
+        | inr none ↦ denied rules closing listed closes rest none differs
+      ]
 
 -- ---- Rules that have the verdicts of one Disallow of `/`, or of no rule.
 
@@ -130,5 +134,6 @@ pub like_plain : (is_open : Bool) (rules others : List PlacedRule) → others �
 like_plain true rules others are same = λ rest.
     (same rest true).1 (rw are (fetches_everything [] [] refl rest))
 like_plain false rules others are same = λ rest differs.
-    (same rest false).1 (rw are (fetches_nothing (plain_rules false) plain_closing [] (0, omega arith, refl) refl refl refl rest
+    (same rest false).1
+    (rw are (fetches_nothing (plain_rules false) plain_closing [] (0, omega arith, refl) refl refl refl rest
     differs))

@@ -1,12 +1,17 @@
 -- What a crawler may fetch, in a word.
 use Rattle.std.specs.Prelude.{ℕ, List, None, Option, Some, codes}
+use Rattle.audit_core.specs.declared.group.AtVendor.{AtVendor, TheVariants.Same}
 use Rattle.audit_core.specs.declared.reach.Reach.{Reach}
-use Rattle.audit_core.specs.declared.reach.Reach.TheVariants.{Everything, Listed, Nothing}
+use Rattle.audit_core.specs.declared.reach.Reach.TheVariants.{Everything, Listed, Nothing, Part}
 
--- the word for what a crawler may fetch, if something is said of it; if the file is rejected for it,
--- there are no verdicts, and nothing is said
-abbrev pub may_fetch : (rejected : Option ℕ) → Reach → Option (List ℕ)
-may_fetch None Everything = Some (codes "everything")
-may_fetch None Nothing = Some (codes "nothing")
-may_fetch None Listed = Some (codes "listed")
-may_fetch rejected reach = None
+abbrev pub reach_word : Reach → List ℕ
+reach_word Everything = codes "everything"
+reach_word Nothing = codes "nothing"
+reach_word Listed = codes "listed"
+reach_word Part = codes "by-rules"
+
+-- the word for what a crawler may fetch; nothing is said if the file is rejected for it, or if its vendor
+-- applies another group
+abbrev pub may_fetch : (rejected : Option ℕ) → AtVendor → Reach → Option (List ℕ)
+may_fetch None Same reach = Some (reach_word reach)
+may_fetch rejected vendor reach = None

@@ -16,7 +16,7 @@ use crate::chosen::choose;
 use crate::fault::Fault;
 use crate::group::{AtVendor, Group, at_vendor, group_of, naming_line};
 use crate::needless::{add_needless, needless_rules};
-use crate::reach::{Reach, reach_of};
+use crate::reach::{BUDGET, Reach, reach_of};
 use crate::request::Request;
 use crate::sitemaps::warn_of_sitemaps;
 use rfc9309_laws::conformance::{Conformance, conformance_of};
@@ -154,12 +154,15 @@ fn reach_for(
     vendor: AtVendor,
     reading: &Reading,
     rules: &[Rule],
+    budget: usize,
 ) -> Result<(Reach, Vec<usize>), AllocError>
     ensures reach { IfOk result (λ found. IsReach rules.now found.0 found.1.items) }
     ensures own { IfOk result (λ found. (vendor ≡ AtVendor.Same) ⊎ (found.0 ≡ Reach.Part)) }
 {
     match reading {
-        Reading::Accepted(robot) if vendor == AtVendor::Same => reach_of(alloc, robot, rules),
+        Reading::Accepted(robot) if vendor == AtVendor::Same => {
+            reach_of(alloc, robot, rules, budget)
+        }
         _ => Ok((Reach::Part, Vec::new(alloc))),
     }
 }
@@ -177,6 +180,7 @@ fn agent_audit<'a>(
     reading: &Reading,
     read: &FileRead<'_>,
     urls: &[&'a str],
+    budget: usize,
 ) -> Result<AgentAudit<'a>, Fault>
     requires read { IsRead read.now }
     requires reading { IsReading agent.now read.now.bytes.now reading.now }
@@ -186,7 +190,7 @@ fn agent_audit<'a>(
 {
     let rules = rules_of(alloc, &read.site, agent)?;
     let vendor = at_vendor(agent, &read.site);
-    let (reach, allows) = reach_for(alloc, vendor, reading, &rules)?;
+    let (reach, allows) = reach_for(alloc, vendor, reading, &rules, budget)?;
     let (rejected, verdicts) = ruling(alloc, reading, urls)?;
     Ok(AgentAudit {
         agent,
@@ -202,12 +206,13 @@ fn agent_audit<'a>(
     })
 }
 
-/// What the file means for one crawler.
+/// What the file means for one crawler. The budget bounds how long its rules are compared on all paths.
 pub fn audit_for<'a>(
     alloc: Global,
     agent: &'a str,
     read: &FileRead<'_>,
     urls: &[&'a str],
+    budget: usize,
 ) -> Result<AgentAudit<'a>, Fault>
     requires { IsRead read.now }
     ensures ok { IfOk result (λ audit. IsAgentAudit (map (λ url. url.now) urls.now)
@@ -215,7 +220,7 @@ pub fn audit_for<'a>(
     ensures fault { IfErr result (λ fault. fault ≡ Fault.Memory) }
 {
     let reading = read_for(alloc, agent, read)?;
-    agent_audit(alloc, agent, &reading, read, urls)
+    agent_audit(alloc, agent, &reading, read, urls, budget)
 }
 
 /// The same. `star` is how the file is read for `*`.
@@ -225,6 +230,7 @@ fn audit_beside<'a>(
     star: &Reading,
     read: &FileRead<'_>,
     urls: &[&'a str],
+    budget: usize,
 ) -> Result<AgentAudit<'a>, Fault>
     requires read { IsRead read.now }
     requires star { IsReading (codes "*") read.now.bytes.now star.now }
@@ -233,9 +239,9 @@ fn audit_beside<'a>(
     ensures fault { IfErr result (λ fault. fault ≡ Fault.Memory) }
 {
     if agent == "*" {
-        return agent_audit(alloc, agent, star, read, urls);
+        return agent_audit(alloc, agent, star, read, urls, budget);
     }
-    audit_for(alloc, agent, read, urls)
+    audit_for(alloc, agent, read, urls, budget)
 }
 
 fn agent_audits<'a>(
@@ -251,9 +257,10 @@ fn agent_audits<'a>(
         (lines_read read.now.bytes.now)) (map (λ agent. agent.now) agents.now) audits.items) }
     ensures fault { IfErr result (λ fault. fault ≡ Fault.Memory) }
 {
+    let budget = BUDGET / agents.len().max(1);
     let mut audits = Vec::with_capacity(alloc, agents.len())?;
     for agent in agents {
-        audits.push(audit_beside(alloc, agent, star, read, urls)?)?;
+        audits.push(audit_beside(alloc, agent, star, read, urls, budget)?)?;
     }
     Ok(audits)
 }

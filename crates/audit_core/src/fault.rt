@@ -19,7 +19,7 @@ use std::fmt::Write;
 pub enum Flaw {
     /// It isn't of the form `allow AGENT URL`, or with another of four words.
     Form,
-    /// No rule may have this pattern, or none that is a path or a path after a star.
+    /// No rule may have this pattern, it starts as none that matches a path, or something follows a `$`.
     Pattern,
     NotUtf8,
     /// No crawler has this name.
@@ -175,7 +175,8 @@ fn flaw_text(flaw: Flaw) -> &'static str {
         Flaw::Form =>
             "write \"allow AGENT URL\" or \"deny AGENT URL\", or for a pattern allow-all or deny-all",
         Flaw::Pattern =>
-            "a pattern starts with / or *, has no #, and if it has a $ at most 4,096 bytes",
+            "a pattern starts with / or *, has no #, a $ only at its end (a rule with text after it matches nothing), \
+            and with a $ at most 4,096 bytes",
         Flaw::NotUtf8 => "the line isn't valid UTF-8",
         Flaw::Agent => "a crawler's name is a product token without a version, such as Googlebot",
         Flaw::Url =>

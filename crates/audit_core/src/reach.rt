@@ -22,8 +22,11 @@ pub enum Reach {
     Part,
 }
 
-/// Bounds a comparison of a crawler's rules on all paths.
-const BUDGET: usize = 10_000;
+/// Bounds how long the rules of all crawlers of a file are compared on all paths.
+pub(crate) const BUDGET: usize = 4_000_000;
+
+/// The same for one crawler.
+const MOST: usize = 10_000;
 
 /// How many patterns are tried as paths.
 const TRIES: usize = 8;
@@ -122,23 +125,30 @@ fn plain_rules(alloc: Global, is_open: bool) -> Result<Vec<Rule>, AllocError>
 }
 
 /// Everything or nothing, if that is found by comparing.
-fn whole_reach(alloc: Global, is_open: bool, rules: &[Rule]) -> Result<Reach, AllocError>
+fn whole_reach(
+    alloc: Global,
+    is_open: bool,
+    rules: &[Rule],
+    budget: usize,
+) -> Result<Reach, AllocError>
     ensures { IfOk result (λ reach. IsReach rules.now reach []) }
 {
     let others = plain_rules(alloc, is_open)?;
-    let mut budget = BUDGET;
-    match compare(alloc, b"/", rules, &others, &mut budget)? {
+    let mut left = budget.min(MOST);
+    match compare(alloc, b"/", rules, &others, &mut left)? {
         Comparison::Same if is_open => Ok(Reach::Everything),
         Comparison::Same => Ok(Reach::Nothing),
         _ => Ok(Reach::Part),
     }
 }
 
-/// What the rules allow; if that is listed, with the lines of the Allows. The robot has the same rules.
+/// What the rules allow; if that is listed, with the lines of the Allows. The robot has the same rules. The
+/// budget bounds how long they are compared.
 pub(crate) fn reach_of(
     alloc: Global,
     robot: &Robot,
     rules: &[Rule],
+    budget: usize,
 ) -> Result<(Reach, Vec<usize>), AllocError>
     ensures { IfOk result (λ found. IsReach rules.now found.0 found.1.items) }
 {
@@ -151,7 +161,7 @@ pub(crate) fn reach_of(
     if is_mixed(robot, is_open, rules) {
         return Ok((reach, lines));
     }
-    match whole_reach(alloc, is_open, rules)? {
+    match whole_reach(alloc, is_open, rules, budget)? {
         Reach::Part => Ok((reach, lines)),
         whole => Ok((whole, Vec::new(alloc))),
     }

@@ -1,8 +1,7 @@
 //! The sitemaps that a file lists, and the warnings about those that the rules for `*` deny.
 ghost use Rattle.std.specs.Prelude.{◌≡◌, ◌++◌, ◌∷◌, [], ℕ, IfErr, IfOk, List, OnOk, codes, map};
-ghost use Rattle.std.specs.{List.list_any, Option.option_to_list};
+ghost use Rattle.std.specs.{Option.option_to_list};
 ghost use Rattle.texting_robots.specs.Callers.{by_value, label_by_value, lines_read, sitemaps_in};
-ghost use Rattle.texting_robots.specs.Line.{is_sitemap};
 ghost use Rattle.robots_warnings.specs.{File.lines_of, Internal.Adds, Message.WarningValue, Read.IsRead};
 ghost use Rattle.audit_core.specs.Audit.{AreOfSitemaps, all_sitemaps, sitemap_at, sitemap_warning};
 ghost use Rattle.audit_core.specs.Internal.{AddsSitemaps, IsReading};
@@ -47,18 +46,6 @@ pub fn sitemaps_of<'a>(
         add_sitemap(&mut sitemaps, labeled.line)?;
     }
     Ok(sitemaps)
-}
-
-fn is_sitemap(labeled: &LabeledLine<'_>) -> bool
-    ensures { result ≡ is_sitemap (by_value labeled.now.line) }
-{
-    matches!(labeled.line, Line::Sitemap(_))
-}
-
-fn has_sitemap(labels: &[LabeledLine<'_>]) -> bool
-    ensures { result ≡ list_any (λ labeled. is_sitemap (by_value labeled.line)) labels.now }
-{
-    labels.iter().any(is_sitemap)
 }
 
 /// The sitemap in the line, if that is an absolute http(s) URL.
@@ -153,9 +140,6 @@ pub(crate) fn warn_of_sitemaps(
     let Reading::Accepted(robot) = star else {
         return Ok(());
     };
-    if !has_sitemap(&read.labels) {
-        return Ok(());
-    }
     if is_closed(alloc, &read.site, "*")? {
         return Ok(());
     }

@@ -23,7 +23,9 @@ impl fmt::Display for Standard {
                 )
             }
             Conformance::Verdicts => {
-                f.write_str("RFC 9309 syntax and verdicts, for URLs in normal form")
+                f.write_str(
+                    "RFC 9309 syntax and verdicts, for URLs with usual escapes (%20, not %41)",
+                )
             }
         }
     }

@@ -1,7 +1,7 @@
 //! Texts that several reports share: a delay, which group applies to a crawler, and that the file is
 //! rejected.
 ghost use Rattle.std.specs.Prelude.{◌≡◌, Some, option_map};
-ghost use Rattle.audit_core.specs.Texts.{may_fetch};
+ghost use Rattle.audit_core.specs.Texts.{may_fetch, reach_word};
 ghost use Rattle.robots_warnings.specs.Positions.{is_ignored};
 
 use crate::audit::AgentAudit;
@@ -15,14 +15,23 @@ use std::fmt;
 use std::fmt::Write;
 use texting_robots::parser::Line;
 
-/// If the file isn't rejected for the crawler, and something is said of what it may fetch.
-pub fn may_fetch(rejected: Option<usize>, reach: Reach) -> Option<&'static str>
-    ensures { option_map (λ word. word.now) result ≡ may_fetch rejected reach }
+fn reach_word(reach: Reach) -> &'static str
+    ensures { result.now ≡ reach_word reach }
 {
-    match (rejected, reach) {
-        (None, Reach::Everything) => Some("everything"),
-        (None, Reach::Nothing) => Some("nothing"),
-        (None, Reach::Listed) => Some("listed"),
+    match reach {
+        Reach::Everything => "everything",
+        Reach::Nothing => "nothing",
+        Reach::Listed => "listed",
+        Reach::Part => "by-rules",
+    }
+}
+
+/// If the file isn't rejected for the crawler, and its vendor applies the group that is reported.
+pub fn may_fetch(rejected: Option<usize>, vendor: AtVendor, reach: Reach) -> Option<&'static str>
+    ensures { option_map (λ word. word.now) result ≡ may_fetch rejected vendor reach }
+{
+    match (rejected, vendor) {
+        (None, AtVendor::Same) => Some(reach_word(reach)),
         _ => None,
     }
 }
@@ -111,7 +120,8 @@ impl fmt::Display for AtVendor {
             AtVendor::Same => Ok(()),
             AtVendor::NoGroup => {
                 f.write_str(
-                    "; but its vendor applies no group, so it may fetch all, also what is denied here",
+                    "; but it ignores the group *, and obeys only one with its own name, so it may fetch all, also what is \
+                    denied here",
                 )
             }
             AtVendor::OtherGroup => f.write_str(

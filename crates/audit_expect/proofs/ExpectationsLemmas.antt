@@ -1,15 +1,15 @@
 -- Expectations: how they are found and checked.
 use Rattle.std.proofs.{Common.◌≡◌, lemmas.Bool.cond-false, lemmas.Bool.cond-true}
-use Rattle.std.proofs.Common.{◌≢◌, ℕ, zero, suc, ◌+◌, List, [], ◌∷◌, ◌++◌, arith, drop, length, refl}
-use Rattle.std.proofs.Common.{take, ◌<◌, map, slice_index_or, flat_map, ◌∙◌, ap, append-nil, append_assoc, sym}
+use Rattle.std.proofs.Common.{◌≢◌, ℕ, zero, suc, ◌+◌, List, [], ◌∷◌, ◌++◌, arith, append_assoc, drop, length, refl, sym}
+use Rattle.std.proofs.Common.{take, ◌<◌, map, slice_index_or, flat_map, ◌∙◌, ap, append-nil}
 use Rattle.std.specs.{Borrow.Bor}
 use Rattle.audit_expect.specs.Expect.{parts}
 use Rattle.audit_expect.specs.Internal.Expectations.{HasNone, IsFirstSeparator, expectation_value}
 use Rattle.std.proofs.lemmas.List.{map-append, take-map, take_more, Elements.filter-append}
 use Rattle.std.proofs.lemmas.{List.Concat.flat_map-append}
 use Rattle.robots_warnings.specs.{Crawlers.Row, Internal.row_value}
-use Rattle.texting_robots.specs.Callers.{IsRejected, IsRobotWithoutSitemaps, RobotValue, file_limit, lines_read}
-use Rattle.texting_robots.specs.Callers.{placed_rules}
+use Rattle.texting_robots.specs.Callers.{IsRejected, IsRobotWithoutSitemaps, RobotValue, file_limit}
+use Rattle.texting_robots.specs.Callers.{lines_read, placed_rules}
 use Rattle.texting_robots.specs.{Decision.IsDecisionOn, declared.decision.Decision.Decision}
 use Rattle.texting_robots.proofs.Shared.{answers_computed, read_robot, each_append}
 use Rattle.audit_core.specs.Findings.{Found}

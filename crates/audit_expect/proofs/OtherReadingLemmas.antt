@@ -1,13 +1,13 @@
 -- Other readings: which lines are empty Disallows, and what decides without their rules, also in normal form.
-use Rattle.std.specs.Prelude.{◌||◌, length}
+use Rattle.std.specs.Prelude.{◌||◌, length, not}
 use Rattle.std.proofs.Common.{◌≡◌, ◌≢◌, ◌∙◌, ℕ, zero, suc, ◌==◌, Bool, true, false, List, [], ◌∷◌, ◌++◌, Some}
 use Rattle.std.proofs.Common.{Contains, Option, None, ap, arith, inl, inr, map, refl, subst}
 use Rattle.std.proofs.Common.{◌<◌, ◌≤◌, ◌-◌, drop, slice_get, slice_index_or, sym}
 use Rattle.std.specs.{Char.to_ascii_lowercase, List.All, Option.option_map_or}
 use Rattle.std.proofs.lemmas.Bool.{cases_Bool, false≢true, not-true, Decides.nat_tests}
 use Rattle.std.proofs.lemmas.Option.{option_and_then_some, same_Some}
-use Rattle.std.proofs.lemmas.List.Elements.{All-map, Contains-append_left, Contains-get_or, Contains-push}
-use Rattle.std.proofs.lemmas.List.Elements.{Contains-push_cases}
+use Rattle.std.proofs.lemmas.List.Elements.{All-filter, All-map, Contains-append_left, Contains-get_or}
+use Rattle.std.proofs.lemmas.List.Elements.{Contains-push, Contains-push_cases}
 use Rattle.texting_robots.specs.Callers.{Allow, IsBetter, IsDecidingLine, IsDecidingRule, IsOverlong, Matches}
 use Rattle.texting_robots.specs.Callers.{IsRejected, IsVerdict, LineValue, PlacedRule, Rule, placed_rules}
 use Rattle.texting_robots.specs.Callers.{Label, bodies_in, bodies_read, label_by_value, robots_file, unplaced}
@@ -159,55 +159,22 @@ module _ (bodies : List (List ℕ)) (rules : List PlacedRule) (text : List ℕ) 
       → IsNormalDecision bodies rules text decision
   decided_normally is = record { others = others; are = others_are bodies rules; decided = is }
 
-  -- the other rules decide alike if the line that decides isn't an empty Disallow
-  pub unchanged : IsDecisionOn rules text decision
-      → option_map_or (is_marked (marks_of bodies)) decision.line false ≡ false
-      → IsOtherDecision bodies rules text decision
-  unchanged is other = grind (arith, decided_otherwise, by)
-    where
-      among : (placed : PlacedRule) → Contains others placed → Contains rules placed
-      among placed has = (in_filter _ rules placed has).0
-
-      by : (line : Option ℕ) → IsDecidingLine rules text line
-          → option_map_or (is_marked (marks_of bodies)) line false ≡ false
-          → IsVerdict (unplaced others) text decision.allowed × IsDecidingLine others text line
-      by None none other =
-          let alike : IsDecidingLine others text None = elim none [
-            | inl same ↦ inl same
-            | inr nothing ↦ inr (λ placed has. nothing placed (among placed has))
-          ] in
-          let allows = one_verdict (unplaced rules) text decision.allowed true is.verdict
-          (no_line_allows rules text none) in
-          (rw allows (no_line_allows others text alike), alike)
-      by (Some line) (differs, placed, decides, at) other =
-          let alike : IsDecidingRule others text placed = record {
-            listed = to_filter _ rules placed decides.listed (rw (at, other) refl);
-            matches = decides.matches;
-            best = λ better has matches. decides.best better (among better has) matches;
-          } in
-          let kind = one_verdict (unplaced rules) text decision.allowed placed.rule.1 is.verdict
-          (verdict_by rules text placed placed.rule.1 decides refl differs) in
-          let verdict = verdict_by others text placed decision.allowed alike (sym kind) differs in
-          (verdict, (differs, placed, alike, at))
-
-each_accepted : (agent : List ℕ) (lines : List LineValue) → ¬ IsRejected agent lines → (placed : PlacedRule)
-    → Contains (placed_rules agent lines) placed → ¬ IsOverlong placed.rule.0
-each_accepted agent lines accepted placed (place, less, at) overlong =
-    accepted ((rejection_is_computed agent lines).1 (any_unplaced (λ (rule : Rule). IsOverlong rule.0)
-    (placed_rules agent lines) (place, placed, less, at, overlong)))
-
 pub all_accepted : (agent : List ℕ) (lines : List LineValue) → ¬ IsRejected agent lines
     → All (λ (placed : PlacedRule). ¬ IsOverlong placed.rule.0) (placed_rules agent lines)
-all_accepted agent lines accepted k d below =
-    each_accepted agent lines accepted _ (Contains-get_or (placed_rules agent lines) k d below)
+all_accepted agent lines accepted k d below overlong =
+    let rules = placed_rules agent lines in
+    let (place, less, at) = Contains-get_or rules k d below in
+    accepted ((rejection_is_computed agent lines).1
+    (any_unplaced (λ (rule : Rule). IsOverlong rule.0) rules
+    (place, slice_index_or rules k d, less, at, overlong)))
 
 pub others_accepted : (bodies : List (List ℕ)) (agent : List ℕ) (lines : List LineValue)
     → ¬ IsRejected agent lines
     → All (λ (placed : PlacedRule). ¬ IsOverlong placed.rule.0) (others_of bodies (placed_rules agent lines))
-others_accepted bodies agent lines accepted k d below =
-    let others = others_of bodies (placed_rules agent lines) in
-    each_accepted agent lines accepted _ (in_filter _ (placed_rules agent lines) (slice_index_or others k d)
-    (Contains-get_or others k d below)).0
+others_accepted bodies agent lines accepted =
+    All-filter (λ (placed : PlacedRule). not (is_marked (marks_of bodies) placed.line))
+    (λ (placed : PlacedRule). ¬ IsOverlong placed.rule.0) (placed_rules agent lines)
+    (all_accepted agent lines accepted)
 
 -- a rule in normal form isn't overlong if it wasn't before
 normal_short : (placed : PlacedRule) → ¬ IsOverlong placed.rule.0 → ¬ IsOverlong (normal_rule placed).rule.0

@@ -1,8 +1,9 @@
 -- The lines of a text, the entries in them, and the expectations in the file of `--expect`, one per line.
-use Rattle.std.specs.Prelude.{◌≡◌, ℕ, nat_eq, suc, ◌==◌, Bool, true, false, not, ◌&&◌, ◌||◌, List, [], ◌∷◌, ◌++◌}
+use Rattle.std.specs.Prelude.{◌≡◌, ℕ, nat_eq, suc, ◌==◌, Bool, true, false, not, ◌&&◌, ◌||◌, List, [], ◌∷◌}
 use Rattle.std.specs.Prelude.{Option, Some, None, Result, Ok, Err, bytes_eq, codes, filter, if◌then◌else◌}
-use Rattle.std.specs.Prelude.{◌-◌, length, nat_lt, option_map, string_bytes, take}
-use Rattle.std.specs.{List.ends_with, List.list_any, List.starts_with, Option.option_or, Option.option_to_list}
+use Rattle.std.specs.Prelude.{◌-◌, ◌++◌, length, nat_lt, option_map, string_bytes, take}
+use Rattle.std.specs.List.{ends_with, list_any, starts_with}
+use Rattle.std.specs.Option.{option_or, option_to_list}
 use Rattle.std.specs.Str.{byte, is_utf8, str_eq_ignore_ascii_case}
 use Rattle.texting_robots.specs.Callers.{escaped}
 use Rattle.robots_warnings.specs.Rules.{after_byte, before_byte, has}
@@ -125,10 +126,14 @@ abbrev pub is_asked_otherwise : List ℕ → Bool
 is_asked_otherwise word =
     is_path word && (has (byte "#") word || has_dot_segment (spelled Standard word))
 
+-- something follows the first `$`; a rule with this pattern matches no path, or what one without it does
+abbrev pub goes_on : List ℕ → Bool
+goes_on word = nat_lt 0 (length (after_byte (byte "$") word))
+
 -- a pattern of a rule, which is a path or begins with a star
 abbrev pub is_pattern : List ℕ → Bool
 is_pattern word =
-    (is_path word || starts_with nat_eq word (codes "*")) && not (has (byte "#") word)
+    (is_path word || starts_with nat_eq word (codes "*")) && not (has (byte "#") word) && not (goes_on word)
     && not (nat_lt 4096 (length (escaped word)) && has (byte "$") word)
 
 -- what is wrong with what crawlers may ask for
@@ -141,7 +146,7 @@ asked_flaw expects_pattern word =
 -- whether it is a pattern, and it or the only path that it matches
 abbrev pub asked : (expects_all : Bool) → List ℕ → Bool × List ℕ
 asked expects_all word =
-    if expects_all && (ends_with nat_eq word (codes "$") && not (has (byte "*") word))
+    if expects_all && (ends_with nat_eq word (codes "$") && not (has (byte "*") word || goes_on word))
     then (false, take (length word - 1) word) else (expects_all, word)
 
 -- whether it is to be allowed, and whether all paths of a pattern are meant

@@ -9,7 +9,7 @@ ghost use Rattle.audit_expect.specs.Internal.Expectations.{checked_value, expect
 
 use crate::expect::Expectation;
 use crate::normal_form::written_form;
-use crate::other_reading::{normal_decision, other_decision};
+use crate::other_reading::other_decisions;
 use crate::patterns::{OnPaths, holds, on_paths};
 use audit_core::asked::decision_on;
 use audit_core::audit::{Reading, read_for};
@@ -91,8 +91,7 @@ fn decided_on(
         return Ok(Judgment::Rewritten);
     };
     let decision = decision_on(alloc, robot, url)?;
-    let other = other_decision(alloc, agent, url, &decision, read)?;
-    let normal = normal_decision(alloc, agent, &target, read)?;
+    let (other, normal) = other_decisions(alloc, agent, url, read, &target)?;
     Ok(Judgment::Decided(decision, other, normal))
 }
 

@@ -2,7 +2,7 @@
 ghost use Rattle.std.specs.Prelude.{◌≡◌, ◌≢◌, ◌<◌, ◌∷◌, ◌++◌, [], IfErr, IfOk, MatchOption, Ok, OnOk};
 ghost use Rattle.std.specs.Prelude.{if◌then◌else◌, length, map};
 ghost use Rattle.audit_expect.specs.Expect.{IsLineFault, asked, asked_flaw, demand_of, entries_at, entries_of, expectation_in};
-ghost use Rattle.audit_expect.specs.Expect.{expectations_in, expects, is_any, is_asked_otherwise, is_comment, is_in};
+ghost use Rattle.audit_expect.specs.Expect.{expectations_in, expects, goes_on, is_any, is_asked_otherwise, is_comment, is_in};
 ghost use Rattle.audit_expect.specs.Expect.{is_path, is_path_or_url, is_pattern, name_flaw, lines, malformed_at, parts, words};
 ghost use Rattle.audit_expect.specs.Expect.{words_with_name};
 ghost use Rattle.audit_core.specs.Request.{is_word};
@@ -137,6 +137,13 @@ fn is_asked_otherwise(alloc: Global, word: &[u8]) -> Result<bool, AllocError>
     Ok(has(b'#', word) || has_dot_segment(&plain))
 }
 
+/// Whether something follows the first `$`.
+fn goes_on(word: &[u8]) -> bool
+    ensures { result ≡ goes_on word.now }
+{
+    !after_byte(b'$', word).is_empty()
+}
+
 fn is_pattern(alloc: Global, word: &[u8]) -> Result<bool, AllocError>
     ensures { IfOk result (λ answer. answer ≡ is_pattern word.now) }
 {
@@ -144,6 +151,7 @@ fn is_pattern(alloc: Global, word: &[u8]) -> Result<bool, AllocError>
     Ok(
         (is_path(word) || word.starts_with(b"*"))
             && !has(b'#', word)
+            && !goes_on(word)
             && !(is_long && has(b'$', word)),
     )
 }
@@ -185,7 +193,7 @@ fn asked(expects_all: bool, word: &[u8]) -> (bool, &[u8])
     ensures { (result.0, result.1.now) ≡ asked expects_all word.now }
 {
     match word {
-        [path @ .., b'$'] if expects_all && !has(b'*', word) => (false, path),
+        [path @ .., b'$'] if expects_all && !(has(b'*', word) || goes_on(word)) => (false, path),
         _ => (expects_all, word),
     }
 }

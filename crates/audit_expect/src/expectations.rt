@@ -175,24 +175,50 @@ fn write_holding(out: &mut Report, number: usize) -> fmt::Result {
     out.end_line()
 }
 
-fn write_failure(out: &mut Report, name: &str, finding: &Finding) -> fmt::Result {
+fn write_place(out: &mut Report, name: &str, line: Option<usize>) -> fmt::Result {
     out.write_str(name)?;
-    if let Some(line) = finding.line {
-        write!(out, ":{line}")?;
+    match line {
+        Some(line) => write!(out, ":{line}: "),
+        None => out.write_str(": "),
     }
-    let message = finding.message.as_str();
-    write!(out, ": {message}")?;
-    out.end_line()
 }
 
 /// How many failures of one line are written, if it is about any crawler.
 const MOST: usize = 5;
 
-fn write_others(out: &mut Report, name: &str, line: Option<usize>, number: usize) -> fmt::Result {
-    match (line, number.saturating_sub(MOST)) {
-        (None, _) | (_, 0) => return Ok(()),
-        (Some(line), 1) => write!(out, "{name}:{line}: and 1 more crawler")?,
-        (Some(line), others) => write!(out, "{name}:{line}: and {others} more crawlers")?,
+/// Of how many more the crawler is named.
+const NAMED: usize = 10;
+
+/// The failure after so many of its line.
+fn write_failure(out: &mut Report, name: &str, number: usize, finding: &Finding) -> fmt::Result {
+    let message = finding.message.as_str();
+    if number < MOST {
+        write_place(out, name, finding.line)?;
+        write!(out, "{message}")?;
+        return out.end_line();
+    }
+    if number >= MOST + NAMED {
+        return Ok(());
+    }
+    if number == MOST {
+        write_place(out, name, finding.line)?;
+    }
+    let front = if number == MOST { "also " } else { ", " };
+    let agent = match message.split_once(" must be ") {
+        Some((agent, _)) => agent,
+        None => message,
+    };
+    write!(out, "{front}{agent}")
+}
+
+/// Ends the line that names the crawlers of failures that aren't written, if there are some.
+fn end_names(out: &mut Report, number: usize) -> fmt::Result {
+    if number <= MOST {
+        return Ok(());
+    }
+    if number > MOST + NAMED {
+        let others = number - (MOST + NAMED);
+        write!(out, " and {others} more")?;
     }
     out.end_line()
 }
@@ -201,15 +227,13 @@ fn write_failures(out: &mut Report, name: &str, found: &[Finding]) -> fmt::Resul
     let (mut line, mut number) = (None, 0usize);
     for finding in found {
         if finding.line != line {
-            write_others(out, name, line, number)?;
+            end_names(out, number)?;
             (line, number) = (finding.line, 0);
         }
-        if number < MOST {
-            write_failure(out, name, finding)?;
-        }
+        write_failure(out, name, number, finding)?;
         number = number.saturating_add(1);
     }
-    write_others(out, name, line, number)
+    end_names(out, number)
 }
 
 /// Writes a note for a name that is like that of a known crawler, if the file doesn't have it.

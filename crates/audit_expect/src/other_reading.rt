@@ -1,7 +1,6 @@
 //! Other readings: of an empty Disallow, which here is an Allow of `/`, and for RFC 9309 and Google no rule;
 //! and of characters that RFC 9309 compares in their normal forms.
-ghost use Rattle.std.specs.Prelude.{◌≡◌, ◌↔◌, All, Decides, IfOk, IsTrue, false, map, option_map};
-ghost use Rattle.std.specs.Option.{option_map_or};
+ghost use Rattle.std.specs.Prelude.{◌≡◌, ◌↔◌, All, Decides, IfOk, IsTrue, map, option_map};
 ghost use Rattle.texting_robots.specs.Callers.{IsBetter, IsOverlong, IsRejected, Matches, PlacedRule, bodies_read};
 ghost use Rattle.texting_robots.specs.Callers.{label_by_value, lines_read, placed_rules};
 ghost use Rattle.texting_robots.specs.Decision.{IsDecisionOn};
@@ -126,54 +125,26 @@ pub(crate) fn decision_of(
     Ok(decision_with(rule))
 }
 
-fn is_by_marked(decision: &Decision, labels: &[LabeledLine<'_>]) -> bool
-    ensures { result ≡ option_map_or (is_marked (marks_in (map label_by_value labels.now))) decision.now.line false }
-{
-    match decision.line {
-        Some(line) => is_marked(labels, line),
-        None => false,
-    }
-}
-
-/// An empty Disallow is no rule. `decision` is that where it is an Allow of `/`; only if such a line decides
-/// there, the other one may differ.
-pub(crate) fn other_decision(
+/// The decision where an empty Disallow is no rule, and the one where normal forms are compared, too, of which
+/// the last text is that of the match target.
+pub(crate) fn other_decisions(
     alloc: Global,
     agent: &str,
     url: &str,
-    decision: &Decision,
     read: &FileRead<'_>,
-) -> Result<Decision, AllocError>
+    normal: &str,
+) -> Result<(Decision, Decision), AllocError>
     requires read { IsRead read.now }
     requires accepted { ¬ IsRejected agent.now (lines_read read.now.bytes.now) }
-    requires decided { IsDecisionOn (placed_rules agent.now (lines_read read.now.bytes.now)) (asked_target url.now)
-        decision.now }
-    ensures { IfOk result (IsOtherDecision (bodies_read read.now.bytes.now)
-        (placed_rules agent.now (lines_read read.now.bytes.now)) (asked_target url.now)) }
+    ensures other { IfOk result (λ found. IsOtherDecision (bodies_read read.now.bytes.now)
+        (placed_rules agent.now (lines_read read.now.bytes.now)) (asked_target url.now) found.0) }
+    ensures normal { IfOk result (λ found. IsNormalDecision (bodies_read read.now.bytes.now)
+        (placed_rules agent.now (lines_read read.now.bytes.now)) normal.now found.1) }
 {
-    if !is_by_marked(decision, &read.labels) {
-        return Ok(*decision);
-    }
+    let rules = other_rules(alloc, agent, read)?;
     let target = asked_target(alloc, url)?;
-    let rules = other_rules(alloc, agent, read)?;
     let other = decision_of(alloc, &rules, &target)?;
-    Ok(other)
-}
-
-/// An empty Disallow is no rule, and normal forms are compared; the target is one.
-pub(crate) fn normal_decision(
-    alloc: Global,
-    agent: &str,
-    target: &str,
-    read: &FileRead<'_>,
-) -> Result<Decision, AllocError>
-    requires read { IsRead read.now }
-    requires accepted { ¬ IsRejected agent.now (lines_read read.now.bytes.now) }
-    ensures { IfOk result (IsNormalDecision (bodies_read read.now.bytes.now)
-        (placed_rules agent.now (lines_read read.now.bytes.now)) target.now) }
-{
-    let rules = other_rules(alloc, agent, read)?;
     let rules = normal_rules(alloc, &rules)?;
-    let decision = decision_of(alloc, &rules, target)?;
-    Ok(decision)
+    let normal = decision_of(alloc, &rules, normal)?;
+    Ok((other, normal))
 }

@@ -70,7 +70,7 @@ agent_json agent = object
     (member (codes "group") (string (group_word agent.group))
     (member (codes "group_line") (number_json agent.group_line)
     (member (codes "may_fetch")
-    (word_json (may_fetch agent.rejected agent.reach))
+    (word_json (may_fetch agent.rejected agent.vendor agent.reach))
     (member (codes "rejected") (number_json agent.rejected)
     (member (codes "rules") (count_json agent.rules)
     (member (codes "vendor") (string (vendor_word agent.vendor))

@@ -119,9 +119,9 @@ fn delay_json(delay: Option<u64>) -> Value
 }
 
 fn fetch_json(alloc: Global, audit: &AgentAudit<'_>) -> Result<Value, AllocError>
-    ensures { IfOk result (λ value. view value ≡ word_json (may_fetch audit.now.rejected audit.now.reach)) }
+    ensures { IfOk result (λ value. view value ≡ word_json (may_fetch audit.now.rejected audit.now.vendor audit.now.reach)) }
 {
-    word_json(alloc, may_fetch(audit.rejected, audit.reach))
+    word_json(alloc, may_fetch(audit.rejected, audit.vendor, audit.reach))
 }
 
 impl<'a> Json for AgentAudit<'a> {

@@ -115,7 +115,7 @@ static CONDITIONS: [(&str, &str); 66] = [
     ("ignores-star",
         "a crawler of the report is known to get no group from its vendor, if it has none of its own, and the file has a group of *, but doesn't name this one"),
     ("needless-rule",
-        "with --needless: no verdict changes if all these rules are deleted, but one may if only some are. Allow: / and empty Disallows stay. None is given if the file has over 512,000 bytes or is rejected for a crawler. Crawlers that apply the first matching rule, or read an empty Disallow otherwise, may need them, so mend empty-disallow first"),
+        "with --needless: no verdict changes if all these rules are deleted, but one may if only some are; that groups could be joined isn't looked for. Allow: / and empty Disallows stay. None is given if the file has over 512,000 bytes or is rejected for a crawler. Crawlers that apply the first matching rule, or read an empty Disallow otherwise, may need them, so mend empty-disallow first"),
     ("needless-undecided",
         "with --needless: comparing a crawler's rules with and without this one would take too long; neither it nor those that are tried after it are reported as needless-rule"),
 ];

@@ -1,8 +1,10 @@
 //! A report on several crawlers: a line for each, and their verdicts.
 use crate::verdicts::write_verdicts;
-use audit_core::audit::AgentAudit;
+use audit_core::audit::{AgentAudit, Audit};
 use audit_core::group::Group;
-use audit_core::texts::{Fetched, ignores_delay, may_fetch, write_rejected};
+use audit_core::reach::Reach;
+use audit_core::rows::Shown;
+use audit_core::texts::{Fetched, ignores_delay, write_rejected};
 use printable_text::delay::Delay;
 use printable_text::report::Report;
 use robots_warnings::crawlers::is_wrong;
@@ -40,8 +42,28 @@ pub(crate) fn write_wrong(out: &mut Report, name: &str) -> fmt::Result {
     out.write_str("; no crawler has this name")
 }
 
+/// The values of the first three of these lines that aren't long.
+fn write_values(out: &mut Report, audit: &Audit<'_>, lines: &[usize]) -> fmt::Result {
+    let mut is_first = true;
+    for line in lines.iter().take(3) {
+        let front = if is_first { ": " } else { ", " };
+        match audit.labels.get(line.saturating_sub(1)) {
+            Some(labeled) if labeled.body.len() < 80 => {
+                let value = Shown(labeled.line, labeled.body);
+                write!(out, "{front}{value}")?;
+            }
+            _ => write!(out, "{front}..")?,
+        }
+        is_first = false;
+    }
+    if lines.len() > 3 {
+        out.write_str(", ..")?;
+    }
+    Ok(())
+}
+
 /// Such as `crawler GPTBot: group * (line 1), 3 rules, delay 2 s`.
-fn write_crawler(out: &mut Report, agent: &AgentAudit<'_>) -> fmt::Result {
+fn write_crawler(out: &mut Report, audit: &Audit<'_>, agent: &AgentAudit<'_>) -> fmt::Result {
     let name = agent.agent;
     write!(out, "crawler {name}")?;
     write_group(out, agent)?;
@@ -53,9 +75,10 @@ fn write_crawler(out: &mut Report, agent: &AgentAudit<'_>) -> fmt::Result {
             out.write_str(", which it ignores")?;
         }
     }
-    if may_fetch(agent.rejected, agent.reach).is_some() {
+    if agent.reach != Reach::Part {
         let fetched = Fetched(agent.reach, &agent.allows);
         write!(out, ", may fetch {fetched}")?;
+        write_values(out, audit, &agent.allows)?;
     }
     let vendor = agent.vendor;
     write!(out, "{vendor}")?;
@@ -63,12 +86,19 @@ fn write_crawler(out: &mut Report, agent: &AgentAudit<'_>) -> fmt::Result {
     out.end_line()
 }
 
-pub(crate) fn write_crawlers(out: &mut Report, agents: &[AgentAudit<'_>]) -> fmt::Result {
-    for agent in agents {
-        write_crawler(out, agent)?;
+/// If `denied_only` is true, not those that have no verdicts.
+pub(crate) fn write_crawlers(
+    out: &mut Report,
+    denied_only: bool,
+    audit: &Audit<'_>,
+) -> fmt::Result {
+    for agent in &audit.agents {
+        if !denied_only || agent.rejected.is_some() || !agent.verdicts.is_empty() {
+            write_crawler(out, audit, agent)?;
+        }
         write_rejected(out, agent.agent, agent.rejected)?;
     }
-    for agent in agents {
+    for agent in &audit.agents {
         write_verdicts(out, Some(agent.agent), &agent.verdicts)?;
     }
     Ok(())

@@ -7,10 +7,11 @@ use audit_core::audit::{AgentAudit, Audit};
 use audit_core::counts::counts_of;
 use audit_core::group::Group;
 use audit_core::joined::{AlsoIn, in_order, shared_lines};
+use audit_core::reach::Reach;
 use audit_core::request::Request;
 use audit_core::rows::write_rows;
 use audit_core::syntax::{Standard, has_directive};
-use audit_core::texts::{Applied, Delayed, Fetched, may_fetch, write_rejected};
+use audit_core::texts::{Applied, Delayed, Fetched, write_rejected};
 use printable_text::level::Level;
 use printable_text::report::Report;
 use rfc9309_laws::conformance::Conformance;
@@ -20,7 +21,7 @@ use std::fmt;
 use std::fmt::Write;
 
 fn write_fetched(out: &mut Report, audit: &AgentAudit<'_>) -> fmt::Result {
-    if may_fetch(audit.rejected, audit.reach).is_none() {
+    if audit.reach == Reach::Part {
         return Ok(());
     }
     let fetched = Fetched(audit.reach, &audit.allows);
@@ -44,11 +45,11 @@ fn write_agent(out: &mut Report, is_quiet: bool, audit: &AgentAudit<'_>) -> fmt:
     write_verdicts(out, None, &audit.verdicts)
 }
 
-fn write_agents(out: &mut Report, request: &Request<'_>, agents: &[AgentAudit<'_>]) -> fmt::Result {
+fn write_agents(out: &mut Report, request: &Request<'_>, audit: &Audit<'_>) -> fmt::Result {
     if request.agent.is_none() {
-        return write_crawlers(out, agents);
+        return write_crawlers(out, request.is_denied_only, audit);
     }
-    for agent in agents {
+    for agent in &audit.agents {
         write_agent(out, !request.has_rows(), agent)?;
     }
     Ok(())
@@ -71,7 +72,7 @@ pub fn write_report(out: &mut Report, request: &Request<'_>, audit: &Audit<'_>) 
     if request.has_rows() {
         write_rows(out, &audit.labels)?;
     }
-    write_agents(out, request, &audit.agents)?;
+    write_agents(out, request, audit)?;
     write_syntax(out, audit)
 }
 

@@ -56,22 +56,6 @@ audited_for_terminal : (by_default : Bool) (matches : ArgMatches) (answer : Answ
 audited_for_terminal by_default matches answer is = rw
     (← asked_colors by_default matches is.requested is.asked) is.audited.outcome.warnings
 
-pub answer_for_terminal : (by_default : Bool) (matches : ArgMatches) (answer : Answer)
-    → Answers by_default matches answer
-    → IsShownReport (requested_colors (value_of matches (codes "color")) by_default)
-    (string_bytes answer.outcome.warnings)
-answer_for_terminal by_default matches answer (inl (on, is)) = silent _ answer is.quiet
-answer_for_terminal by_default matches answer (inr (off, is)) = by _ _ _ is
-  where
-    by : (explain expect compare : Option (List ℕ))
-        → AnswersOptions explain expect compare by_default matches answer
-        → IsShownReport (requested_colors (value_of matches (codes "color")) by_default)
-        (string_bytes answer.outcome.warnings)
-    by (Some name) expect compare (bare, within, known, is) = silent _ answer is.quiet
-    by None (Some name) compare is = silent _ answer is.checked.listed.silent
-    by None None (Some name) is = silent _ answer is.compared.listed.silent
-    by None None None is = audited_for_terminal by_default matches answer is
-
 -- ---- Every report is safe.
 
 pub text_safe : (answer : Answer) → IsText answer → IsSafeAnswer answer
@@ -100,24 +84,30 @@ listed_safe Html file old found text is = absurd is
 listed_safe Sarif file old found text is = absurd is
 listed_safe format file old found text is = inl is
 
-report_safe : (by_default : Bool) (matches : ArgMatches) (answer : Answer) → Answers by_default matches answer
-    → IsSafe answer.report.items
-report_safe by_default matches answer (inl (on, is)) = inl is.report
-report_safe by_default matches answer (inr (off, is)) = by _ _ _ is
+pub safe_with_colors : (by_default : Bool) (matches : ArgMatches) (answer : Answer)
+    → Answers by_default matches answer → IsSafe answer.report.items
+    × IsShownReport (requested_colors (value_of matches (codes "color")) by_default)
+    (string_bytes answer.outcome.warnings)
+safe_with_colors by_default matches answer (inl (on, is)) = (inl is.report, silent _ answer is.quiet)
+safe_with_colors by_default matches answer (inr (off, is)) = by _ _ _ is
   where
     by : (explain expect compare : Option (List ℕ))
         → AnswersOptions explain expect compare by_default matches answer → IsSafe answer.report.items
-    by (Some name) expect compare (bare, within, known, is) = inl is.report
-    by None (Some name) compare is = listed_safe _ _ _ _ _ is.checked.listed.report
-    by None None (Some name) is = listed_safe _ _ _ _ _ is.compared.listed.report
-    by None None None is = output_safe _ _ _ _ is.audited.report
+        × IsShownReport (requested_colors (value_of matches (codes "color")) by_default)
+        (string_bytes answer.outcome.warnings)
+    by (Some name) expect compare (bare, within, known, is) = (inl is.report, silent _ answer is.quiet)
+    by None (Some name) compare is =
+        (listed_safe _ _ _ _ _ is.checked.listed.report, silent _ answer is.checked.listed.silent)
+    by None None (Some name) is =
+        (listed_safe _ _ _ _ _ is.compared.listed.report, silent _ answer is.compared.listed.silent)
+    by None None None is =
+        (output_safe _ _ _ _ is.audited.report, audited_for_terminal by_default matches answer is)
 
 pub answer_safe : (by_default : Bool) (matches : ArgMatches) (answer : Answer)
     → Answers by_default matches answer → IsSafeAnswer answer
-answer_safe by_default matches answer is = record {
-  report = report_safe by_default matches answer is;
-  warnings = shown_colored _ _ (answer_for_terminal by_default matches answer is);
-}
+answer_safe by_default matches answer is =
+    let (report, warnings) = safe_with_colors by_default matches answer is in
+    record { report = report; warnings = shown_colored _ _ warnings }
 
 pub safe_printable : (text : List ℕ) → IsSafe text → IsPrintable text
 safe_printable text (inl is) = report_printable text is

@@ -1,7 +1,7 @@
 -- The request that the arguments contain, specified by what `clap` found in them.
 use Rattle.std.specs.Prelude.{◌≡◌, ◌⊎◌, ℕ, Bool, true, false, List, [], Option, Some, None, Contains, IsTrue}
 use Rattle.std.specs.Prelude.{Result, Ok, Err, bytes_eq, codes, if◌then◌else◌, is_none, is_some, map, not}
-use Rattle.std.specs.Prelude.{◌&&◌, ◌||◌, ◌++◌, nat_eq, option_map}
+use Rattle.std.specs.Prelude.{◌&&◌, ◌||◌, ◌++◌, ◌≢◌, nat_eq, option_map}
 use Rattle.std.specs.{List.list_all, List.list_any, List.starts_with, Option.option_map_or}
 use Rattle.clap.specs.Words.{first_value, found_of, matched_of, one_text, raw_values}
 use Rattle.clap.specs.declared.parser.matches.{ArgMatches.ArgMatches}
@@ -127,9 +127,11 @@ AsksNeedless matches only answer =
     (is_given : Bool) × IsOn matches (codes "needless") is_given
     × (answer ≡ (is_given || list_any is_needless only))
 
--- a name as it is, or without the brackets that it has in a report
+-- a name without the brackets that it has in a report, and any other name as it is
 abbrev pub IsWithoutBrackets : (name bare : List ℕ) → Type 0
-IsWithoutBrackets name bare = (bare ≡ name) ⊎ (name ≡ codes "[" ++ bare ++ codes "]")
+IsWithoutBrackets name bare =
+    (name ≡ codes "[" ++ bare ++ codes "]")
+    ⊎ ((bare ≡ name) × ((inner : List ℕ) → name ≢ codes "[" ++ inner ++ codes "]"))
 
 -- `by_default` is whether warnings have colors without `--color`
 pub record IsRequestOf (by_default : Bool) (matches : ArgMatches) (request : Request) : Type 0 where

@@ -20,7 +20,6 @@ use clap::{ArgMatches, Command};
 use printable_text::level::Level;
 use robots_warnings::crawlers::{Crawler, crawlers};
 use robots_warnings::table::is_name;
-use robots_warnings::urls::as_text;
 use std::alloc::{AllocError, Global};
 
 const AFTER_HELP: &str = "\
@@ -35,11 +34,11 @@ With --expect, give only FILE; with --compare only FILE, URLs, --urls, --agent, 
 either also --json, --github or --format; with --list-warnings or --explain nothing else. With --denied, give
 URLs or --urls.
 
-Exit status, the first that applies:
+Exit status, the first that applies; without --strict, warnings change nothing, even of level error:
   2  if the program couldn't do its work, or the file is rejected for a crawler
-  3  with --strict, if a warning at its level is reported: mend the file before you trust verdicts
+  3  if a warning at the level of --strict is reported: mend the file before you trust verdicts
   1  if a URL is denied, an expectation fails or something differs
-  0  otherwise, also after a warning of level error, which needs --strict
+  0  otherwise
 
 Examples:
   robots_audit robots.txt
@@ -275,13 +274,16 @@ fn has_needless(matches: &ArgMatches<'_>, only: &[&str]) -> bool
     is_given || names_needless(only)
 }
 
-/// A name as it is, or without the brackets that it has in a report.
+/// A name without the brackets that it has in a report, and any other name as it is.
 pub fn without_brackets(name: &str) -> &str
     ensures { IsWithoutBrackets name.now result.now }
 {
-    match name.as_bytes() {
-        [b'[', inner @ .., b']'] => as_text(inner).unwrap_or(name),
-        _ => name,
+    let Some(rest) = name.strip_prefix("[") else {
+        return name;
+    };
+    match rest.strip_suffix("]") {
+        Some(bare) => bare,
+        None => name,
     }
 }
 

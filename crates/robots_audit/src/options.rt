@@ -78,7 +78,7 @@ const PARAMETERS: &[Parameter] = &[
         short: None,
         long: Some("denied"),
         value: Value::Absent,
-        help: "List only the URLs that are denied",
+        help: "List only the URLs that are denied, and crawlers with such URLs",
         excludes: &[],
     },
     Parameter {
@@ -86,7 +86,8 @@ const PARAMETERS: &[Parameter] = &[
         short: None,
         long: Some("agent"),
         value: Value::RepeatedAs("NAME", "user-agent"),
-        help: "Report on this crawler; may be repeated (default: * and every crawler that FILE names)",
+        help: "Report on this crawler, * for any without a group of its own; may be repeated (default: * and every \
+            crawler that FILE names)",
         excludes: &[],
     },
     Parameter {
@@ -102,7 +103,7 @@ const PARAMETERS: &[Parameter] = &[
         short: Some('q'),
         long: Some("quiet"),
         value: Value::Absent,
-        help: "Don't list the lines of the file, as text and JSON do for one --agent; all else is reported",
+        help: "With one --agent: don't list the lines of the file",
         excludes: &[],
     },
     Parameter {

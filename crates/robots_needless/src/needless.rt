@@ -13,9 +13,6 @@ use std::collections::{BTreeMap, BTreeSet};
 /// Bounds how long the rules of all crawlers are compared.
 pub(crate) const BUDGET: usize = 50_000_000;
 
-/// Among more others, a rule isn't decided: each is compared with each.
-const MOST_OTHERS: usize = 4_000;
-
 /// Why a rule is needless.
 #[derive(Clone, Copy, Debug, Eq, PartialEq)]
 pub enum Reason {
@@ -81,8 +78,8 @@ fn is_special(byte: u8) -> bool
     byte == b'*' || byte == b'$'
 }
 
-/// The patterns differ before their first star or dollar.
-fn are_apart(one: &[u8], other: &[u8]) -> bool
+/// The patterns differ before their first star or dollar. What that took to find is added to the steps.
+fn are_apart(one: &[u8], other: &[u8], steps: &mut usize) -> bool
     ensures { IsTrue result → AreApart one.now other.now }
 {
     for k in 0..one.len().min(other.len()) {
@@ -93,6 +90,7 @@ fn are_apart(one: &[u8], other: &[u8]) -> bool
             return false;
         }
         if one[k] != other[k] {
+            *steps = steps.saturating_add(k).saturating_add(8);
             return true;
         }
     }
@@ -107,6 +105,11 @@ fn head(pattern: &[u8]) -> &[u8] {
         }
     }
     pattern
+}
+
+/// How many bytes a text needs that the pattern matches.
+fn least_len(pattern: &[u8]) -> usize {
+    pattern.iter().filter(|byte| !is_special(**byte)).count()
 }
 
 /// The same rule, or another one with its pattern.
@@ -136,11 +139,9 @@ fn matches_nothing(alloc: Global, budget: &mut usize, rule: &Rule) -> Result<boo
 fn covers(alloc: Global, budget: &mut usize, wide: &Rule, narrow: &Rule) -> Result<bool, AllocError>
     ensures { IfOk result (λ is. IsTrue is → Covers wide.now.rule.0 narrow.now.rule.0) }
 {
-    if !narrow
-        .pattern
-        .as_bytes()
-        .starts_with(head(wide.pattern.as_bytes()))
-    {
+    let wide_bytes = wide.pattern.as_bytes();
+    let bytes = narrow.pattern.as_bytes();
+    if least_len(wide_bytes) > least_len(bytes) || !bytes.starts_with(head(wide_bytes)) {
         return Ok(false);
     }
     let mut one = Vec::new(alloc);
@@ -237,12 +238,13 @@ fn reason_among(
 fn push_near(
     alloc: Global,
     near: &mut Vec<Rule>,
+    steps: &mut usize,
     other: &Rule,
     rule: &Rule,
 ) -> Result<(), AllocError>
     ensures { OnOk result (AddsNear near.old.items near.new.items (other.now ∷ []) rule.now) }
 {
-    if are_apart(other.pattern.as_bytes(), rule.pattern.as_bytes()) {
+    if are_apart(other.pattern.as_bytes(), rule.pattern.as_bytes(), steps) {
         return Ok(());
     }
     near.push(copied(alloc, other, other.is_allow)?)?;
@@ -253,15 +255,27 @@ fn push_near(
 fn add_near(
     alloc: Global,
     near: &mut Vec<Rule>,
+    steps: &mut usize,
     others: &[Rule],
     rule: &Rule,
 ) -> Result<(), AllocError>
     ensures { OnOk result (AddsNear near.old.items near.new.items others.now rule.now) }
 {
     for other in others {
-        push_near(alloc, near, other, rule)?;
+        push_near(alloc, near, steps, other, rule)?;
     }
     Ok(())
+}
+
+/// About how long it takes to copy and sort them, in steps of a comparison.
+fn cost_of(rules: &[Rule]) -> usize {
+    let mut cost: usize = 0;
+    for rule in rules {
+        cost = cost
+            .saturating_add(rule.pattern.len() / 16)
+            .saturating_add(16);
+    }
+    cost
 }
 
 /// What becomes of the rule among these others.
@@ -277,6 +291,7 @@ fn outcome_among(
     let mut all = near;
     all.push(copied(alloc, rule, rule.is_allow)?)?;
     let others = &all[..count];
+    *budget = budget.saturating_sub(cost_of(others));
     let most = *budget / 8;
     let mut left = most;
     let comparison = compare(alloc, b"", &all, others, &mut left)?;
@@ -307,14 +322,14 @@ fn outcome_of(
     if stays.contains(&rule.line) || rule.is_allow && rule.pattern.as_str() == "/" {
         return Ok(Outcome::Stays);
     }
-    let others = kept.len().saturating_add(rest.len());
-    *budget = budget.saturating_sub(others / 8);
-    if *budget == 0 || others > MOST_OTHERS {
+    if *budget == 0 {
         return Ok(Outcome::Undecided);
     }
     let mut near = Vec::new(alloc);
-    add_near(alloc, &mut near, kept, rule)?;
-    add_near(alloc, &mut near, rest, rule)?;
+    let mut steps = 0;
+    add_near(alloc, &mut near, &mut steps, kept, rule)?;
+    add_near(alloc, &mut near, &mut steps, rest, rule)?;
+    *budget = budget.saturating_sub(steps / 64);
     outcome_among(alloc, budget, near, rule)
 }
 

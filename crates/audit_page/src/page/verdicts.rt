@@ -74,13 +74,13 @@ fn write_group_note(page: &mut Page, audit: &AgentAudit<'_>) -> fmt::Result {
 fn write_fetch(page: &mut Page, name: &'static str, agent: &AgentAudit<'_>) -> fmt::Result
     requires { is_tag name.now ≡ true }
 {
-    let class = may_fetch(agent.rejected, agent.reach).unwrap_or("some");
+    let class = may_fetch(agent.rejected, agent.vendor, agent.reach).unwrap_or("some");
     page.html.open(name, &[("class", class)])?;
     let fetched = Fetched(agent.reach, &agent.allows);
     match (agent.vendor, agent.rejected, agent.reach) {
         (AtVendor::NoGroup, _, _) => page.html.write_str("everything")?,
         (AtVendor::OtherGroup, _, _) | (_, Some(_), _) => page.html.write_str("not decided")?,
-        (_, None, Reach::Part) => page.html.write_str("some, by its rules")?,
+        (_, None, Reach::Part) => page.html.write_str("what its rules allow")?,
         (_, None, _) => write!(page.html, "{fetched}")?,
     }
     page.html.close()

@@ -1,9 +1,7 @@
 use Rattle.std.proofs.Common.{◌≡◌, codes, false, is_some, map, rules, true}
-use Rattle.std.specs.{List.list_any}
-use Rattle.texting_robots.specs.Callers.{by_value, file_lines, label_by_value, lines_read}
-use Rattle.texting_robots.specs.{Line.is_sitemap}
+use Rattle.texting_robots.specs.Callers.{file_lines, label_by_value, lines_read}
 use Rattle.robots_warnings.specs.Closed.{line_closing}
-use Rattle.audit_core.proofs.AuditLemmas.{all_asked, none_added, none_denied, without_sitemaps}
+use Rattle.audit_core.proofs.AuditLemmas.{all_asked, none_added, none_denied}
 use Rattle.audit_core.proofs.sitemaps.warn_of_sitemaps.Goals as goal
 
 pub returns-in_default-clause-ok : goal.returns-in_default-clause-ok
@@ -11,16 +9,6 @@ returns-in_default-clause-ok c =
     let read = c.args.read.now in
     none_denied (lines_read read.bytes.now) (map label_by_value read.labels.items) _ c.args.found.now.items
     (rw c.in_default.is at c.requires.star)
-
-pub returns-then-not-has_sitemap-clause-ok : goal.returns-then-not-has_sitemap-clause-ok
-returns-then-not-has_sitemap-clause-ok c =
-    let read = c.args.read.now in
-    let asked : list_any (λ labeled. is_sitemap (by_value labeled.line)) c.deref.result.now ≡ false = search rules in
-    let none = without_sitemaps (lines_read read.bytes.now) read.labels.items
-    (rw c.deref.ensures.value at asked) in
-    let star = rw c.in-Accepted.is at c.requires.star in
-    all_asked read.bytes.now (map label_by_value read.labels.items) c.in-Accepted.robot _ _ star
-    (rw none (none_added c.in-Accepted.robot.rules c.args.found.now.items))
 
 pub returns-then-branch-clause-ok : goal.returns-then-branch-clause-ok
 returns-then-branch-clause-ok c =
@@ -38,4 +26,4 @@ returns-clause-ok c =
     let not_closed = rw c.requires.read.site_is at not_closed_here in
     let star = rw c.in-Accepted.is at c.requires.star in
     all_asked read.bytes.now (map label_by_value read.labels.items) c.in-Accepted.robot _ _ star
-    (rw (not_closed, ← c.deref-2.ensures.value) c.in_ok-warn_of_each.ensures.ok)
+    (rw (not_closed, ← c.deref.ensures.value) c.in_ok-warn_of_each.ensures.ok)

@@ -14,17 +14,9 @@ returns-in_default-clause-ok c = (
   cc,
 )
 
-pub other_decision-requires-clause-accepted : goal.other_decision-requires-clause-accepted
-other_decision-requires-clause-accepted c =
-    (robot_found _ c.args.read.now.bytes.now _ _ _ c.requires.robot c.in_ok-decision.ensures.ok).0
-
-pub other_decision-requires-clause-decided : goal.other_decision-requires-clause-decided
-other_decision-requires-clause-decided c =
-    (robot_found _ c.args.read.now.bytes.now _ _ _ c.requires.robot c.in_ok-decision.ensures.ok).1
-
-pub normal_decision-requires-clause-accepted : goal.normal_decision-requires-clause-accepted
-normal_decision-requires-clause-accepted c =
-    (robot_found _ c.args.read.now.bytes.now _ _ _ c.requires.robot c.in_ok-decision.ensures.ok).0
+pub other_decisions-requires-clause-accepted : goal.other_decisions-requires-clause-accepted
+other_decisions-requires-clause-accepted c =
+    (read_robot _ c.args.read.now.bytes.now _ c.requires.robot.2).accepted
 
 pub returns-clause-ok : goal.returns-clause-ok
 returns-clause-ok c =
