@@ -1,13 +1,12 @@
 -- What comparisons of lists of rules say.
 use mathlib.Core.Logic.Iff
-use Rattle.std.proofs.Common.{◌≡◌, ◌≢◌, ◌<◌, ◌≤◌, ◌+◌, ◌*◌, ◌↔◌, ◌⊎◌, inl, inr, ℕ, zero, suc, Bool, true, false, List, []}
-use Rattle.std.proofs.Common.{◌∷◌, ◌++◌, Contains, arith, get_or, length, refl, subst, sym}
-use Rattle.std.proofs.Common.{bytes_eq}
+use Rattle.std.proofs.Common.{◌≡◌, ◌≢◌, ◌<◌, ◌+◌, ◌↔◌, ◌⊎◌, inl, inr, ℕ, zero, suc, Bool, true, false, List}
+use Rattle.std.proofs.Common.{[], ◌∷◌, ◌++◌, Contains, arith, bytes_eq, get_or, length, refl, subst, sym}
 use Rattle.std.proofs.lemmas.Bool.{cases_Bool, ne_eqb}
 use Rattle.std.proofs.lemmas.Bool.Decides.{not_from_Decides}
 use Rattle.std.proofs.lemmas.List.{map-append}
-use Rattle.std.proofs.lemmas.List.Elements.{Contains-append_cases, Contains-append_left, Contains-append_right}
-use Rattle.std.proofs.lemmas.List.Elements.{Contains-push, Contains-push_cases}
+use Rattle.std.proofs.lemmas.List.Elements.{Contains-append_cases, Contains-append_left, Contains-push}
+use Rattle.std.proofs.lemmas.List.Elements.{Contains-append_right, Contains-push_cases}
 use Rattle.std.proofs.lemmas.Slice.Eq.{bytes_eq-Decides}
 use Rattle.texting_robots.specs.{Rules.PlacedRule, Rules.Rule, Rules.unplaced}
 use Rattle.texting_robots.specs.Pattern.{Matches, MatchesWith, dollar, star}
@@ -17,7 +16,7 @@ use Rattle.robots_same.specs.Same.{HaveSameVerdicts}
 use Rattle.robots_needless.specs.declared.needless.Outcome.{Outcome}
 use Rattle.robots_needless.specs.declared.needless.Outcome.TheVariants as outcomes
 use Rattle.robots_needless.specs.{Internal.AddsNear, Internal.AreApart, Internal.IsOutcome}
-use Rattle.robots_needless.specs.Needless.{Covers, MatchesNothing, TakesPrecedence, rank_of}
+use Rattle.robots_needless.specs.Needless.{Covers, MatchesNothing, TakesPrecedence}
 use Rattle.robots_needless.proofs.TogetherLemmas.{cons_cases, reason_among, unplaced_of, verdicts}
 
 -- ---- Rules that match none of a rule's texts don't matter for whether it is needless.
@@ -172,15 +171,9 @@ near_more old now new some others rule first second = record {
   ];
 }
 
-rank_low : (rule : Rule) → 2 * length rule.0 ≤ rank_of rule
-rank_low rule = grind arith
-
-rank_high : (rule : Rule) → rank_of rule ≤ 2 * length rule.0 + 1
-rank_high rule = grind arith
-
 pub longer_precedes : (other rule : PlacedRule) → length rule.rule.0 < length other.rule.0
     → TakesPrecedence other rule
-longer_precedes other rule less = grind (arith, rank_high, rank_low)
+longer_precedes other rule less = grind arith
 
 pub allow_precedes : (other rule : PlacedRule) → length other.rule.0 ≡ length rule.rule.0
     → other.rule.1 ≡ true → rule.rule.1 ≡ false → TakesPrecedence other rule
@@ -195,9 +188,6 @@ above_precedes other rule same kind less = grind arith
 kinds_differ : (p q : List ℕ) → ◌≢◌ {A = Rule} (p, false) (q, true)
 kinds_differ p q same = grind arith
 
-same_pattern : (p q : List ℕ) → ◌≡◌ {A = Rule} (p, false) (q, false) → p ≡ q
-same_pattern p q same = grind arith
-
 no_allow : (p q : List ℕ) (others : List Rule) → ¬ Contains {X = Rule} others (q, true)
     → ¬ Contains {X = Rule} ((p, false) ∷ others) (q, true)
 no_allow p q others none has = grind (arith, cons_cases, kinds_differ)
@@ -206,7 +196,7 @@ no_allows : (p q : List ℕ) → ¬ Contains {X = Rule} ((p, false) ∷ []) (q, 
 no_allows p q = no_allow p q [] (λ (k, below, at). omega arith)
 
 matched_by : (w text : List ℕ) → IsDenied ((w, false) ∷ []) text → Matches w text
-matched_by w text h = grind (arith, same_pattern)
+matched_by w text h = grind arith
 
 pub covers_by : (w n : List ℕ) → HaveSameVerdicts [] ((w, false) ∷ (n, false) ∷ []) ((w, false) ∷ [])
     → Covers w n

@@ -18,7 +18,8 @@ again : (others : List Rule) (text : List ℕ) (answer : Bool)
 again others text =
     let rule : Rule = (codes "/a", false) in
     verdicts (rule ∷ rule ∷ others) (rule ∷ others) text
-    (same_denied (rule ∷ rule ∷ others) (rule ∷ others) text (λ x here. (less x, λ (k, below, at). (suc k, omega arith, at))))
+    (same_denied (rule ∷ rule ∷ others) (rule ∷ others) text
+    (λ x here. (less x, λ (k, below, at). (suc k, omega arith, at))))
   where
     less : (x : Rule) → Contains {X = Rule} ((codes "/a", false) ∷ (codes "/a", false) ∷ others) x
         → Contains {X = Rule} ((codes "/a", false) ∷ others) x

@@ -12,8 +12,8 @@ use mathlib.Core.Logic.Iff
 use Rattle.std.proofs.lemmas.List.Elements.{All-contains, All-contains_itself, All-filter, filter_passes}
 use Rattle.std.proofs.lemmas.List.Elements.{Contains-append_cases, Contains-append_left, Contains-push}
 use Rattle.std.proofs.lemmas.List.Sorted.{Contains-permutation, IsPermutation-sym}
-use Rattle.std.proofs.lemmas.List.Sorted.{IsPermutation-append_comm, IsPermutation-append_left, IsPermutation-append_right}
-use Rattle.std.proofs.lemmas.List.Sorted.{IsPermutation-trans}
+use Rattle.std.proofs.lemmas.List.Sorted.{IsPermutation-append_comm, IsPermutation-append_left}
+use Rattle.std.proofs.lemmas.List.Sorted.{IsPermutation-append_right, IsPermutation-trans}
 use Rattle.std.proofs.lemmas.List.{get_or-map, length-map}
 use Rattle.std.proofs.lemmas.List.{Folds.Any-from_list_any, Folds.list_any_at}
 use Rattle.texting_robots.specs.Rules.{PlacedRule, Rule, unplaced}
@@ -129,8 +129,9 @@ verdicts_without rules left numbers text denied members answer =
     let back = denied_same left rest text (λ placed. Iff.symm (members placed)) in
     verdicts _ (unplaced rest) text (Iff.trans denied (back, denied_same rest left text members)) answer
 
-pub reason_among : (some all : List PlacedRule) → ((placed : PlacedRule) → Contains some placed → Contains all placed) → (rule : PlacedRule) (reason : Reason)
-    → IsReason some rule reason → IsReason all rule reason
+pub reason_among : (some all : List PlacedRule)
+    → ((placed : PlacedRule) → Contains some placed → Contains all placed) → (rule : PlacedRule)
+    (reason : Reason) → IsReason some rule reason → IsReason all rule reason
 reason_among some all among rule reason holds = grind arith
 
 pub nothing_removed : (rules others : List PlacedRule) (found : Reasons) → IsPermutation rules others

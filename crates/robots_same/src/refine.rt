@@ -6,7 +6,7 @@ use crate::closed::is_proof;
 use crate::compare::Comparison;
 use crate::item::Item;
 use crate::pool::{Entry, state_of};
-use crate::search::{End, Found};
+use crate::search::{End, Found, spend};
 use crate::side::{Side, push, step, verdict_at_end};
 use crate::state::along;
 use std::alloc::{AllocError, Global};
@@ -50,19 +50,39 @@ fn matches(alloc: Global, item: &Item<'_>, text: &[u8]) -> Result<bool, AllocErr
     Ok(verdict_at_end(&side) == item.is_allow())
 }
 
-/// The shared rule with this number matches the text, though it was left out; or it doesn't, though it was
-/// taken to decide above the rules below.
-fn is_wrong(
-    alloc: Global,
-    entry: &Entry<'_>,
-    number: usize,
-    below: usize,
-    text: &[u8],
-) -> Result<bool, AllocError> {
-    if !entry.is_shared() || number.saturating_add(1) < below {
+/// The rule matches the text, though it was left out.
+fn is_missed(alloc: Global, entry: &Entry<'_>, text: &[u8]) -> Result<bool, AllocError> {
+    if !entry.is_shared() {
         return Ok(false);
     }
-    Ok(matches(alloc, &entry.item, text)? == (number >= below))
+    matches(alloc, &entry.item, text)
+}
+
+/// How many rules lie below all that were left out, though they match the text. If there are none, one less:
+/// the rule below was taken to decide, and doesn't match.
+fn first_wrong(
+    alloc: Global,
+    pool: &[Entry<'_>],
+    below: usize,
+    text: &[u8],
+) -> Result<usize, AllocError> {
+    for k in below..pool.len() {
+        if is_missed(alloc, &pool[k], text)? {
+            return Ok(k);
+        }
+    }
+    Ok(below.saturating_sub(1))
+}
+
+/// About how long it takes to look for what decides on a text of this length, in steps. A rule stays at each
+/// of its stars.
+fn cost_on(pool: &[Entry<'_>], len: usize) -> usize {
+    let mut stars: usize = 0;
+    for entry in pool {
+        let rest = entry.item.rest();
+        stars = stars.saturating_add(rest.iter().filter(|byte| **byte == b'*').count());
+    }
+    pool.len().saturating_add(stars.saturating_mul(len) / 2)
 }
 
 /// The same rules, of which so many more are tracked.
@@ -79,7 +99,9 @@ pub(crate) fn refined<'a>(
     let mut made = Vec::new(alloc);
     let mut left = most;
     for (number, entry) in pool.iter().enumerate() {
-        let is_more = left > 0 && is_wrong(alloc, entry, number, below, text)?;
+        let is_more = left > 0
+            && number >= below
+            && (number == below || is_missed(alloc, entry, text)?);
         if is_more && left > 0 {
             left -= 1;
         }
@@ -113,10 +135,14 @@ pub(crate) fn compare_pool<'a>(
             }
             End::Disagrees(at) => {
                 let (text, below) = found.path(alloc, front, at)?;
+                if !spend(budget, cost_on(&pool, text.len())) {
+                    return Ok(Comparison::Undecided);
+                }
                 if differ_on(alloc, &pool, front, &text)? {
                     return Ok(Comparison::Differ(text));
                 }
-                pool = refined(alloc, &pool, below, &text, most)?;
+                let first = first_wrong(alloc, &pool, below, &text)?;
+                pool = refined(alloc, &pool, first, &text, most)?;
                 most = 2_usize.saturating_mul(most);
             }
             End::TooLarge => return Ok(Comparison::Undecided),
