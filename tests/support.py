@@ -203,7 +203,7 @@ def warning_lines(warnings, file="robots.txt", agent=None):
 
 
 VERDICTS = "RFC 9309 syntax and verdicts, for URLs in normal form"
-KEYS = set("like args agent robots file from pieces room out more rfc warn err status indented".split())
+KEYS = set("like args agent robots file expect old from pieces room out more rfc warn err status indented".split())
 
 
 def cases_of(text):

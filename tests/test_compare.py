@@ -51,32 +51,8 @@ OTHERS = f"other compared crawlers: {SAME_TEXT}"
 NAME = "a crawler's name is a product token without a version, such as Googlebot"
 URL = "this is neither a path that starts with / nor a valid http:// or https:// URL"
 MAYBE = "this is neither a path that starts with / nor a URL; for a crawler, write --agent NAME, for a file of URLs --urls FILE, for a level --strict=LEVEL"
-SAME = "crawler Ferris: no URL's verdict changes\n"
 TOO_LONG = b"User-agent: *\nDisallow: /" + b"x" * 4096 + b"$\n"
 REASON = "a pattern with $ longer than 4,096 bytes isn't supported; shorten it\n"
-
-# two versions of a file, and the lines about Ferris and the URL /a
-DIFFERENCES = {
-    "another kind": (b"Disallow: /a", b"Allow: /a", "crawler Ferris: - Disallow: /a (line 1)\ncrawler Ferris: + Allow: /a (line 1)\ncrawler Ferris: may fetch some -> everything, for example /a: deny 1 -> allow 1\ncrawler Ferris /a: deny 1 -> allow 1, opened\n"),
-    "a rule in another line": (b"Disallow: /a", b"# tea\nDisallow: /a", ""),
-    "rules in another order": (b"Disallow: /a\nDisallow: /b", b"Disallow: /b\nDisallow: /a", ""),
-    "another rule of the same length in front": (b"Disallow: /a\nDisallow: /*", b"Disallow: /*\nDisallow: /a", ""),
-    "another deciding rule": (b"Disallow: /a\nDisallow: /", b"Disallow: /", "crawler Ferris: - Disallow: /a (line 1)\n" + SAME + "crawler Ferris /a: deny 1 -> deny 1\n"),
-    "a longer deciding rule": (b"Disallow: /", b"#\nDisallow: /a\nDisallow: /", "crawler Ferris: + Disallow: /a (line 2)\n" + SAME + "crawler Ferris /a: deny 1 -> deny 2\n"),
-    "a second one": (b"Disallow: /a", b"Disallow: /a\nDisallow: /a", ""),
-    "two added": (b"", b"Disallow: /b\nDisallow: /b", "crawler Ferris: + Disallow: /b (line 1)\ncrawler Ferris: + Disallow: /b (line 2)\ncrawler Ferris: may fetch everything -> some, for example /b: allow -> deny 1\n"),
-    "the same after escaping": (b"Disallow: /\xc3\xa4", b"disallow /%C3%A4", ""),
-    "escaped": (b"", b"Disallow: /\xc3\xa4", "crawler Ferris: + Disallow: /%C3%A4 (line 1)\ncrawler Ferris: may fetch everything -> some, for example /%C3%A4: allow -> deny 1\n"),
-    "an empty Disallow": (b"", b"Disallow:", "crawler Ferris: + Allow: / (line 1)\n" + SAME + "crawler Ferris /a: allow -> allow 1\n"),
-    "a rule that isn't UTF-8": (b"", b"Disallow: /\xe4", ""),
-    "a comment and a stray line": (b"Disallow: /b", b"Disallow: /b # tea\ntea", ""),
-    "a sitemap": (b"Disallow: /b", b"Disallow: /b\nSitemap: https://e.com/s", NOTHING + "sitemap added: https://e.com/s\n"),
-    "a group of everyone": (b"", b"User-agent: *\nDisallow: /b", "crawler Ferris: group everyone -> *\ncrawler Ferris: + Disallow: /b (line 2)\ncrawler Ferris: may fetch everything -> some, for example /b: allow -> deny 2\n"),
-    "no group": (b"User-agent: Ferris", b"User-agent: Other", "crawler Ferris: group Ferris -> none\n" + SAME),
-    "a delay": (b"", b"Crawl-delay: 10", "crawler Ferris: delay none -> 10 s\n" + SAME),
-    "past the size limit": (b"", b"#" * 512_000 + b"\nDisallow: /a", ""),
-}
-
 
 def compare(folder, old, new, *words, file="-"):
     """The result for two files."""
@@ -107,18 +83,6 @@ crawler Googlebot https://shop.example/search/milk: deny 2 -> allow, opened
 crawler Googlebot /cart: allow -> deny 6, closed
 """
     assert reported(compare(tmp_path, OLD, NEW, "--agent=Googlebot", *urls)) == (1, GOOGLEBOT + lines, "")
-
-
-def test_a_url_is_asked_without_its_fragment(tmp_path):
-    """In a path, `#` is a byte like others."""
-    lines = """crawler Ferris: - Disallow: /a$ (line 1)
-crawler Ferris: may fetch some -> everything, for example /a: deny 1 -> allow
-crawler Ferris https://e.com/a#b: deny 1 -> allow, opened
-crawler Ferris https://e.com/a#c: deny 1 -> allow, opened
-"""
-    (tmp_path / "list.txt").write_bytes(b"https://e.com/a#c\n/a#c\n")
-    words = ["--urls", "list.txt", "https://e.com/a#b", "/a#b"]
-    assert reported(for_ferris(tmp_path, b"Disallow: /a$", b"\n", *words), new="- (empty)") == (1, lines, "")
 
 
 def test_urls_in_a_file(tmp_path):
@@ -158,12 +122,6 @@ def test_all_crawlers(tmp_path):
 def test_all_crawlers_and_a_url(tmp_path):
     lines = STAR + "crawler * /search/tea: allow 3 -> deny 2, closed\n" + GOOGLEBOT + "crawler Googlebot /search/tea: allow 3 -> allow\n" + OTHERS
     assert reported(compare(tmp_path, OLD, NEW, "/search/tea")) == (1, lines, "")
-
-
-@pytest.mark.parametrize("old, new, lines", DIFFERENCES.values(), ids=DIFFERENCES)
-def test_difference(tmp_path, old, new, lines):
-    names = [name + " (empty)" * (not re.search(b"(?i)allow|agent|delay", text[:512_000])) for name, text in (("old.txt", old), ("-", new))]
-    assert reported(for_ferris(tmp_path, old, new, "/a"), *names) == ((1, lines, "") if lines else (0, NOTHING, ""))
 
 
 NO_DIFFERENCE = {

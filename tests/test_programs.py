@@ -24,6 +24,7 @@ status = 1
 |---|---|
 | `args` | the arguments, separated by spaces; a named file is the first one, so that `warn` can name it |
 | `file`, `from` | standard input, or the path of a file with it |
+| `expect`, `old` | runs in a folder with a file `expect.txt` or `old.txt` of this text |
 | `agent`, `robots` | for `robots_verdict`: the input is this crawler, the URLs in `out`, and this file |
 | `out`, `err` | the lines of standard output and standard error; none if left out |
 | `warn` | instead of `err`, for each warning, also if the program counts it only, a line `[LINE] NAME [DETAIL]`; the detail is its URL, the name of one of several crawlers in quotes, or the directive that may be meant. Messages come from tests/warnings.toml |
@@ -115,7 +116,10 @@ def test_golden(name, case, indented, tmp_path):
             result = run_with_room(name, args, stdin, case["room"], tmp_path)
             result.out = result.out or ""
         else:
-            result = run(name, args, stdin)
+            others = {f"{key}.txt": spelled(case[key]) for key in ("expect", "old") if key in case}
+            for other, text in others.items():
+                (tmp_path / other).write_bytes(text)
+            result = run(name, args, stdin, cwd=tmp_path if others else ROOT)
     finally:
         if isinstance(stdin, int):
             os.close(stdin)

@@ -1,11 +1,13 @@
 """Writes docs/report.png, the picture in README of a page. It needs the built program and Chromium."""
 
 import shutil
+import sys
 import tempfile
 from pathlib import Path
 
-from browser import Browser
-from support import ROOT, run
+sys.path.insert(0, str(Path(__file__).resolve().parent.parent / "tests"))
+from browser import Browser  # noqa: E402
+from support import ROOT, run  # noqa: E402
 
 ARGS = ["--html", "examples/robots.txt", "--agent", "FerrisBot", "https://example.com/search/tea", "/drafts/tea"]
 
