@@ -1,7 +1,13 @@
 use Rattle.std.proofs.Common.{◌-◌, ◌+◌, length, take, drop, ◌∙◌, arith, ap, sym}
 use Rattle.texting_robots.specs.Internal.Segments.{is_wildcard}
-use Rattle.texting_robots.proofs.LaneLemmas.{last_seen, within_front}
+use Rattle.texting_robots.proofs.LaneLemmas.{first_seen, last_seen, within_front}
 use Rattle.texting_robots.proofs.segments.wildcard_by_ends.Goals as goal
+
+pub returns-then-first : goal.returns-then-first
+returns-then-first g c =
+    let first = c.wildcard_in-first.ensures in
+    let seen = first_seen is_wildcard c.args.pattern.now g.row.N (omega (arith, c.requires)) in
+    first ∙ sym (seen.0 (omega (arith, first)))
 
 pub overflow_add-result : goal.overflow_add-result
 overflow_add-result g c =
