@@ -9,9 +9,9 @@ ghost use Rattle.texting_robots.specs.Callers.{prepared};
 
 use crate::fault::Fault;
 use crate::file::text_of;
-use crate::urls::{count_items, number_on, target_of};
+use crate::urls::{count_items, number_on};
 use std::alloc::{AllocError, Global};
-use texting_robots::{Rejection, Robot, Site};
+use texting_robots::{Rejection, Robot, Site, match_target};
 
 /// The number in the row of a crawler for which the file is rejected.
 pub const NO_RESULT: i64 = i64::MIN;
@@ -21,7 +21,7 @@ fn targets_of(alloc: Global, urls: &str) -> Result<Vec<String>, AllocError>
 {
     let mut targets = Vec::new(alloc);
     for url in urls.split('\n') {
-        targets.push(target_of(alloc, url)?)?;
+        targets.push(match_target(alloc, url)?)?;
     }
     Ok(targets)
 }

@@ -10,7 +10,7 @@ use crate::fault::Fault;
 use crate::file::{robot_of, text_of};
 use std::alloc::{AllocError, Global};
 use texting_robots::view::View;
-use texting_robots::{Decision, Error, Robot, TooCostly};
+use texting_robots::{Decision, Robot, TooCostly, match_target};
 
 /// The number of the deciding line, negative if the crawler may not fetch the URL, and 0 if no line decides.
 fn number_of(decision: Decision) -> i64
@@ -21,16 +21,6 @@ fn number_of(decision: Decision) -> i64
         Some(line) if decision.allowed => line as i64,
         Some(line) => -(line as i64),
         None => 0,
-    }
-}
-
-pub(crate) fn target_of(alloc: Global, url: &str) -> Result<String, AllocError>
-    ensures { IfOk result (λ target. string_bytes target ≡ prepared url.now) }
-{
-    match Robot::prepare_url(alloc, url) {
-        Ok(target) => Ok(target),
-        Err(Error::Memory) => Err(AllocError),
-        Err(Error::InvalidRobots | Error::InvalidRule) => unreachable!(),
     }
 }
 
@@ -47,11 +37,8 @@ fn number_for(alloc: Global, robot: &Robot, url: &str) -> Result<i64, AllocError
     ensures number { IfOk result (IsResult robot.now.rules url.now) }
     ensures memory { IfErr result (λ _. ¬ IsAllocationFree url.now) }
 {
-    match robot.decide(alloc, url) {
-        Ok(decision) => Ok(number_of(decision)),
-        Err(Error::Memory) => Err(AllocError),
-        Err(Error::InvalidRobots | Error::InvalidRule) => unreachable!(),
-    }
+    let decision = robot.decide(alloc, url)?;
+    Ok(number_of(decision))
 }
 
 pub(crate) fn result_for(alloc: Global, robot: &Robot, url: &[u8]) -> Result<i64, Fault>
@@ -71,7 +58,7 @@ fn result_within(alloc: Global, robot: &Robot, url: &[u8], budget: u64) -> Resul
     ensures ok { IfOk result (HasResult robot.now.rules url.now) }
     ensures fault { IfErr result (IsWhyNotWithin robot.now.rules url.now budget) }
 {
-    let target = target_of(alloc, text_of(url)?)?;
+    let target = match_target(alloc, text_of(url)?)?;
     let text = target.as_str();
     match robot.decision_of_text(text, &mut View::new(text), budget) {
         Ok(decision) => Ok(number_of(decision)),

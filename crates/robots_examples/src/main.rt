@@ -23,6 +23,7 @@ pub mod single_query;
 #[cfg(test)]
 mod tests;
 
+use std::alloc::AllocError;
 use std::io::ErrorKind;
 use std::{env, fs, io};
 use texting_robots::{Error, Robot};
@@ -30,11 +31,10 @@ use texting_robots::{Error, Robot};
 /// A string that is neither a URL nor a path is matched too. As it doesn't start with a slash, usually no
 /// rule matches it, and the result is "allow".
 fn print_verdict(rt: &HostRuntime, robot: &Robot, url: &str) -> io::Result<()> {
-    match robot.allowed(rt.alloc(), url) {
-        Ok(true) => println!(rt; "allow {url}"),
-        Ok(false) => println!(rt; "deny {url}"),
-        Err(Error::Memory) => Err(io::Error::from(ErrorKind::OutOfMemory)),
-        Err(Error::InvalidRobots | Error::InvalidRule) => unreachable!(),
+    match robot.decide(rt.alloc(), url) {
+        Ok(decision) if decision.allowed => println!(rt; "allow {url}"),
+        Ok(_) => println!(rt; "deny {url}"),
+        Err(AllocError) => Err(io::Error::from(ErrorKind::OutOfMemory)),
     }
 }
 

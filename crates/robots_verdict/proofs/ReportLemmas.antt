@@ -110,25 +110,6 @@ some_report input = report_on (split input)
 
 -- ---- The report that the code makes, or its error.
 
-pub no_parts : (input : List ℕ) → split input ≡ None → IsReport input (Err NoEmptyLine)
-no_parts input none = grind arith
-
-pub header_fault : {X : Type 0} (r : Result X Fault) (fault : Fault) (input : List ℕ) {parts : Input}
-    → IsErrAnd r (λ other. other ≡ fault) → split input ≡ Some parts
-    → (fault ≢ Memory → (fault ≡ HeaderNotUtf8) × (are_utf8 parts ≡ false))
-    → IfErr r (λ fault. fault ≢ Memory → IsReport input (Err fault))
-header_fault (Ok x) fault input is same not = absurd is
-header_fault (Err e) fault input is same not = grind arith
-
-pub robot_fault : {X : Type 0} (r : Result X Fault) (error : Error) (input : List ℕ) {parts : Input}
-    → IsErrAnd r (λ fault. fault ≡ fault_of error) → split input ≡ Some parts → are_utf8 parts ≡ true
-    → IsMemoryErrorOr (IsRejected parts) error
-    → IfErr r (λ fault. fault ≢ Memory → IsReport input (Err fault))
-robot_fault (Ok x) error input is same are rejected = absurd is
-robot_fault (Err fault) error.InvalidRule input is same are rejected = grind arith
-robot_fault (Err fault) error.InvalidRobots input is same are rejected = absurd rejected
-robot_fault (Err fault) error.Memory input is same are rejected = λ known. absurd (known is)
-
 of_input : (left : Option (List ℕ)) (P : List ℕ → Type 0) (items bytes : List ℕ)
     → IfSome left (λ input. items ≡ input) → bytes ≡ items → P bytes → IfSome left P
 of_input None P items bytes read same is = tt
@@ -140,22 +121,3 @@ pub run_wrote : (left : Option (List ℕ)) (W : List ℕ → Type 0) (items byte
     → IfSome left (λ input. (text : List ℕ) × IsReport input (Ok text) × W text)
 run_wrote left W items bytes text written read same report whole wrote = grind arith
 
-pub run_fault : {X : Type 0} (left : Option (List ℕ)) (items bytes : List ℕ) (r : Result X Fault)
-    (fault wanted : Fault) → IfSome left (λ input. items ≡ input) → bytes ≡ items
-    → (fault ≢ Memory → IsReport bytes (Err fault)) → IsErrAnd r (λ other. other ≡ fault)
-    → wanted ≢ Memory → r ≡ Err wanted → IfSome left (λ input. IsReport input (Err wanted))
-run_fault left items bytes r fault wanted read same has is known answer =
-    grind arith
-
-pub run_memory : {X : Type 0} (left : Option (List ℕ)) (items bytes : List ℕ) (r : Result X Fault)
-    (fault : Fault) → IfSome left (λ input. items ≡ input) → bytes ≡ items → (fault ≡ Memory → bytes ≢ [])
-    → IsErrAnd r (λ other. other ≡ fault) → r ≡ Err Memory → IfSome left (λ input. input ≢ [])
-run_memory left items bytes r fault read same some is answer =
-    let found : Memory ≡ fault = rw answer at is in
-    of_input left (λ input. input ≢ []) items bytes read same (some (sym found))
-
-pub run_unread : {X P : Type 0} (r : Result X Fault) (fault : ReadFault)
-    → IsErrAnd r (λ own. own ≡ fault_of_read fault) → (fault ≡ reading.Memory → P) → r ≡ Err Memory → P
-run_unread r reading.Folder is some answer = grind arith
-run_unread r reading.Read is some answer = grind arith
-run_unread r reading.Memory is some answer = some refl

@@ -16,12 +16,12 @@ use crate::site_patterns::{
     has_star_or_dollar, is_home, is_whole_site, matches_no_path, opens_little,
 };
 use crate::table::Cause;
-use crate::targets::prepared;
 use crate::tokens::token_front;
 use crate::warning::{Detail, Found, Warning};
 use std::alloc::{AllocError, Global};
 use std::collections::{BTreeMap, HashSet};
 use texting_robots::labels::LabeledLine;
+use texting_robots::match_target;
 use texting_robots::site::{Site, SiteRule};
 
 type Patterns = HashSet<String>;
@@ -174,7 +174,7 @@ fn add_url(alloc: Global, patterns: &mut Patterns, url: &str) -> Result<(), Allo
         ≡ (contains_text patterns.old pattern
         || list_any (is_literally pattern) (filter_map opened_path (url.now ∷ [])))) }
 {
-    let path = prepared(alloc, url)?;
+    let path = match_target(alloc, url)?;
     if path.len() > 1 {
         add_path(alloc, patterns, path.as_str())?;
     }

@@ -10,7 +10,7 @@ use crate::spellings::{Spelling, spelled};
 use crate::urls::{begins_as_url, is_parsable_url};
 use percent_encoding::{AsciiSet, NON_ALPHANUMERIC, ascii_set, percent_encode};
 use std::alloc::{AllocError, Global};
-use texting_robots::{Error, Robot};
+use texting_robots::match_target;
 use url::{ParseError, Position, Url};
 
 /// All ASCII bytes but unreserved and reserved ones and `%` are escaped in a match target. Of the reserved
@@ -68,16 +68,6 @@ fn requested_target(url: &Url) -> &str
     url.slice(Position::BeforePath, Position::AfterQuery)
 }
 
-pub(crate) fn prepared(alloc: Global, text: &str) -> Result<String, AllocError>
-    ensures { IfOk result (λ target. string_bytes target ≡ prepared text.now) }
-{
-    match Robot::prepare_url(alloc, text) {
-        Ok(target) => Ok(target),
-        Err(Error::Memory) => Err(AllocError),
-        Err(Error::InvalidRobots | Error::InvalidRule) => unreachable!(),
-    }
-}
-
 /// The match target of a URL or a path, as crawlers ask for it: that of an http(s) URL has no fragment. An
 /// error if an allocation fails or the URL is too long for `url`.
 pub fn asked_target(alloc: Global, text: &str) -> Result<String, AllocError>
@@ -85,9 +75,9 @@ pub fn asked_target(alloc: Global, text: &str) -> Result<String, AllocError>
 {
     match Url::parse(alloc, text) {
         Ok(url) if is_web(url.scheme()) => String::from_str(alloc, requested_target(&url)),
-        Ok(_) => prepared(alloc, text),
+        Ok(_) => match_target(alloc, text),
         Err(ParseError::OutOfMemory | ParseError::Overflow) => Err(AllocError),
-        Err(_) => prepared(alloc, text),
+        Err(_) => match_target(alloc, text),
     }
 }
 

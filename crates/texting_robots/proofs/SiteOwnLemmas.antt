@@ -241,15 +241,6 @@ given_whole given all name [] tags walk lines named_is tagged_is whole unnamed s
 given_whole given all name (n ∷ names) tags walk lines named_is tagged_is whole unnamed some =
     grind (arith, some_names)
 
-pub any_between : {X : Type 0} (P : X → Type 0) (x : X) (xs old all : List X) → old ++ x ∷ xs ≡ all
-    → P x → Any P all
-any_between P x xs old all are is = subst (Any P) are (after P x xs old is)
-  where
-    after : {X : Type 0} (P : X → Type 0) (x : X) (xs old : List X) → P x → Any P (old ++ x ∷ xs)
-    after P x xs [] is = (zero, x, omega arith, refl, is)
-    after P x xs (y ∷ old) is = let (k, z, less, at, has) = after P x xs old is in
-        (suc k, z, omega arith, at, has)
-
 pub listed_more : (text : List ℕ) (sitemaps : List Span) (i : ℕ) (d : Span) → i < length sitemaps
     → filter_map (listed text) (take (i + 1) sitemaps)
     ≡ filter_map (listed text) (take i sitemaps) ++ option_to_list (listed text (get_or sitemaps i d))
@@ -274,13 +265,6 @@ rejected_at agent file rule taken left error.InvalidRule whole accepted is =
     } in
     (rejected_of agent file rule.line first, first)
 rejected_at agent file rule taken left other whole accepted is = tt
-
-pub file_rejected : (agent file : List ℕ)
-    → Any (λ (placed : PlacedRule). IsOverlong placed.rule.0) (placed_rules agent (file_lines file))
-    → IsFileRejected agent file
-file_rejected agent file some =
-    has_lines file (IsRejected agent) ((rejection_is_computed agent (file_lines file)).1
-    (any_unplaced (λ (rule : Rule). IsOverlong rule.0) (placed_rules agent (file_lines file)) some))
 
 pub given_nothing : {X Y : Type 0} (h : X → Option Y) (x : X) (xs : List X) → filter_map h (x ∷ xs) ≡ []
     → (h x ≡ None) × (filter_map h xs ≡ [])

@@ -1,5 +1,5 @@
 //! Percent-encoding of patterns and match targets.
-ghost use Rattle.std.specs.Prelude.{◌≡◌, ◌++◌, All, IsOk, OnErr, OnOk, IfOk, false, length};
+ghost use Rattle.std.specs.Prelude.{◌≡◌, ◌+◌, ◌≤◌, ◌++◌, All, IsOk, OnErr, OnOk, IfOk, false, length};
 ghost use Rattle.std.specs.Prelude.{string_bytes, true};
 ghost use Rattle.std.specs.{Cow.cow_str_bytes, List.list_any};
 ghost use Rattle.texting_robots.specs.Escape.{escape_byte, escaped, is_escaped};
@@ -49,60 +49,39 @@ fn holds_escaped_among(bytes: &[u8]) -> bool
     holds
 }
 
+/// `N` bytes are tested at once.
 #[inline(always)]
-fn four_hold_escaped(bytes: &[u8]) -> bool
-    requires { length bytes.now ≡ 4 }
+fn lanes_hold_escaped<const N: usize>(bytes: &[u8]) -> bool
+    requires { (length bytes.now ≡ N) × (N ≤ 64) }
     ensures { result ≡ list_any is_escaped bytes.now }
 {
-    let bytes = u8x4::from_slice(bytes);
-    let escaped = bytes.simd_lt(u8x4::splat(b'!'))
-        | bytes.simd_eq(u8x4::splat(b'"'))
-        | bytes.simd_eq(u8x4::splat(b'<'))
-        | bytes.simd_eq(u8x4::splat(b'>'))
-        | bytes.simd_eq(u8x4::splat(b'`'))
-        | bytes.simd_gt(u8x4::splat(b'~'));
+    let bytes = Simd::<u8, N>::from_slice(bytes);
+    let escaped = bytes.simd_lt(Simd::splat(b'!'))
+        | bytes.simd_eq(Simd::splat(b'"'))
+        | bytes.simd_eq(Simd::splat(b'<'))
+        | bytes.simd_eq(Simd::splat(b'>'))
+        | bytes.simd_eq(Simd::splat(b'`'))
+        | bytes.simd_gt(Simd::splat(b'~'));
     escaped.any()
 }
 
+/// The first and the last `N` bytes, which may overlap.
 #[inline(always)]
-fn eight_hold_escaped(bytes: &[u8]) -> bool
-    requires { length bytes.now ≡ 8 }
+fn ends_hold_escaped<const N: usize>(bytes: &[u8]) -> bool
+    requires { (N ≤ length bytes.now) × (length bytes.now ≤ N + N) × (N ≤ 64) }
     ensures { result ≡ list_any is_escaped bytes.now }
 {
-    let bytes = u8x8::from_slice(bytes);
-    let escaped = bytes.simd_lt(u8x8::splat(b'!'))
-        | bytes.simd_eq(u8x8::splat(b'"'))
-        | bytes.simd_eq(u8x8::splat(b'<'))
-        | bytes.simd_eq(u8x8::splat(b'>'))
-        | bytes.simd_eq(u8x8::splat(b'`'))
-        | bytes.simd_gt(u8x8::splat(b'~'));
-    escaped.any()
+    lanes_hold_escaped::<N>(&bytes[..N]) || lanes_hold_escaped::<N>(&bytes[bytes.len() - N..])
 }
 
-#[inline(always)]
-fn sixteen_hold_escaped(bytes: &[u8]) -> bool
-    requires { length bytes.now ≡ 16 }
-    ensures { result ≡ list_any is_escaped bytes.now }
-{
-    let bytes = u8x16::from_slice(bytes);
-    let escaped = bytes.simd_lt(u8x16::splat(b'!'))
-        | bytes.simd_eq(u8x16::splat(b'"'))
-        | bytes.simd_eq(u8x16::splat(b'<'))
-        | bytes.simd_eq(u8x16::splat(b'>'))
-        | bytes.simd_eq(u8x16::splat(b'`'))
-        | bytes.simd_gt(u8x16::splat(b'~'));
-    escaped.any()
-}
-
-/// Four bytes or more are tested as two parts of equal length, which may overlap.
+/// Four bytes or more are tested as two parts of equal length.
 fn few_hold_escaped(bytes: &[u8]) -> bool
     ensures { result ≡ list_any is_escaped bytes.now }
 {
-    let len = bytes.len();
-    match len {
-        4..8 => four_hold_escaped(&bytes[..4]) || four_hold_escaped(&bytes[len - 4..]),
-        8..16 => eight_hold_escaped(&bytes[..8]) || eight_hold_escaped(&bytes[len - 8..]),
-        16..=32 => sixteen_hold_escaped(&bytes[..16]) || sixteen_hold_escaped(&bytes[len - 16..]),
+    match bytes.len() {
+        4..8 => ends_hold_escaped::<4>(bytes),
+        8..16 => ends_hold_escaped::<8>(bytes),
+        16..=32 => ends_hold_escaped::<16>(bytes),
         _ => holds_escaped_among(bytes),
     }
 }
@@ -118,7 +97,7 @@ pub(crate) fn holds_escaped(bytes: &[u8]) -> bool
     }
     let mut rest = bytes;
     while rest.len() > 32 {
-        if sixteen_hold_escaped(&rest[..16]) {
+        if lanes_hold_escaped::<16>(&rest[..16]) {
             return true;
         }
         rest = rest.split_at(16).1;

@@ -56,5 +56,6 @@ pub use address::{get_robots_url, robots_url_of};
 pub use error::{Error, Rejection, TooCostly};
 pub use escape::push_escaped_bytes;
 pub use one_agent::allowed_in_file;
+pub use prepared::match_target;
 pub use robot::{Decision, Robot};
 pub use site::Site;

@@ -1,10 +1,9 @@
 //! Match targets: what patterns are compared with.
-ghost use Rattle.std.specs.Prelude.{◌≡◌, IfErr, IfOk, IsOk, string_bytes};
+ghost use Rattle.std.specs.Prelude.{◌≡◌, IfOk, IsOk, string_bytes};
 ghost use Rattle.std.specs.Cow.{cow_str_bytes};
 ghost use Rattle.texting_robots.specs.AllocationFree.{IsAllocationFree};
 ghost use Rattle.texting_robots.specs.Prepared.{prepared, target_of};
 
-use crate::error::Error;
 use crate::escape::escaped;
 use crate::normalized::borrowed_target;
 use std::alloc::{AllocError, Global};
@@ -13,25 +12,32 @@ use url::{ParseError, Position, Url};
 
 /// The match target. It is borrowed for a path in which no byte is escaped, and for a URL that
 /// [`borrowed_target`] accepts. A string that begins with a slash isn't a URL, so it isn't parsed.
-pub(crate) fn prepare<'a>(alloc: Global, url: &'a str) -> Result<CowStr<'a, Global>, Error>
+pub(crate) fn prepare<'a>(alloc: Global, url: &'a str) -> Result<CowStr<'a, Global>, AllocError>
     ensures ok { IfOk result (λ text. cow_str_bytes text ≡ prepared url.now) }
-    ensures memory { IfErr result (λ e. e ≡ Error.Memory) }
     ensures without_memory { IsAllocationFree url.now → IsOk result }
 {
     if url.is_empty() {
         return Ok(CowStr::Borrowed("/"));
     }
     if url.starts_with('/') {
-        return Ok(escaped(alloc, url)?);
+        return escaped(alloc, url);
     }
     if let Some(target) = borrowed_target(url) {
         return Ok(CowStr::Borrowed(target));
     }
     match Url::parse(alloc, url) {
         Ok(parsed) => Ok(CowStr::Owned(into_target(parsed)?)),
-        Err(ParseError::OutOfMemory | ParseError::Overflow) => Err(Error::Memory),
-        Err(_) => Ok(escaped(alloc, url)?),
+        Err(ParseError::OutOfMemory | ParseError::Overflow) => Err(AllocError),
+        Err(_) => escaped(alloc, url),
     }
+}
+
+/// The match target of a URL, as [`Robot::prepare_url`](crate::Robot::prepare_url) describes it. An error if an
+/// allocation fails, or if the URL has more bytes than `url` can count.
+pub fn match_target(alloc: Global, url: &str) -> Result<String, AllocError>
+    ensures { IfOk result (λ text. string_bytes text ≡ prepared url.now) }
+{
+    prepare(alloc, url)?.into_owned(alloc)
 }
 
 /// In the allocation of the URL.

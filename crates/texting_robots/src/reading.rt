@@ -183,9 +183,7 @@ pub(crate) fn read_file(alloc: Global, agent: &str, txt: &[u8]) -> Result<Parts,
     let group = group_for(agent.as_bytes(), lazy_file_lines(txt));
     let mut reading = RobotBuilder::new(alloc, group.start);
     for (position, line) in lazy_file_lines(txt).enumerate() {
-        if let Err(error) = reading.take(alloc, group.name, position + 1, &line) {
-            return Err(error);
-        }
+        reading.take(alloc, group.name, position + 1, &line)?;
     }
     Ok(Parts {
         delay: reading.delay.or(group.delay_before_agents),

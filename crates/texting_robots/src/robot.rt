@@ -11,11 +11,11 @@ ghost use Rattle.texting_robots.specs.Rules.{HasNoRulesOrSitemaps, unplaced};
 pub use crate::decision::Decision;
 use crate::error::{Error, TooCostly};
 use crate::prefilter::bigrams::BigramSet;
-use crate::prepared::{prepare, target};
+use crate::prepared::{match_target, prepare, target};
 use crate::reading::read_file;
 use crate::rules::Rules;
 use crate::view::View;
-use std::alloc::Global;
+use std::alloc::{AllocError, Global};
 use std::marker::Model;
 use url::Url;
 
@@ -74,14 +74,12 @@ impl Robot {
         ensures rejected { IfErr result (IsMemoryErrorOr (IsFileRejected agent.now (take limit txt.now))) }
         ensures without_memory { HasLines (take limit txt.now) (HasNoRulesOrSitemaps agent.now) → IsOk result }
     {
-        match read_file(alloc, agent, &txt[..limit.min(txt.len())]) {
-            Ok(parts) => Ok(Robot {
-                delay: parts.delay,
-                sitemaps: parts.sitemaps,
-                rules: parts.rules,
-            }),
-            Err(error) => Err(error),
-        }
+        let parts = read_file(alloc, agent, &txt[..limit.min(txt.len())])?;
+        Ok(Robot {
+            delay: parts.delay,
+            sitemaps: parts.sitemaps,
+            rules: parts.rules,
+        })
     }
 
     /// How many bytes of memory it takes: its own size and the capacities of its vectors. Only a bound is
@@ -112,7 +110,7 @@ impl Robot {
         ensures ok { IfOk result (λ text. string_bytes text ≡ prepared url.now) }
         ensures memory { IfErr result (λ e. e ≡ Error.Memory) }
     {
-        Ok(prepare(alloc, url)?.into_owned(alloc)?)
+        Ok(match_target(alloc, url)?)
     }
 
     /// Whether the crawler may fetch a URL, or a path alone. Any other string is matched as described at
@@ -153,11 +151,10 @@ impl Robot {
     ///
     /// # Errors
     ///
-    /// As for [`Robot::prepare_url`].
-    pub fn decide(&self, alloc: Global, url: &str) -> Result<Decision, Error>
+    /// If an allocation fails, or if the URL has more bytes than `url` can count.
+    pub fn decide(&self, alloc: Global, url: &str) -> Result<Decision, AllocError>
         ensures verdict { IfOk result (λ decision. IsVerdict (unplaced self.now.rules) (prepared url.now) decision.allowed) }
         ensures line { IfOk result (λ decision. IsDecidingLine self.now.rules (prepared url.now) decision.line) }
-        ensures memory { IfErr result (λ e. e ≡ Error.Memory) }
         ensures without_memory { IsAllocationFree url.now → IsOk result }
     {
         let text = prepare(alloc, url)?;

@@ -132,65 +132,43 @@ fn is_wildcard(byte: u8) -> bool
     byte == STAR || byte == DOLLAR
 }
 
+/// The first `N` bytes are compared at once.
 #[inline(always)]
-fn wildcard_in_four(pattern: &[u8]) -> usize
-    requires { 4 ≤ length pattern.now }
-    ensures { result ≡ position_or_len is_wildcard (take 4 pattern.now) }
+fn wildcard_in<const N: usize>(pattern: &[u8]) -> usize
+    requires { (N ≤ length pattern.now) × (N ≤ 64) }
+    ensures { result ≡ position_or_len is_wildcard (take N pattern.now) }
 {
-    let bytes = u8x4::from_slice(pattern);
-    let labels = bytes.simd_eq(u8x4::splat(STAR)) | bytes.simd_eq(u8x4::splat(DOLLAR));
-    first_lane(labels.to_bitmask(), 4)
+    let bytes = Simd::<u8, N>::from_slice(pattern);
+    let labels = bytes.simd_eq(Simd::splat(STAR)) | bytes.simd_eq(Simd::splat(DOLLAR));
+    first_lane(labels.to_bitmask(), N)
 }
 
+/// The first and then the last `N` bytes, which may overlap.
 #[inline(always)]
-fn wildcard_in_eight(pattern: &[u8]) -> usize
-    requires { 8 ≤ length pattern.now }
-    ensures { result ≡ position_or_len is_wildcard (take 8 pattern.now) }
+fn wildcard_by_ends<const N: usize>(pattern: &[u8]) -> usize
+    requires { (N ≤ length pattern.now) × (length pattern.now ≤ N + N) × (N ≤ 64) }
+    ensures { result ≡ position_or_len is_wildcard pattern.now }
 {
-    let bytes = u8x8::from_slice(pattern);
-    let labels = bytes.simd_eq(u8x8::splat(STAR)) | bytes.simd_eq(u8x8::splat(DOLLAR));
-    first_lane(labels.to_bitmask(), 8)
+    let first = wildcard_in::<N>(pattern);
+    if first < N {
+        return first;
+    }
+    let last = pattern.len() - N;
+    last + wildcard_in::<N>(&pattern[last..])
 }
 
-#[inline(always)]
-fn wildcard_in_sixteen(pattern: &[u8]) -> usize
-    requires { 16 ≤ length pattern.now }
-    ensures { result ≡ position_or_len is_wildcard (take 16 pattern.now) }
-{
-    let bytes = u8x16::from_slice(pattern);
-    let labels = bytes.simd_eq(u8x16::splat(STAR)) | bytes.simd_eq(u8x16::splat(DOLLAR));
-    first_lane(labels.to_bitmask(), 16)
-}
-
-/// Four bytes or more are compared as two parts of equal length, which may overlap.
+/// Four bytes or more are compared as two parts of equal length.
 #[inline(always)]
 fn wildcard_in_few(pattern: &[u8]) -> usize
     requires { length pattern.now ≤ 32 }
     ensures { result ≡ position_or_len is_wildcard pattern.now }
 {
-    let len = pattern.len();
-    if len < 4 {
-        return pattern.iter().take_while(|b| !is_wildcard(**b)).count();
+    match pattern.len() {
+        0..4 => pattern.iter().take_while(|b| !is_wildcard(**b)).count(),
+        4..8 => wildcard_by_ends::<4>(pattern),
+        8..16 => wildcard_by_ends::<8>(pattern),
+        _ => wildcard_by_ends::<16>(pattern),
     }
-    if len < 8 {
-        let first = wildcard_in_four(pattern);
-        if first < 4 {
-            return first;
-        }
-        return len - 4 + wildcard_in_four(&pattern[len - 4..]);
-    }
-    if len < 16 {
-        let first = wildcard_in_eight(pattern);
-        if first < 8 {
-            return first;
-        }
-        return len - 8 + wildcard_in_eight(&pattern[len - 8..]);
-    }
-    let first = wildcard_in_sixteen(pattern);
-    if first < 16 {
-        return first;
-    }
-    len - 16 + wildcard_in_sixteen(&pattern[len - 16..])
 }
 
 /// More than 32 bytes are compared sixteen at a time.
@@ -199,7 +177,7 @@ fn first_wildcard(pattern: &[u8]) -> usize
 {
     let mut rest = pattern;
     while rest.len() > 32 {
-        let first = wildcard_in_sixteen(rest);
+        let first = wildcard_in::<16>(rest);
         if first < 16 {
             return pattern.len() - rest.len() + first;
         }

@@ -229,10 +229,7 @@ impl Site {
         ensures rejected { IfErr result (IsRejectionOf agent.now self.now) }
         ensures without_memory { HasLines self.now (λ lines. AreRulesFor agent.now lines []) → IsOk result }
     {
-        let rules = match self.own_rules(alloc, agent) {
-            Ok(rules) => rules,
-            Err(error) => return Err(error),
-        };
+        let rules = self.own_rules(alloc, agent)?;
         Ok(Robot {
             delay: self.delay(agent),
             sitemaps: Vec::new(alloc),
@@ -246,14 +243,9 @@ impl Site {
         ensures rejected { IfErr result (IsRejectionOf agent.now self.now) }
         ensures without_memory { HasLines self.now (HasNoRulesOrSitemaps agent.now) → IsOk result }
     {
-        let robot = match self.robot_without_sitemaps(alloc, agent) {
-            Ok(robot) => robot,
-            Err(error) => return Err(error),
-        };
-        match self.all_sitemaps(alloc) {
-            Ok(sitemaps) => Ok(Robot { sitemaps, ..robot }),
-            Err(AllocError) => Err(Rejection::Memory),
-        }
+        let robot = self.robot_without_sitemaps(alloc, agent)?;
+        let sitemaps = self.all_sitemaps(alloc)?;
+        Ok(Robot { sitemaps, ..robot })
     }
 
     fn own_delay(&self, agent: &str) -> Option<u64>
@@ -283,9 +275,7 @@ impl Site {
     {
         let mut all = Vec::new(alloc);
         for span in &self.sitemaps {
-            if let Err(error) = push_sitemap(alloc, &mut all, span.line_in(&self.text)) {
-                return Err(error);
-            }
+            push_sitemap(alloc, &mut all, span.line_in(&self.text))?;
         }
         Ok(all)
     }

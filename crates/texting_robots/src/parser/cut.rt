@@ -28,32 +28,17 @@ fn third_end(nul_ends: bool) -> u8
     if nul_ends { 0 } else { b'\n' }
 }
 
-/// How many of the first `LANES` bytes precede the first of them that ends a line.
+/// How many of the first `N` bytes precede the first of them that ends a line.
 #[inline(always)]
-fn body_len_in_front(text: &[u8], nul_ends: bool) -> usize
-    requires { LANES ≤ length text.now }
-    ensures { result ≡ body_len (read_as nul_ends (take LANES text.now)) }
+fn body_len_in<const N: usize>(text: &[u8], nul_ends: bool) -> usize
+    requires { (N ≤ length text.now) × (N ≤ 64) }
+    ensures { result ≡ body_len (read_as nul_ends (take N text.now)) }
 {
-    let bytes = u8x32::from_slice(text);
-    let third = third_end(nul_ends);
-    let ends = bytes.simd_eq(u8x32::splat(b'\r'))
-        | bytes.simd_eq(u8x32::splat(b'\n'))
-        | bytes.simd_eq(u8x32::splat(third));
-    first_lane(ends.to_bitmask(), LANES)
-}
-
-/// The same for half as many bytes.
-#[inline(always)]
-fn body_len_in_half(text: &[u8], nul_ends: bool) -> usize
-    requires { HALF ≤ length text.now }
-    ensures { result ≡ body_len (read_as nul_ends (take HALF text.now)) }
-{
-    let bytes = u8x16::from_slice(text);
-    let third = third_end(nul_ends);
-    let ends = bytes.simd_eq(u8x16::splat(b'\r'))
-        | bytes.simd_eq(u8x16::splat(b'\n'))
-        | bytes.simd_eq(u8x16::splat(third));
-    first_lane(ends.to_bitmask(), HALF)
+    let bytes = Simd::<u8, N>::from_slice(text);
+    let ends = bytes.simd_eq(Simd::splat(b'\r'))
+        | bytes.simd_eq(Simd::splat(b'\n'))
+        | bytes.simd_eq(Simd::splat(third_end(nul_ends)));
+    first_lane(ends.to_bitmask(), N)
 }
 
 fn short_body_len(text: &[u8], nul_ends: bool) -> usize
@@ -63,7 +48,7 @@ fn short_body_len(text: &[u8], nul_ends: bool) -> usize
     if text.len() < HALF {
         return first_end(text, nul_ends).unwrap_or(text.len());
     }
-    let len = body_len_in_half(text, nul_ends);
+    let len = body_len_in::<HALF>(text, nul_ends);
     if len < HALF {
         return len;
     }
@@ -77,7 +62,7 @@ pub(crate) fn body_len(text: &[u8], nul_ends: bool) -> usize
 {
     let mut rest = text;
     while rest.len() >= LANES {
-        let len = body_len_in_front(rest, nul_ends);
+        let len = body_len_in::<LANES>(rest, nul_ends);
         if len < LANES {
             return text.len() - rest.len() + len;
         }

@@ -1,6 +1,6 @@
 //! Directives. A directive consists of a field name, a separator, and a tail, which is a raw value and
 //! possibly a comment.
-ghost use Rattle.std.specs.Prelude.{◌≡◌, ◌==◌, ◌++◌, ◌∷◌, bytes_eq, IfSome, MatchOption, Some, None, map, true, false, drop, length};
+ghost use Rattle.std.specs.Prelude.{◌≡◌, ◌==◌, ◌+◌, ◌≤◌, ◌++◌, ◌∷◌, bytes_eq, IfSome, MatchOption, Some, None, map, true, false, drop, length};
 ghost use Rattle.std.specs.List.{list_any};
 ghost use Rattle.std.specs.Str.{byte, str_to_ascii_lowercase};
 ghost use Rattle.texting_robots.specs.Statement.{field_names};
@@ -184,14 +184,23 @@ fn holds_hash_among(bytes: &[u8]) -> bool
     holds
 }
 
-/// Eight to 32 bytes are tested as two parts of equal length, which may overlap.
+/// The first and the last `N` bytes, which may overlap.
+#[inline(always)]
+fn ends_hold_hash<const N: usize>(text: &[u8]) -> bool
+    requires { (N ≤ length text.now) × (length text.now ≤ N + N) }
+    ensures { result ≡ list_any (λ byte. byte == hash) text.now }
+{
+    holds_hash_among(&text[..N]) || holds_hash_among(&text[text.len() - N..])
+}
+
+/// Eight to 32 bytes are tested as two parts of equal length.
 fn holds_hash(text: &[u8]) -> bool
     ensures { result ≡ list_any (λ byte. byte == hash) text.now }
 {
     match text.len() {
         0..8 => holds_hash_among(text),
-        8..16 => holds_hash_among(&text[..8]) || holds_hash_among(&text[text.len() - 8..]),
-        16..=32 => holds_hash_among(&text[..16]) || holds_hash_among(&text[text.len() - 16..]),
+        8..16 => ends_hold_hash::<8>(text),
+        16..=32 => ends_hold_hash::<16>(text),
         _ => memchr(b'#', text).is_some(),
     }
 }

@@ -12,7 +12,7 @@ loop-url-preserved c =
     let here = YieldsList-turn gives c.loop-url.yielded _ c.loop-url.yielded_by _ _ c.in-Some.url c.in-Some.is
     c.next.ensures.steps in
     rw (c.in_ok-push.ensures.items, length_push)
-    (one_more_mapped _ _ _ _ _ _ _ here c.loop-url.invariant c.in_ok-target_of.ensures)
+    (one_more_mapped _ _ _ _ _ _ _ here c.loop-url.invariant c.in_ok-match_target.ensures)
 
 pub returns : goal.returns
 returns c =

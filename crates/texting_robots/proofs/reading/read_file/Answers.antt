@@ -13,7 +13,7 @@ loop-position-preserved c =
     let (next, here, further, _) = c.in-Some.ensures.steps in
     let name =
     rw (c.lazy_file_lines.ensures.value, c.as_bytes.ensures.value) at c.group_for-group.ensures.name in
-    let added = rw (name, here) at c.in_default.ensures in
+    let added = rw (name, here) at c.in_ok-take.ensures in
     let so_far = c.loop-position.invariant in
     rw (added.tracker, further) (record {
       known = added.known;
@@ -49,20 +49,20 @@ loop-position-init c =
       accepted = λ k d below. absurd (omega arith);
     })
 
-pub returns-in-Err-clause-rejected : goal.returns-in-Err-clause-rejected
-returns-in-Err-clause-rejected c =
+pub returns-in_err-take-clause-rejected : goal.returns-in_err-take-clause-rejected
+returns-in_err-take-clause-rejected c =
     let (next, here, _, _) = c.in-Some.ensures.steps in
     let so_far = c.loop-position.invariant in
-    rejected_wider _ _ c.in-Err.error (λ is. rejected_of c.args.agent.now c.args.txt.now _ (first_overlong _
+    rejected_wider _ _ c.in_err-take.error (λ is. rejected_of c.args.agent.now c.args.txt.now _ (first_overlong _
     c.loop-position.reading.tracker.captured (rule_in c.in-Some.line) _ _ _ (rw next at so_far.rules)
-    so_far.accepted is)) (rw here at c.in-Err.ensures.rejected)
+    so_far.accepted is)) (rw here at c.in_err-take.ensures.rejected)
 
 -- a line that fails gives a rule or a sitemap, so no line fails if the file gives neither
-pub returns-in-Err-clause-without_memory : goal.returns-in-Err-clause-without_memory
-returns-in-Err-clause-without_memory c = λ rules sitemaps.
+pub returns-in_err-take-clause-without_memory : goal.returns-in_err-take-clause-without_memory
+returns-in_err-take-clause-without_memory c = λ rules sitemaps.
     let (next, here, _, _) = c.in-Some.ensures.steps in
     let so_far = c.loop-position.invariant in
-    absurd (false≢true (rw here at c.in-Err.ensures.without_memory
+    absurd (false≢true (rw here at c.in_err-take.ensures.without_memory
     (given_none _ _ _ (rw next at so_far.rules ∙ rules))
     (given_none _ _ _ (rw next at so_far.sitemaps ∙ sitemaps))))
 

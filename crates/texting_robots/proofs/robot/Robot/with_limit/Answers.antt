@@ -6,14 +6,14 @@ use Rattle.texting_robots.proofs.robot.Robot.with_limit.Goals as goal
 read : (limit n : ℕ) (txt : List ℕ) → n ≡ min limit (length txt) → take n txt ≡ take limit txt
 read limit n txt is = ap (λ n. take n txt) is ∙ take_min _ _
 
-pub returns-in-Ok-clause-robot : goal.returns-in-Ok-clause-robot
-returns-in-Ok-clause-robot c =
-    robot_of _ _ _ (rw (read _ _ _ c.min.ensures, ← c.parts.view_is) at c.in-Ok.ensures.robot)
+pub returns-clause-robot : goal.returns-clause-robot
+returns-clause-robot c =
+    robot_of _ _ _ (rw (read _ _ _ c.min.ensures, ← c.parts.view_is) at c.in_ok-parts.ensures.robot)
 
-pub returns-in-Err-clause-rejected : goal.returns-in-Err-clause-rejected
-returns-in-Err-clause-rejected c = rw (read _ _ _ c.min.ensures) at c.in-Err.ensures.rejected
+pub returns-in_err-parts-clause-rejected : goal.returns-in_err-parts-clause-rejected
+returns-in_err-parts-clause-rejected c = rw (read _ _ _ c.min.ensures) at c.in_err-parts.ensures.rejected
 
-pub returns-in-Err-clause-without_memory : goal.returns-in-Err-clause-without_memory
-returns-in-Err-clause-without_memory c = λ nothing.
+pub returns-in_err-parts-clause-without_memory : goal.returns-in_err-parts-clause-without_memory
+returns-in_err-parts-clause-without_memory c = λ nothing.
     let (rules, sitemaps) = nothing_of c.args.agent.now _ nothing in
-    (rw (read _ _ _ c.min.ensures) at c.in-Err.ensures.without_memory) rules sitemaps
+    (rw (read _ _ _ c.min.ensures) at c.in_err-parts.ensures.without_memory) rules sitemaps

@@ -3,22 +3,22 @@ use Rattle.texting_robots.specs.Robot.{IsRobotOfFile}
 use Rattle.texting_robots.proofs.MainTheoremLemmas.{nothing_of, sitemaps_of}
 use Rattle.texting_robots.proofs.site.Site.robot.Goals as goal
 
-pub returns-in-Ok-all_sitemaps-clause-robot : goal.returns-in-Ok-all_sitemaps-clause-robot
-returns-in-Ok-all_sitemaps-clause-robot c =
-    let (none, sitemaps, (lines, are, is)) = rw (← c.robot.view_is) at c.in-Ok.ensures.robot in
+pub returns-clause-robot : goal.returns-clause-robot
+returns-clause-robot c =
+    let (none, sitemaps, (lines, are, is)) = rw (← c.robot.view_is) at c.in_ok-robot.ensures.robot in
     let same = sitemaps_of c.args.self.now sitemaps (lines, are, is.sitemaps)
-    ∙ sym c.in-Ok-all_sitemaps.ensures.sitemaps in
+    ∙ sym c.in_ok-sitemaps.ensures.sitemaps in
     subst (λ (all : List (List ℕ)). IsRobotOfFile c.args.agent.now c.args.self.now (record {
       delay = c.robot.inside.delay;
       sitemaps = all;
       rules = c.robot.inside.rules;
     })) same (lines, are, is)
 
-pub returns-in-Err-clause-without_memory : goal.returns-in-Err-clause-without_memory
-returns-in-Err-clause-without_memory c = λ (lines, are, (rules, sitemaps)).
-    c.in-Err.ensures.without_memory (lines, are, rules)
+pub returns-in_err-robot-clause-without_memory : goal.returns-in_err-robot-clause-without_memory
+returns-in_err-robot-clause-without_memory c = λ (lines, are, (rules, sitemaps)).
+    c.in_err-robot.ensures.without_memory (lines, are, rules)
 
-pub returns-in-Err-all_sitemaps-clause-without_memory : goal.returns-in-Err-all_sitemaps-clause-without_memory
-returns-in-Err-all_sitemaps-clause-without_memory c = λ nothing.
+pub returns-in_err-sitemaps-clause-without_memory : goal.returns-in_err-sitemaps-clause-without_memory
+returns-in_err-sitemaps-clause-without_memory c = λ nothing.
     let (rules, sitemaps) = nothing_of c.args.agent.now _ nothing in
-    c.in-Err-all_sitemaps.ensures.without_memory sitemaps
+    c.in_err-sitemaps.ensures.without_memory sitemaps

@@ -7,18 +7,18 @@ use Rattle.texting_robots.proofs.site.Site.robot_without_sitemaps.Goals as goal
 
 pub returns-clause-robot : goal.returns-clause-robot
 returns-clause-robot c =
-    let none = none_unplaced (λ (rule : Rule). IsOverlong rule.0) _ c.in-Ok.ensures.accepted in (
+    let none = none_unplaced (λ (rule : Rule). IsOverlong rule.0) _ c.in_ok-rules.ensures.accepted in (
       search rules,
       sitemaps_in (file_lines c.args.self.now),
       robot_of c.args.agent.now c.args.self.now _ (record {
         delay = read_delay _ _ _ c.delay.ensures;
         sitemaps = refl;
-        rules = subst (λ (all : List PlacedRule). IsPermutation all c.sorted.result) c.in-Ok.ensures.rules
+        rules = subst (λ (all : List PlacedRule). IsPermutation all c.sorted.result) c.in_ok-rules.ensures.rules
             c.sorted.ensures;
-        accepted = rw c.in-Ok.ensures.rules at none;
+        accepted = rw c.in_ok-rules.ensures.rules at none;
       }),
     )
 
-pub returns-in-Err-clause-without_memory : goal.returns-in-Err-clause-without_memory
-returns-in-Err-clause-without_memory c = λ nothing.
-    c.in-Err.ensures.without_memory (no_rules_of c.args.agent.now _ nothing)
+pub returns-in_err-rules-clause-without_memory : goal.returns-in_err-rules-clause-without_memory
+returns-in_err-rules-clause-without_memory c = λ nothing.
+    c.in_err-rules.ensures.without_memory (no_rules_of c.args.agent.now _ nothing)
