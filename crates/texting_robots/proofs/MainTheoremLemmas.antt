@@ -2,7 +2,7 @@
 use Rattle.std.proofs.Common.{◌≡◌, ◌≢◌, ◌⊎◌, inl, inr, ℕ, suc, ◌+◌, ◌<◌, Bool, cond, List, [], ◌∷◌, Option}
 use Rattle.std.proofs.Common.{Some, None, AllPairs, IsPermutation, get_or, length, refl, sym, ap, subst, ◌∙◌}
 use Rattle.std.proofs.Common.{◌↔◌, arith, swap, ◌*◌, true, Result, Ok, Err, map, take}
-use Rattle.std.specs.{List.All, List.Any, List.Contains, List.cons_option, Result.IsErrAnd}
+use Rattle.std.specs.{List.All, List.Any, List.Contains, List.cons_option, Result.IfErr, Result.IsErrAnd}
 use Rattle.std.proofs.{lemmas.Bool.cases_eq, lemmas.List.Kept.AllPairs-cons, lemmas.List.nil_from_length}
 use Rattle.std.proofs.{lemmas.List.Elements.Contains-get_or}
 use Rattle.std.proofs.lemmas.List.Edits.{Swapped, swapped_from_swap, length-swap}
@@ -298,6 +298,12 @@ answered agent lines rules robot old new answer is are verdict looks =
       verdict = (alike.verdicts old.text answer).0 verdict;
       looks = (alike.looks old new).0 looks;
     }
+
+-- what the exit of a `?` returns
+pub if_err : {T E : Type 0} (r : Result T E) (error : E) (P : E → Type 0)
+    → IsErrAnd r (λ other. other ≡ error) → P error → IfErr r P
+if_err (Ok x) error P is holds = tt
+if_err (Err other) error P is holds = rw is holds
 
 pub unanswered : (agent file : List ℕ) (lines : List LineValue) (rules : List PlacedRule) (view : ViewValue)
     (answer : Result Bool Error) (e : Error) → AreFileLinesOf lines file → IsErrAnd answer (λ x. x ≡ e)

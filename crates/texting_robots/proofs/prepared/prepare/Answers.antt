@@ -6,4 +6,4 @@ pub returns-then-starts_with-clause-ok : goal.returns-then-starts_with-clause-ok
 returns-then-starts_with-clause-ok c =
     let url = c.args.url.now in
     let slash = starts_char 47 url c.starts_with.result c.starts_with.ensures.cases (lit< tt) (lit< tt) in
-    c.in_ok-escaped.ensures.ok ∙ sym (slash_prepared url (slash.0 c.if-starts_with.true))
+    rw (← slash_prepared url (slash.0 c.if-starts_with.true)) at c.escaped.ensures.ok

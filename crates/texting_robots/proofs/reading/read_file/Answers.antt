@@ -5,7 +5,7 @@ use Rattle.texting_robots.specs.{Group.group_name, Line.delay_in, Pattern.IsOver
 use Rattle.texting_robots.{specs.Rules.PlacedRule, specs.Rules.Rule, proofs.CapturedLemmas.captured_walked}
 use Rattle.texting_robots.proofs.RulesLemmas.{all_added, first_more, given_more, given_none, none_unplaced}
 use Rattle.texting_robots.proofs.RulesLemmas.{first_overlong, option_or_none, rejected_wider}
-use Rattle.texting_robots.proofs.MainTheoremLemmas.{rejected_of}
+use Rattle.texting_robots.proofs.MainTheoremLemmas.{if_err, rejected_of}
 use Rattle.texting_robots.proofs.reading.read_file.Goals as goal
 
 pub loop-position-preserved : goal.loop-position-preserved
@@ -53,9 +53,10 @@ pub returns-in_err-take-clause-rejected : goal.returns-in_err-take-clause-reject
 returns-in_err-take-clause-rejected c =
     let (next, here, _, _) = c.in-Some.ensures.steps in
     let so_far = c.loop-position.invariant in
-    rejected_wider _ _ c.in_err-take.error (λ is. rejected_of c.args.agent.now c.args.txt.now _ (first_overlong _
+    if_err c.from_residual.result c.in_err-take.field-0.0 _ c.from_residual.ensures.1
+    (rejected_wider _ _ _ (λ is. rejected_of c.args.agent.now c.args.txt.now _ (first_overlong _
     c.loop-position.reading.tracker.captured (rule_in c.in-Some.line) _ _ _ (rw next at so_far.rules)
-    so_far.accepted is)) (rw here at c.in_err-take.ensures.rejected)
+    so_far.accepted is)) (rw here at c.in_err-take.ensures.rejected))
 
 -- a line that fails gives a rule or a sitemap, so no line fails if the file gives neither
 pub returns-in_err-take-clause-without_memory : goal.returns-in_err-take-clause-without_memory

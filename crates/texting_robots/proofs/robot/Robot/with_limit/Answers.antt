@@ -1,6 +1,6 @@
 use Rattle.std.proofs.Common.{◌≡◌, ℕ, List, ap, length, min, take, ◌∙◌}
-use Rattle.std.proofs.lemmas.List.{take_min}
-use Rattle.texting_robots.proofs.MainTheoremLemmas.{nothing_of, robot_of}
+use Rattle.std.proofs.lemmas.{Bool.false≢true, List.take_min}
+use Rattle.texting_robots.proofs.MainTheoremLemmas.{if_err, nothing_of, robot_of}
 use Rattle.texting_robots.proofs.robot.Robot.with_limit.Goals as goal
 
 read : (limit n : ℕ) (txt : List ℕ) → n ≡ min limit (length txt) → take n txt ≡ take limit txt
@@ -11,9 +11,11 @@ returns-clause-robot c =
     robot_of _ _ _ (rw (read _ _ _ c.min.ensures, ← c.parts.view_is) at c.in_ok-parts.ensures.robot)
 
 pub returns-in_err-parts-clause-rejected : goal.returns-in_err-parts-clause-rejected
-returns-in_err-parts-clause-rejected c = rw (read _ _ _ c.min.ensures) at c.in_err-parts.ensures.rejected
+returns-in_err-parts-clause-rejected c =
+    if_err c.from_residual.result c.in_err-parts.field-0.0 _ c.from_residual.ensures.1
+    (rw (read _ _ _ c.min.ensures) at c.in_err-parts.ensures.rejected)
 
 pub returns-in_err-parts-clause-without_memory : goal.returns-in_err-parts-clause-without_memory
 returns-in_err-parts-clause-without_memory c = λ nothing.
     let (rules, sitemaps) = nothing_of c.args.agent.now _ nothing in
-    (rw (read _ _ _ c.min.ensures) at c.in_err-parts.ensures.without_memory) rules sitemaps
+    absurd (false≢true ((rw (read _ _ _ c.min.ensures) at c.in_err-parts.ensures.without_memory) rules sitemaps))

@@ -1,4 +1,5 @@
 use Rattle.std.proofs.Common.{List, subst, sym, ◌∙◌, ℕ}
+use Rattle.std.proofs.lemmas.Bool.{false≢true}
 use Rattle.texting_robots.specs.Robot.{IsRobotOfFile}
 use Rattle.texting_robots.proofs.MainTheoremLemmas.{nothing_of, sitemaps_of}
 use Rattle.texting_robots.proofs.site.Site.robot.Goals as goal
@@ -16,9 +17,9 @@ returns-clause-robot c =
 
 pub returns-in_err-robot-clause-without_memory : goal.returns-in_err-robot-clause-without_memory
 returns-in_err-robot-clause-without_memory c = λ (lines, are, (rules, sitemaps)).
-    c.in_err-robot.ensures.without_memory (lines, are, rules)
+    absurd (false≢true (c.in_err-robot.ensures.without_memory (lines, are, rules)))
 
 pub returns-in_err-sitemaps-clause-without_memory : goal.returns-in_err-sitemaps-clause-without_memory
 returns-in_err-sitemaps-clause-without_memory c = λ nothing.
     let (rules, sitemaps) = nothing_of c.args.agent.now _ nothing in
-    c.in_err-sitemaps.ensures.without_memory sitemaps
+    absurd (false≢true (c.in_err-sitemaps.ensures.without_memory sitemaps))

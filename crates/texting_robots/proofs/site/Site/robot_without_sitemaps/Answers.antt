@@ -1,4 +1,5 @@
 use Rattle.std.proofs.Common.{List, IsPermutation, refl, rules, subst}
+use Rattle.std.proofs.lemmas.Bool.{false≢true}
 use Rattle.texting_robots.specs.Executable.{file_lines, sitemaps_in}
 use Rattle.texting_robots.specs.{Pattern.IsOverlong, Rules.PlacedRule, Rules.Rule}
 use Rattle.texting_robots.proofs.MainTheoremLemmas.{no_rules_of, read_delay, robot_of}
@@ -21,4 +22,4 @@ returns-clause-robot c =
 
 pub returns-in_err-rules-clause-without_memory : goal.returns-in_err-rules-clause-without_memory
 returns-in_err-rules-clause-without_memory c = λ nothing.
-    c.in_err-rules.ensures.without_memory (no_rules_of c.args.agent.now _ nothing)
+    absurd (false≢true (c.in_err-rules.ensures.without_memory (no_rules_of c.args.agent.now _ nothing)))
