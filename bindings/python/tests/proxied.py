@@ -100,7 +100,7 @@ class Proxy:
             if path == "robots.txt":
                 answer = self.answers[host].pop(0) if len(self.answers[host]) > 1 else self.answers[host][0]
             if answer is HANGS:
-                await asyncio.sleep(5)
+                await reader.read()  # until the client leaves
             writer.write(answer or b"")
             await writer.drain()
         except (OSError, asyncio.IncompleteReadError):

@@ -17,7 +17,7 @@ URLS = [f"http://{host}{path}" for path in PATHS for host in SITES_OF]
 def crawled(proxy, *words):
     """The output and the messages of a crawl of all URLs."""
     command = [sys.executable, package.PACKAGE / "examples/crawl.py", "--agent", "FerrisBot/1.0", "--proxy", proxy.address, "--retry", "1"]
-    command += ["--timeout", "2", "--patience", "60", "--budget", str(BUDGET), *words]
+    command += ["--timeout", "20", "--patience", "120", "--budget", str(BUDGET), *words]
     measure = "import resource, subprocess, sys; s = subprocess.run(sys.argv[1:]); print(resource.getrusage(resource.RUSAGE_CHILDREN).ru_maxrss, file=sys.stderr); sys.exit(s.returncode)"
     command = [sys.executable, "-c", measure, *command]
     ended = subprocess.run(command, input="\n".join(URLS), capture_output=True, text=True, timeout=300, env=package.WITH_PACKAGE)

@@ -19,7 +19,7 @@ use std::fmt::Write;
 pub enum Flaw {
     /// It isn't of the form `allow AGENT URL`, or with another of four words.
     Form,
-    /// No rule may have this pattern, it starts as none that matches a path, or something follows a `$`.
+    /// A rule with this pattern is rejected or matches no path, or something follows a `$`.
     Pattern,
     NotUtf8,
     /// No crawler has this name.

@@ -217,8 +217,8 @@ impl Robot {
         self.rules.decide_within(view, None, budget)
     }
 
-    /// The same for a view of `text`. It passes over most rules with a pair of adjacent bytes that the text doesn't
-    /// contain, and counts one look for each. Reading the text once for its pairs isn't counted.
+    /// The same for a view of `text`. A rule with a pair of adjacent bytes after a `*` that the text doesn't contain
+    /// is usually passed over, and counts as one look. Reading the text once for its pairs isn't counted.
     ///
     /// # Errors
     ///
