@@ -5,9 +5,7 @@ use Rattle.texting_robots.proofs.{AgentLemmas.advances, CutFromFront.next_body}
 use Rattle.texting_robots.proofs.parser.split_line.Goals as goal
 
 pub returns-clause-lines : goal.returns-clause-lines
-returns-clause-lines c =
-    rw (c.after_end.ensures, c.split_at.ensures.front, c.split_at.ensures.back, c.body_len.ensures.value)
-    (next_body c.args.nul_ends c.args.text.now c.requires)
+returns-clause-lines c = grind (arith, next_body)
 
 pub returns-clause-parts : goal.returns-clause-parts
 returns-clause-parts c =
@@ -22,16 +20,4 @@ returns-clause-parts c =
     )
 
 pub returns-clause-shorter : goal.returns-clause-shorter
-returns-clause-shorter c =
-    let n = c.args.nul_ends in
-    let text = c.args.text.now in
-    let k = body_len (read_as n text) in
-    let after = drop k text in
-    rw (c.after_end.ensures, c.split_at.ensures.back, c.body_len.ensures.value)
-    (omega (
-      arith,
-      advances n text c.requires,
-      c.requires,
-      length-drop k text,
-      length-drop (end_len (read_as n after)) after,
-    ))
+returns-clause-shorter c = grind (arith, advances, length-drop)

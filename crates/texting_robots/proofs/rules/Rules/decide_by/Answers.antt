@@ -1,16 +1,13 @@
+use Rattle.std.proofs.Common.{arith}
 use Rattle.std.proofs.{Common.inr, lemmas.Bool.iff_false, lemmas.List.length-map}
 use Rattle.texting_robots.proofs.{FirstLemmas.first_looks, FirstLemmas.none_occurs, BestLemmas.none_denies}
 use Rattle.texting_robots.proofs.rules.Rules.decide_by.Goals as goal
 
 pub returns-in-Some-clause-verdict : goal.returns-in-Some-clause-verdict
-returns-in-Some-clause-verdict g c =
-    rw (← c.self.view_is) (c.decision_at.ensures _
-    (iff_false c.is_robots_file.ensures c.if-is_robots_file.false) c.in-Some.ensures.some).verdict
+returns-in-Some-clause-verdict g c = grind (arith, iff_false, c.decision_at.ensures)
 
 pub returns-in-Some-clause-line : goal.returns-in-Some-clause-line
-returns-in-Some-clause-line g c =
-    rw (← c.self.view_is) (c.decision_at.ensures _
-    (iff_false c.is_robots_file.ensures c.if-is_robots_file.false) c.in-Some.ensures.some).deciding
+returns-in-Some-clause-line g c = grind (arith, iff_false, c.decision_at.ensures)
 
 pub returns-in-Some-clause-looks : goal.returns-in-Some-clause-looks
 returns-in-Some-clause-looks g c =

@@ -6,11 +6,7 @@ use Rattle.texting_robots.proofs.SearchLemmas.{after_old, entries_pushed, entry_
 use Rattle.texting_robots.proofs.rules.Unsorted.push.Goals as goal
 
 pub new-requires : goal.new-requires
-new-requires c =
-    let added = c.in_ok-ends.ensures in
-    let old = c.args.self.now in
-    let segments = after_old old.segments.items added.segments c.len-first_segment.result (omega arith) in
-    rw (c.deref.ensures.value, c.deref-2.ensures.value, added.put_segments, segments) added.are_segments
+new-requires c = grind (arith, after_old, c.in_ok-ends.ensures)
 
 pub returns-clause-known : goal.returns-clause-known
 returns-clause-known c =
