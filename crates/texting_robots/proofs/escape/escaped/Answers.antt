@@ -7,9 +7,9 @@ use Rattle.texting_robots.proofs.escape.escaped.Goals as goal
 pub returns-then-not-holds_escaped-clause-ok : goal.returns-then-not-holds_escaped-clause-ok
 returns-then-not-holds_escaped-clause-ok c = grind (arith, plain_stays)
 
-pub returns-clause-ok : goal.returns-clause-ok
-returns-clause-ok c = grind (arith, same_escape)
-
-pub returns-clause-without_memory : goal.returns-clause-without_memory
-returns-clause-without_memory c plain =
-    grind (arith, same_test, c.utf8_percent_encode.ensures.clean, plain, c.into_cow.ensures.borrows)
+pub returns : goal.returns
+returns c = record {
+  ok = grind (arith, same_escape);
+  without_memory = λ plain.
+      grind (arith, same_test, c.utf8_percent_encode.ensures.clean, plain, c.into_cow.ensures.borrows);
+}

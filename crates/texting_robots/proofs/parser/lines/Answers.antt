@@ -5,14 +5,10 @@ use Rattle.texting_robots.proofs.{CountLemmas.lines_within, CutFromFront.read_as
 use Rattle.texting_robots.proofs.LineLemmas.{lines_are, lines_range}
 use Rattle.texting_robots.proofs.parser.lines.Goals as goal
 
-pub returns-clause-value : goal.returns-clause-value
-returns-clause-value c = grind (arith, read_as_is)
-
-pub returns-clause-lines : goal.returns-clause-lines
-returns-clause-lines c = lines_are _ _ (returns-clause-value c)
-
-pub returns-clause-ranges : goal.returns-clause-ranges
-returns-clause-ranges c = lines_range _ _ (returns-clause-value c)
-
-pub returns-clause-count : goal.returns-clause-count
-returns-clause-count c = grind (arith, lines_within, returns-clause-value)
+pub returns : goal.returns
+returns c = record {
+  value = grind (arith, read_as_is);
+  lines = lines_are _ _ (grind (arith, read_as_is));
+  ranges = lines_range _ _ (grind (arith, read_as_is));
+  count = grind (arith, lines_within, read_as_is);
+}

@@ -15,12 +15,12 @@ loop-rest-preserved c =
       same = λ name. passed_over name c.args.nul_ends 32 rest (omega arith) none ∙ i.same name;
     })
 
-pub returns-clause-shorter : goal.returns-clause-shorter
-returns-clause-shorter c = grind (arith, advances, length-drop, c.loop-rest.invariant, c.loop-rest.rest.now)
-
-pub returns-clause-named : goal.returns-clause-named
-returns-clause-named c name =
-    let i = c.loop-rest.invariant in
-    let rest = c.loop-rest.rest.now in
-    rw (c.after_end.ensures, c.split_at-2.ensures.back, c.body_len.ensures.value)
-    (later_lines name c.args.nul_ends rest i.some ∙ i.same name)
+pub returns : goal.returns
+returns c = record {
+  shorter = grind (arith, advances, length-drop, c.loop-rest.invariant, c.loop-rest.rest.now);
+  named = λ name.
+      let i = c.loop-rest.invariant in
+      let rest = c.loop-rest.rest.now in
+      rw (c.after_end.ensures, c.split_at-2.ensures.back, c.body_len.ensures.value)
+      (later_lines name c.args.nul_ends rest i.some ∙ i.same name);
+}
