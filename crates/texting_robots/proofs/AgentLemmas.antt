@@ -109,9 +109,9 @@ pub other_first : (name : List ℕ) (n : Bool) (text : List ℕ) → 1 ≤ lengt
     → may_begin (slice_index text 0) ≡ false
     → is_named_later name n text ≡ list_any (is_agent_named name) (lines_of (read_as n text))
 other_first name n [] some other = absurd (omega (arith, some))
-other_first name n (b ∷ text) some other = sym (first_or_later name n (b ∷ text) (omega arith)
-    ∙ ap (λ first. first || is_named_later name n (b ∷ text))
-    (names_none name _ (front_other (body_len (read_as n (b ∷ text))) b text other)))
+other_first name n (b ∷ text) some other =
+    cc (first_or_later name n (b ∷ text) (omega arith),
+    names_none name _ (front_other (body_len (read_as n (b ∷ text))) b text other))
 
 pub advances : (n : Bool) (rest : List ℕ) → 0 < length rest
     → (let k = body_len (read_as n rest) in 0 < k + end_len (read_as n (drop k rest)))

@@ -50,7 +50,7 @@ module _ (delimiter : ℕ) (part : List ℕ) (set : AsciiSet)
   labeled_read (b ∷ text) = ⊎_elim
       (λ (e : (b == delimiter) ≡ true). rw e (
         delimiter ∷ kept_prefix part text,
-        ap (λ c. c ∷ text) (eqb-true b delimiter e) ∙ ap (λ t. delimiter ∷ t) (sym (take-append-drop _ text)),
+        cc (eqb-true b delimiter e, take-append-drop _ text),
         (
           Some (kept_prefix part text),
           refl,
@@ -58,7 +58,7 @@ module _ (delimiter : ℕ) (part : List ℕ) (set : AsciiSet)
               (All-take-prefix_len (is_kept part) text)).0,
         ),
       ))
-      (λ (e : (b == delimiter) ≡ false). rw e ([], refl, (None, refl, tt))) (cases_Bool (b == delimiter))
+      (grind arith) (cases_Bool (b == delimiter))
 
   pub labeled_left : (text rest : List ℕ) → IsDelimited (delimiter ∷ []) set text
       → StopsAt (is_kept part) rest
@@ -78,8 +78,7 @@ no_number [] letter = absurd (false≢true letter)
 no_number (b ∷ label) letter =
     let digit : is_ascii_digit b ≡ false = grind (arith, nat_tests) in
     let zero : (b == 48) ≡ false = grind (arith, nat_tests) in
-    let tenth : is_digit b 10 ≡ false = grind (arith, nat_tests) in
-    rw (is_empty_nonempty (b ∷ label) (omega arith), digit, zero, tenth) refl
+    grind (arith, is_empty_nonempty)
 
 last_label_named : (front : Option (List ℕ)) (label : List ℕ)
     → is_ascii_lowercase (slice_index label 0) ≡ true → last_label_of front label ≡ label
@@ -126,10 +125,10 @@ site_at scheme own site authority default lower kind assembled is = grind (arith
 site_of : (site : List ℕ) → IsSite site → SiteOf site
 unfolding scheme_len scheme_type default_port
 site_of site (inl (authority, assembled, is)) =
-    let lower : IsScheme (codes "https") = record { nonempty = omega arith; whole = refl; lower = refl } in
+    let lower : IsScheme (codes "https") = grind arith in
     site_at (codes "https") 443 site authority refl lower refl assembled is
 site_of site (inr (authority, assembled, is)) =
-    let lower : IsScheme (codes "http") = record { nonempty = omega arith; whole = refl; lower = refl } in
+    let lower : IsScheme (codes "http") = grind arith in
     site_at (codes "http") 80 site authority refl lower refl assembled is
 
 module _ (front : List ℕ) (site : SiteOf front) (path : List ℕ) (query fragment : Option (List ℕ)) where
@@ -183,11 +182,10 @@ prepared_plain url target (front, assembled, is_site) is some =
     let (fragment, fragment_written, fragment_kept) = is.is_fragment in
     let u = parts front site is.path query fragment in
     let is_valid = valid front site is.path query fragment is.is_path some query_kept fragment_kept in
-    let written : target ≡ target_of u = is.assembled
-    ∙ (λ i. is.path ++ (query_written i ++ fragment_written i)) ∙ sym (append_assoc is.path _ _) in
+    let written : target ≡ target_of u = grind (arith, append_assoc, query_written, fragment_written) in
     let text : url ≡ serialize u =
     assembled ∙ (λ i. site.assembled i ++ written i) ∙ sym (target_last u) in
-    let long : 0 < length url = let whole = simp length-append at (ap length text) in omega arith in
+    let long : 0 < length url = grind (arith, length-append) in
     let parsed = ap (parse_url None) text ∙ parse_url-serialize_special u None is_valid site.kind in
     prepared_parsed url u long parsed ∙ sym written
 
@@ -207,10 +205,7 @@ clean text visible =
     (shown 0 0) in
     let end = suffix_len_is is_c0_control_or_space text (length text) 0 (omega arith)
     (λ k past inside. absurd (omega arith)) (λ some. shown (length text - 1) 0 (omega arith)) in
-    let trimmed : trim_c0_control_and_space text ≡ text = rw (start, end) (take_all _ text (omega arith)) in
-    ap strip_tabs_and_new_lines trimmed
-    ∙ filter_all _ text (All-weaker (Passes is_visible) (Passes (λ b. not (is_tab_or_new_line b)))
-    (λ b passes. grind (arith, nat_tests)) text visible)
+    grind (arith, filter_all, take_all)
 
 no_slash_first : (text more : List ℕ) → 0 < length text → All (Passes is_authority_byte) text
     → StopsAt (λ b. b == 47 || b == 92) (text ++ more)
@@ -263,30 +258,23 @@ module _ (front : List ℕ) (site : SiteOf front) where
   unfolding parse_url parse_parts
   alone_parsed =
       let whole : text_before alone AfterPath ≡ front ++ codes "/" =
-      sym (ap (λ t. t ++ codes "/") site.assembled ∙ simp (append_assoc, append-nil)) in
+      grind (arith, append-nil, append_assoc) in
       let all = All_body (Passes is_visible) alone is_valid.head (λ b passes. grind (arith, nat_tests))
       (λ b passes. grind (arith, nat_tests)) refl (All_from_list_all is_visible (codes "/") refl) in
       let visible = subst Visible (take_at front (codes "/") _ refl)
       (All-take (Passes is_visible) (length front) _ (subst Visible whole all)) in
       let none = λ (delimiter : ℕ) (hidden : is_visible delimiter ≡ false).
       All-weaker (Passes is_visible) (IsNot delimiter)
-      (λ b passes same. false≢true (sym hidden ∙ rw same at passes))
+      (grind arith)
       front visible in
       let hash = ap (split_once 35) (clean front visible) ∙ split_once_none 35 front (none 35 refl) in
       let question = ap (λ r. split_once 63 r.0) hash ∙ split_once_none 63 front (none 63 refl) in
-      let scheme = ap (λ r. split_scheme r.0) question ∙ ap split_scheme site.assembled
-      ∙ split_own_scheme site.scheme (47 ∷ 47 ∷ authority) site.lower in
-      (λ i. parse_by_scheme (scheme i) None (question i).0 (question i).1 (hash i).1)
-      ∙ ap (λ s. parse_parts s None (47 ∷ 47 ∷ authority) None None) site.lower.lower
-      ∙ ap (λ r. and_then r (λ v. Ok (with_tail (before_tail v None None) None None))) body_parsed
-      ∙ ap (λ (v : Parts). Ok (with_tail v None None))
-      (before_special (without_tail alone) None None (ap is_special site.kind))
+      grind (arith, before_special, body_parsed, split_own_scheme, question, hash)
 
 pub prepared_alone : (front : List ℕ) → IsSite front → prepared front ≡ codes "/"
 prepared_alone front is_site =
     let site = site_of front is_site in
-    let long : 0 < length front = let whole = simp length-append at
-    (ap length site.assembled) in omega arith in
+    let long : 0 < length front = grind (arith, length-append) in
     prepared_parsed front (alone front site) long (alone_parsed front site)
 
 module _ (target : List ℕ) (is : IsTarget target) where
@@ -300,10 +288,8 @@ module _ (target : List ℕ) (is : IsTarget target) where
   unfolding is_kept should_percent_encode
   tail_left =
       let (stop, stay) = stops is.is_fragment.0 is.is_fragment.1 in
-      ap (after_delimited 35 TAIL.now)
-      (labeled_left 63 QUERY.now SPECIAL_QUERY refl is.query is.fragment is.is_query stop stay
-      ∙ sym (append-nil is.fragment))
-      ∙ labeled_left 35 TAIL.now FRAGMENT refl is.fragment [] is.is_fragment tt refl
+      cc (labeled_left 63 QUERY.now SPECIAL_QUERY refl is.query is.fragment is.is_query stop stay,
+      append-nil is.fragment, labeled_left 35 TAIL.now FRAGMENT refl is.fragment [] is.is_fragment tt refl)
     where
       stops : (part : Option (List ℕ)) → is.fragment ≡ with_delimiter (codes "#") part
           → StopsAt (is_kept QUERY.now) is.fragment
@@ -325,17 +311,7 @@ unfolding is_kept should_percent_encode
 target_read target tail rest end (path, assembled, is_path) following last none =
     let (query, tail_is, is_query) = labeled_read 63 QUERY.now SPECIAL_QUERY refl tail in
     let (fragment, rest_is, is_fragment) = labeled_read 35 TAIL.now FRAGMENT refl rest in
-    let whole =
-    sym following ∙ rest_is ∙ ap (λ t. fragment ++ t) (sym last ∙ none) ∙ append-nil fragment in
-    record {
-      path = path;
-      query = query;
-      fragment = fragment;
-      assembled = assembled ∙ ap (λ t. path ++ t) (tail_is ∙ ap (λ t. query ++ t) whole);
-      is_path = is_path;
-      is_query = is_query;
-      is_fragment = is_fragment;
-    }
+    grind (arith, append-nil)
 
 -- ---- Strings that can't be parsed as URLs, for example because they begin with a slash
 
@@ -357,9 +333,7 @@ trimmed rest =
     let taken = suffix_len is_c0_control_or_space (slash ∷ rest) in
     let turned : taken ≡ trimmed_front (reverse rest ++ slash ∷ []) =
     ap trimmed_front (reverse-append (slash ∷ []) rest) in
-    let few : taken ≤ length rest = omega (arith, turned, stops (reverse rest), length-reverse rest) in
-    let more : length (slash ∷ rest) - taken ≡ suc (length rest - taken) = omega (arith, few) in
-    ap (λ n. take n (slash ∷ rest)) more
+    grind (arith, length-reverse, stops)
 
 parsed_from : List ℕ → Parsed Parts
 parsed_from text =

@@ -68,10 +68,7 @@ unfolding MatchesWith
 matches_decides anchors [] t = (λ _. tt, λ _. refl)
 matches_decides anchors (b ∷ q) t = elim (cases_Bool (b == star)) [
   | inl stars ↦ rw stars (some_end_decides _ _ (matches_decides anchors q) t)
-  | inr plain ↦ rw plain (elim (cases_Bool (anchors && (b == dollar))) [
-    | inl ends ↦ rw ends (at_end_decides _ _ (matches_decides anchors q) t)
-    | inr other ↦ rw other (after_decides _ _ (matches_decides anchors q) b t)
-  ])
+  | inr plain ↦ grind (arith, cases_Bool, matches_decides anchors q)
 ]
 
 pub placed_of : (rules : List PlacedRule) (rule : Rule) → Contains (unplaced rules) rule
@@ -151,11 +148,7 @@ verdict_by rules text placed false decides deny other = (
   λ q splits matches.
       let (found, listed, rule) = placed_of rules (q, true) splits in
       let worse = decides.best found listed (rw rule matches) in
-      elim (cases_order (length q) (length placed.rule.0)) [
-        | inl same ↦ absurd (worse (inr (rw rule same, inl (ap (λ (r : Rule). r.1) rule, deny))))
-        | inr (inl less) ↦ less
-        | inr (inr more) ↦ absurd (worse (inl (rw rule more)))
-      ],
+      grind (arith, cases_order, worse),
 )
 
 abbrev pub NoMatch : List PlacedRule → List ℕ → Type 0
@@ -184,8 +177,7 @@ best_is : (text : List ℕ) (rules : List PlacedRule) → IsFound rules text (be
 best_is text [] = grind arith
 best_is text (rule ∷ rules) = elim (cases_Bool (matches true rule.rule.0 text)) [
   | inl here ↦ rw here (at ((matches_decides true _ _).0 here) (best_of text rules) (best_is text rules))
-  | inr none ↦ rw none (past (not_from_Decides _ (matches_decides true _ _) none) (best_of text rules)
-      (best_is text rules))
+  | inr none ↦ grind (arith, matches_decides, not_from_Decides, past, best_is text rules)
 ]
   where
     first : Matches rule.rule.0 text → All (IsAbove text rule) rules → IsBest (rule ∷ rules) text rule
@@ -237,12 +229,7 @@ IsAnsweredBy found rules text =
 
 pub answered : (rules : List PlacedRule) (text : List ℕ)
     → IsAnsweredBy (deciding_rule rules text) rules text
-answered rules text = elim (cases_Bool (bytes_eq text robots_file)) [
-  | inl file ↦
-      let same = (bytes_eq-Decides text robots_file).0 file in rw file (λ denied. denied.0 same, inl same)
-  | inr other ↦ rw other (by_best (not_from_Decides _ (bytes_eq-Decides text robots_file) other)
-      (best_of text rules) (best_is text rules))
-]
+answered rules text = grind (arith, best_is, bytes_eq-Decides, cases_Bool, not_from_Decides, by_best)
   where
     by_best : text ≢ robots_file → (best : Option PlacedRule) → IsFound rules text best
         → IsAnsweredBy best rules text
@@ -263,4 +250,4 @@ pub record Answered (rules : List PlacedRule) (text : List ℕ) : Type 0 where
 pub each_text_answered : (rules : List PlacedRule) (text : List ℕ) → Answered rules text
 each_text_answered rules text =
     let is = answered rules text in
-    record { allowed = _; number = _; verdict = is.0; deciding = is.1 }
+    grind arith

@@ -93,10 +93,8 @@ pub is_captured_decides : (name : List ℕ) (lines : List LineValue) (i : ℕ)
 is_captured_decides name lines i =
     Decides-or _ _ (no_agent_decides lines)
     (Decides-like _
-    (λ (j, below, (is_named, apart)).
-    (j, below, is_named, λ (k, l, jk, kl, li, g, agent). apart (l, li, (agent, (k, kl, (jk, g))))))
-    (λ (j, below, is_named, apart).
-    (j, below, (is_named, λ (l, li, (agent, (k, kl, (jk, g)))). apart (k, l, jk, kl, li, g, agent))))
+    (grind arith)
+    (grind arith)
     (named_decides (passes_at is_agent lines) (passes_at is_group lines)
     (passes_at (is_agent_named name) lines) i))
 
@@ -227,9 +225,8 @@ captured_left : {X : Type 0} (given : ℕ × LineValue → Option X) (name : Lis
 captured_left given name all tracker position [] splits left = refl
 captured_left given name all tracker position (line ∷ lines) splits left =
     let (at, next) = at_front all position line lines left in
-    rw splits.captured (kept_next tracker.captured given (position, line) _
-    ∙ ap (cons_option (if_captured tracker (given (position, line))))
-    (captured_left given name all (step name tracker line) (position + 1) lines
+    rw splits.captured (cc (kept_next tracker.captured given (position, line) _,
+    captured_left given name all (step name tracker line) (position + 1) lines
     (occurs_next name all position tracker line at splits) next))
 
 pub captured_walked : {X : Type 0} (given : ℕ × LineValue → Option X) (name : List ℕ)

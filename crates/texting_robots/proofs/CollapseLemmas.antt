@@ -39,8 +39,7 @@ module _ (done before after rest : List ℕ) (split : rest ≡ before ++ (star �
 pub collapse_end : (rest : List ℕ) → ((i : ℕ) → i < length rest → get_or rest i 0 ≢ star)
     → collapsed rest ≡ rest
 unfolding collapsed
-collapse_end rest plain =
-    ap collapsed (sym (append-nil rest)) ∙ collapse_plain rest [] plain ∙ append-nil rest
+collapse_end rest plain = cc (append-nil rest, collapse_plain rest [] plain)
 
 pub collapse_keeps_meaning : (anchors : Bool) (p t : List ℕ)
     → MatchesWith anchors (collapsed p) t ↔ MatchesWith anchors p t

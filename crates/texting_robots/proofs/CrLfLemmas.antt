@@ -49,10 +49,8 @@ same_bodies : (text : List ℕ) → bodies_of (crlf_to_lf text) ≡ bodies_of te
 same_bodies [] = refl
 same_bodies (b ∷ text) = elim (cases_Bool (b == cr && slice_index text 0 == lf)) [
   | inl pair ↦
-      let (return, feed) = and_parts (b == cr) (slice_index text 0 == lf) pair in
-      rw pair (same_bodies text
-      ∙ sym (return_before_feed b text (eqb-true b cr return) (eqb-true (slice_index text 0) lf feed)))
-  | inr single ↦ rw (single, step b (crlf_to_lf text), step b text) (ap (body_step b) (same_bodies text))
+      grind (arith, and_parts, eqb-true, return_before_feed, same_bodies text)
+  | inr single ↦ grind (arith, step, same_bodies text)
 ]
 
 feed_stays : (byte : ℕ) (text : List ℕ) → (lf == byte) ≡ false → slice_index text 0 ≡ lf

@@ -39,11 +39,9 @@ first_line b (c ∷ text) =
       | inr (inl return) ↦ rw (return, cut_cons cr, next) (elim (byte_cases c) [
         | inl feed ↦ rw feed refl
         | inr (inl return) ↦ rw return refl
-        | inr (inr other) ↦ rw (ne_eqb c lf other.1, ne_eqb c cr other.0)
-            (ap (λ pairs. pair_of [] (cr ∷ []) ∷ pairs)
-            (sym (rw (ne_eqb c lf other.1, ne_eqb c cr other.0) at next)))
+        | inr (inr other) ↦ grind (arith, ne_eqb, pair_of)
       ])
-      | inr (inr other) ↦ rw (cut_cons b, ne_eqb b lf other.1, ne_eqb b cr other.0, next) refl
+      | inr (inr other) ↦ grind (arith, cut_cons, ne_eqb)
     ]
 
 bodies_first : (text : List ℕ) → 0 < length text
@@ -96,8 +94,7 @@ body_by : (n : Bool) (test : ℕ → Bool) → Ends n test → (text : List ℕ)
     → position_or_len test text ≡ body_len (read_as n text)
 body_by n test ends text =
     sym (is_position_or_len (λ t. body_len (read_as n t)) test refl
-    (λ b t. step (read_byte n b == lf) (read_byte n b == cr) (test b) (body_len (read_as n t))
-    (ends b)) text)
+    (grind (arith, step, test, ends)) text)
   where
     step : (x y z : Bool) (k : ℕ) → z ≡ (x || y)
         → (if x then 0 else (if y then 0 else suc k)) ≡ cond z 0 (1 + k)
@@ -127,11 +124,7 @@ pub front_seen : (n : Bool) (text : List ℕ) (k len : ℕ) → k ≤ length tex
 front_seen n text k len within len_is =
     let test = λ (b : ℕ). read_byte n b == lf || read_byte n b == cr in
     let by = body_by n test (λ b. refl) in
-    let here : position_or_len test (take k text) ≡ len = by (take k text) ∙ sym len_is in
-    let seen = first_seen test text k within in (
-      λ less. sym (by text) ∙ seen.0 (omega arith) ∙ here,
-      λ all. sym (by text) ∙ seen.1 (omega arith) ∙ ap (λ m. k + m) (by (drop k text)),
-    )
+    grind (arith, first_seen, by, len_is)
 
 abbrev flag : ℕ → ℕ → ℕ
 flag third b =

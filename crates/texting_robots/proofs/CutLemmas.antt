@@ -72,7 +72,7 @@ joined_is_cut : (pairs : List Pair) → ArePairs pairs → IsCut pairs (joined p
 joined_is_cut pairs are =
     let at = λ (k : ℕ) (d : Pair) (below : k < length pairs).
     pair_at pairs are (take k pairs) (drop (k + 1) pairs) (get_or pairs k d)
-    (sym (take-append-drop k pairs) ∙ ap (λ t. take k pairs ++ t) (drop_more pairs k d below)) in
+    (grind (arith, drop_more, take-append-drop, d)) in
     record {
       whole = refl;
       bodies = λ k d below. All-from_recursion IsBodyByte (get_or pairs k d).body (at k d below).body;
@@ -102,15 +102,15 @@ cut_occurs (pair ∷ later) text is = (
         (All-head (λ p. All IsBodyByte p.body) pair later is.bodies);
     ends = ends_by pair.body pair.ending later (All-head (λ p. IsLineEnd p.ending) pair later is.endings)
         (is.empty_ending [] later pair refl)
-        (λ next more e. is.open_ending [] more pair next (ap (λ l. pair ∷ l) e));
+        (λ next more e. is.open_ending [] more pair next (cc));
   },
   cut_occurs later (joined later) (record {
     whole = refl;
     bodies = All-tail (λ p. All IsBodyByte p.body) pair later is.bodies;
     endings = All-tail (λ p. IsLineEnd p.ending) pair later is.endings;
-    empty_ending = λ front back p e. is.empty_ending (pair ∷ front) back p (ap (λ l. pair ∷ l) e);
+    empty_ending = λ front back p e. is.empty_ending (pair ∷ front) back p (cc);
     open_ending =
-        λ front back p next e. is.open_ending (pair ∷ front) back p next (ap (λ l. pair ∷ l) e);
+        λ front back p next e. is.open_ending (pair ∷ front) back p next (cc);
   }),
 )
 

@@ -76,7 +76,7 @@ fraction_read : (point fraction tail : List ℕ) → IsPoint point fraction → 
     → IsRead tail [] tail → IsRead (point ++ (fraction ++ tail)) fraction tail
 fraction_read point fraction tail (inl dot) digits is =
     let found = digits_read fraction tail digits is.stop in
-    rw dot (record { stop = refl; digits = found.0; following = found.1 })
+    grind arith
 fraction_read point fraction tail (inr (none, empty)) digits is = rw (none, empty) is
 
 number_read : (text : List ℕ) (n : Decimal) → Writes text n → number_of text ≡ Some n
@@ -103,7 +103,7 @@ fraction_found (b ∷ rest) = elim (cases_Bool (b == byte ".")) [
   | inl dot ↦ rw (dot, eqb-true b (byte ".") dot) (record {
     point = codes ".";
     is_point = inl refl;
-    is_rest = ap (λ t. byte "." ∷ t) (digits_whole rest);
+    is_rest = cc (digits_whole rest);
     digits = digits_are rest;
   })
   | inr other ↦ rw other (no_fraction (b ∷ rest))
@@ -113,14 +113,7 @@ exponent_found : (tail exponent : List ℕ) → exponent_of tail ≡ Some expone
 exponent_found [] exponent e = inl (refl, cc)
 exponent_found (b ∷ tail) exponent e =
     let (passes, is) = cond_some _ tail exponent e in
-    let (letter, numeral) = and_parts (b == byte "e" || b == byte "E") _ passes in
-    rw (← is) (inr (
-      elim (or_cases (b == byte "e") (b == byte "E") letter) [
-        | inl small ↦ inl (ap (λ l. l ∷ tail) (eqb-true b (byte "e") small))
-        | inr capital ↦ inr (ap (λ l. l ∷ tail) (eqb-true b (byte "E") capital))
-      ],
-      (numeral_decides (without_leading_sign tail)).0 numeral,
-    ))
+    grind (arith, and_parts, eqb-true, numeral_decides, or_cases)
 
 abbrev decimal : List ℕ → List ℕ → List ℕ → Decimal
 decimal whole fraction exponent = record { whole = whole; fraction = fraction; exponent = exponent }
@@ -141,7 +134,7 @@ number_found text n e =
     subst (Writes text) (sym parts.1.2) (record {
       point = is.point;
       tail = tail;
-      is_text = digits_whole text ∙ ap (λ t. whole ++ t) is.is_rest;
+      is_text = cc (digits_whole text);
       whole = digits_are text;
       fraction = is.digits;
       some = parts.0;
@@ -153,9 +146,7 @@ pub has_digits : (text : List ℕ) (n : Decimal) → number_of text ≡ Some n �
     → HasDigits n
 has_digits text n e short =
     let h = number_found text n e in
-    let size = simp length-append at (ap length h.is_text) in
-    let exponent = digits h.tail n.exponent h.is_tail in
-    record { whole = h.whole; fraction = h.fraction; exponent = exponent; short = omega (arith, size) }
+    grind (arith, length-append, digits, h.is_tail)
   where
     digits : (tail exponent : List ℕ) → IsTail tail exponent
         → All IsAsciiDigit (without_leading_sign exponent)
@@ -169,16 +160,8 @@ rounded_rounds n =
     let g = 10 ^ negative_exponent n in
     let top = digits_value 10 (n.whole ++ n.fraction) * 10 ^ 6 * 10 ^ positive_exponent n in
     let ten : (k : ℕ) → 0 < 10 ^ k = λ k. one-le-pow k 10 (omega arith) in
-    let some : 0 < f * g = mul-pos (ten (length n.fraction)) (ten (negative_exponent n)) in
-    let at : (d : ℕ) → d ≤ top / (f * g) → AtMost d n =
-    λ d l. rw (mul_assoc d f g) ((le-div_iff_mul-le some).0 l) in
-    let back : (d : ℕ) → AtMost d n → d ≤ top / (f * g) =
-    λ d a. (le-div_iff_mul-le some).1 (rw (mul_assoc d f g) at a) in
-    record {
-      bound = min-le_right (top / (f * g)) greatest_delay;
-      at_most = at (rounded n) (min-le_left (top / (f * g)) greatest_delay);
-      greatest = λ d bound a. le-min (back d a) bound;
-    }
+    let some : 0 < f * g = grind (arith, mul-pos, ten) in
+    grind (arith, le-div_iff_mul-le, le-min, min-le_left, min-le_right, mul_assoc)
 
 rounds_same : (n : Decimal) (d e : ℕ) → Rounds n d → Rounds n e → d ≡ e
 rounds_same n d e a b = omega (arith, b.greatest d a.bound a.at_most, a.greatest e b.bound b.at_most)
@@ -192,14 +175,12 @@ named : (minus : Bool) (text : List ℕ) (delay : ℕ)
     → MatchBool minus (NamesZero text delay) (NamesSeconds text delay)
     → delay_after minus text ≡ Some delay
 named true text delay (n, writes, zeros, none) =
-    ap (λ o. option_and_then zero_of o) (number_read text n writes)
-    ∙ cond-true _ _ _ ((zero_decides n).1 zeros)
-    ∙ ap Some (sym none)
+    cc (number_read text n writes, cond-true _ _ _ ((zero_decides n).1 zeros))
 named false text delay (inl (infinite, greatest)) = grind (arith, cond-true, infinite_decides)
 named false text delay (inr (n, writes, rounds)) =
-    cond-false _ _ _ (false_from_ne_true (is_infinite text) (λ is. finite ((infinite_decides text).0 is)))
-    ∙ ap (λ o. option_map rounded o) (number_read text n writes)
-    ∙ ap Some (rounds_same n (rounded n) delay (rounded_rounds n) rounds)
+    cc (cond-false _ _ _ (false_from_ne_true (is_infinite text) (λ is. finite
+    ((infinite_decides text).0 is))), number_read text n writes,
+    rounds_same n (rounded n) delay (rounded_rounds n) rounds)
   where
     finite : IsInfinite text → ⊥
     finite (inl e) = cc (number_read text n writes, infinite_number text (codes "nf") e)

@@ -82,8 +82,7 @@ cut_off ds digits (suc k) =
 at_position : (n : Decimal) → All IsAsciiDigit (n.whole ++ n.fraction) → let ds = n.whole ++ n.fraction in
     value ds * 10 ^ 6 * 10 ^ positive_exponent n / (10 ^ length n.fraction * 10 ^ negative_exponent n)
     ≡ value (take (places n) ds) * 10 ^ (places n - length ds)
-at_position n digits = at (n.whole ++ n.fraction) digits (length n.whole) (length n.fraction)
-    (positive_exponent n) (negative_exponent n) (length-append n.whole n.fraction)
+at_position n digits = grind (arith, length-append, at)
   where
     at : (ds : List ℕ) → All IsAsciiDigit ds → (w f up down : ℕ) → length ds ≡ w + f → let p =
         w + 6 + up - down in
@@ -120,8 +119,7 @@ far (suc v) k more =
     let ten : 0 < 10 = omega arith in
     let some : 1 ≤ suc v = omega arith in
     let long : 10 ^ 20 ≤ 10 ^ k = pow-le-pow_right ten more in
-    let as_long : 1 * 10 ^ k ≤ suc v * 10 ^ k = mul-le-mul_right (10 ^ k) some in
-    omega arith
+    grind (arith, mul-le-mul_right)
 
 -- twenty zeros after the digits are enough, also for a position past them
 twenty : (ds : List ℕ) (p : ℕ) → length ds + 20 ≤ greatest_delay
@@ -130,15 +128,12 @@ twenty : (ds : List ℕ) (p : ℕ) → length ds + 20 ≤ greatest_delay
 twenty ds p room = elim (cases_lt (length ds + 20) p) [
   | inl beyond ↦ (let long = length-append ds (zeros 20) in
       let all : take (bounded p) (ds ++ zeros 20) ≡ ds ++ zeros 20 =
-      take_all (bounded p) (ds ++ zeros 20) (omega (arith, long)) in
+      grind (arith, take_all) in
       let here : take p ds ≡ ds = take_all p ds (omega arith) in
       rw (all, value_zeros ds 20, here) (far (value ds) (p - length ds) (omega arith)))
   | inr within ↦ (let same : bounded p ≡ p = omega arith in
       let missing = take-replicate (p - length ds) 20 (byte "0") (omega arith) in
-      ap (λ q. bounded (value (take q (ds ++ zeros 20)))) same
-      ∙ ap (λ xs. bounded (value xs))
-      (sym (take_parts p ds (zeros 20)) ∙ ap (λ xs. take p ds ++ xs) missing)
-      ∙ ap bounded (value_zeros (take p ds) (p - length ds)))
+      cc (take_parts p ds (zeros 20), value_zeros (take p ds) (p - length ds)))
 ]
 
 joined : (xs ys zs : List ℕ)
@@ -157,11 +152,6 @@ micros_rounded n p has position =
     let room : length ds + 20 ≤ greatest_delay =
     omega (arith, length-append n.whole n.fraction, has.short) in
     let parts : take p n.whole ++ (take left n.fraction ++ missing) ≡ take p (ds ++ zeros 20) =
-    ap (λ xs. take p n.whole ++ xs) (take_parts left n.fraction (zeros 20))
-    ∙ take_parts p n.whole (n.fraction ++ zeros 20)
-    ∙ ap (take p) (sym (append_assoc n.whole n.fraction (zeros 20))) in
-    joined (take p n.whole) (take left n.fraction) missing
-    ∙ ap (λ xs. bounded (value xs)) parts
-    ∙ ap (λ q. bounded (value (take q (ds ++ zeros 20)))) position
-    ∙ twenty ds (places n) room
-    ∙ ap bounded (sym (at_position n (All-append IsAsciiDigit n.whole n.fraction has.whole has.fraction)))
+    grind (arith, append_assoc, take_parts) in
+    cc (joined (take p n.whole) (take left n.fraction) missing, twenty ds (places n) room,
+    at_position n (All-append IsAsciiDigit n.whole n.fraction has.whole has.fraction))

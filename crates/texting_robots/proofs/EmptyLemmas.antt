@@ -25,10 +25,8 @@ past_empty given step n position (b ∷ text) =
     elim (cases_Bool (is_feed n b)) [
       | inl feed ↦
           let more : 1 + k ≡ suc k = omega arith in
-          rw (feed, more) (ap (given position) (feed_adds (read_byte n b) (read_as n text) feed)
-          ∙ step position (lines_of (read_as n text)) ∙ past_empty given step n (position + 1) text
-          ∙ ap (λ p. given p (lines_of (read_as n (drop k text)))) (omega arith))
-      | inr other ↦ rw other (ap (λ p. given p (lines_of (read_as n (b ∷ text)))) (omega arith))
+          grind (arith, feed_adds, given, step, past_empty given step n (position + 1) text)
+      | inr other ↦ grind (arith, given)
     ]
 
 module _ (n : Bool) (position : ℕ) (text : List ℕ) where

@@ -1,4 +1,5 @@
 -- Lemmas by which computation proves the worked examples.
+use Rattle.std.proofs.Common.{arith}
 use Rattle.std.proofs.Common.{◌≡◌, ◌==◌, ℕ, nat_lt, ◌&&◌, Bool, true, false, List, length, Some, get_or, refl}
 use Rattle.std.proofs.Common.{subst}
 use Rattle.std.specs.{Bool.Decides, List.Any, List.list_any}
@@ -28,7 +29,7 @@ any_decides : {X : Type 0} (P : X → Type 0) (test : X → Bool) → ((x : X) �
     → (xs : List X) → Decides (list_any test xs) (Any P xs)
 any_decides P test each xs = (
   λ is. let (k, x, below, at, here) = Any-from_list_any test xs is in (k, x, below, at, (each x).0 here),
-  λ (k, x, below, at, here). list_any-from_Any test xs (k, x, below, at, (each x).1 here),
+  grind (arith, list_any-from_Any, each),
 )
 
 abbrev is_overlong : List ℕ → Bool
@@ -38,12 +39,7 @@ is_overlong pattern =
 pub overlong_decides : (pattern : List ℕ) → Decides (is_overlong pattern) (IsOverlong pattern)
 overlong_decides pattern =
     let dollars = any_decides (λ b. b ≡ dollar) (λ b. b == dollar) (λ b. Decides-eqb b dollar) pattern in
-    Decides-and _ _ (
-      λ is.
-          let (k, b, below, at, here) = dollars.0 is in
-          (k, below, subst (λ d. get_or pattern k d ≡ d) here at),
-      λ (k, below, is). dollars.1 (k, dollar, below, is, refl),
-    ) (Decides-ltb longest_with_dollar (length (collapsed pattern)))
+    grind (arith, dollars.0, dollars.1)
 
 pub any_overlong_decides : (rules : List Rule)
     → Decides (list_any (λ (rule : Rule). is_overlong rule.0) rules)

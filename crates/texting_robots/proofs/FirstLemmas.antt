@@ -49,10 +49,7 @@ beginning_fits segment rest head is = grind (arith, same_masked)
 
 pub or_assoc : (a b c : ℕ) → bit_or (bit_or a b) c ≡ bit_or a (bit_or b c)
 or_assoc a b c =
-    same_from_bits _ _ (λ i.
-    let left = bit_at_or (bit_or a b) c i in
-    let right = bit_at_or a (bit_or b c) i in
-    omega (arith, left, bit_at_or a b i, right, bit_at_or b c i))
+    same_from_bits _ _ (grind (arith, bit_at_or, b))
 
 within_later : (few more many : ℕ) → AreWithin few many → AreWithin few (bit_or more many)
 within_later few more many h = grind (arith, or_assoc, or_comm)
@@ -72,8 +69,7 @@ front_within (b ∷ c ∷ front) rest =
     let bit = pair_bit b c in
     let more = pair_set (c ∷ (front ++ rest)) in
     let first = sym (or_assoc bit bit more) ∙ ap (λ x. bit_or x more) (or_self bit) in
-    within_both bit (pair_set (c ∷ front)) (bit_or bit more) first
-    (within_later (pair_set (c ∷ front)) bit more (front_within (c ∷ front) rest))
+    grind (arith, within_both, within_later, front_within (c ∷ front) rest)
 
 end_within : (front rest : List ℕ) → AreWithin (pair_set rest) (pair_set (front ++ rest))
 unfolding pair_set
@@ -87,8 +83,8 @@ within_moved bits few some left all h k =
     let more : AreWithin (bit_or (bit_or bits few) left) (bit_or bits (bit_or some left)) =
     within_both (bit_or bits few) left (bit_or bits (bit_or some left))
     (within_both bits few (bit_or bits (bit_or some left))
-    (sym (or_assoc bits bits _) ∙ ap (λ x. bit_or x (bit_or some left)) (or_self bits))
-    (within_later few bits _ (sym (or_assoc few some left) ∙ ap (λ x. bit_or x left) h)))
+    (cc (or_assoc bits bits _, or_self bits))
+    (grind (arith, or_assoc, within_later, some)))
     (within_later left bits _ (within_later left some left (or_self left))) in
     within_through _ _ all more k
 
@@ -147,7 +143,7 @@ left_within pattern ending (segment ∷ segments) left (rest, is, more) t m =
     let following = within_through later (pair_set after) (pair_set (part ++ after))
     (left_within pattern ending segments rest more after n) (end_within part after) in
     let both = within_both (pair_set part) later (pair_set (part ++ after)) here following in
-    rw e (within_through pairs (pair_set (part ++ after)) _ both (end_within front (part ++ after)))
+    grind (arith, end_within, within_through)
 
 pub are_prefilter : {pattern : List ℕ} {ends : Ends} {segments : List Segment} {borders : List ℕ}
     (prefilter : Prefilter)
@@ -163,10 +159,7 @@ beginning_within pattern rest text few first less e =
     let front = take first pattern in
     let parts = sym (take-append-drop few front) in
     let same : take few front ≡ take few pattern = take-take few first pattern less in
-    let all : text ≡ take few pattern ++ (drop few front ++ rest) =
-    e ∙ ap (λ x. x ++ rest) (parts ∙ ap (λ x. x ++ drop few front) same)
-    ∙ append_assoc (take few pattern) (drop few front) rest in
-    rw all (front_within (take few pattern) (drop few front ++ rest))
+    grind (arith, append_assoc, front_within)
 
 -- ---- The looks for a pattern, and those for all rules.
 
@@ -206,7 +199,7 @@ cost_counts all n from to less within =
     let parts = sum_by-take-drop (λ (r : PlacedRule). 1 + looks_of r.rule.0 n) some from in
     let long : length (drop from some) ≡ to - from =
     simp (length-drop, length-take, length-map) (omega arith) in
-    rw (← take-take from to (rules_in all) less) (omega (arith, parts, counts n (drop from some), long))
+    grind (arith, counts, take-take)
 
 -- ---- Among sorted rules, the first that matches decides.
 
@@ -242,22 +235,13 @@ pub none_apart : (all : Unsorted) (text : List ℕ) (from to : ℕ) → AreEntri
     → AreApart all.masks.items (pair_set text) from to → NoneBetween all text from to
 none_apart all text from to are masked apart = λ k above below matches.
     let (here, differs) = apart k above below in
-    let is = are.known k no_entry (omega arith) in
-    differs (rw (← masked k here) at (mask_within all _ is text matches))
+    grind (arith, mask_within, are.known, differs)
 
 pub tried_to : (all : Unsorted) (old now new : ViewValue) (from to : ℕ)
     → NoneBetween all old.text from to → new.text ≡ now.text → now.looks ≤ new.looks
     → new.looks + cost_upto all (length old.text) from ≤ now.looks + cost_upto all (length old.text) to
     → AreTried all old now from → AreTried all old new to
-tried_to all old now new from to none same grows spent tried = record {
-  text = same ∙ tried.text;
-  before = λ k below matches. elim (cases_lt k from) [
-    | inl early ↦ tried.before k early matches
-    | inr late ↦ none k late below matches
-  ];
-  grows = omega (arith, tried.grows);
-  spent = omega (arith, tried.spent, spent);
-}
+tried_to all old now new from to none same grows spent tried = grind (arith, cases_lt, tried.before, none)
 
 pub tried_more : (all : Unsorted) (old now new : ViewValue) (at : ℕ) (entry : Entry)
     → at < length all.entries.items → entry ≡ get_or all.entries.items at entry
@@ -266,11 +250,7 @@ pub tried_more : (all : Unsorted) (old now new : ViewValue) (at : ℕ) (entry : 
     → AreTried all old now at → AreTried all old new (at + 1)
 tried_more all old now new at entry within is other same grows spent tried =
     let more = cost_more all (length old.text) at entry within is in
-    tried_to all old now new at (at + 1) (λ k above below matches.
-    let here : k ≡ at = omega arith in
-    other (subst (λ (e : Entry). Matches (pattern_of all e) old.text)
-    (sym (get_or_read all.entries.items at entry within is no_entry))
-    (subst (λ n. MatchesAt all n old.text) here matches)))
+    tried_to all old now new at (at + 1) (grind (arith, get_or_read, other, is))
     same grows (omega (arith, spent, more)) tried
 
 part_length : {X : Type 0} (xs : List X) (span : Span) → IsSpan xs span

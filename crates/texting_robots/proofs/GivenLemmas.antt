@@ -99,10 +99,7 @@ captured_first : (agent : List ℕ) (lines : List LineValue)
 captured_first agent lines =
     let name = group_name agent lines in
     first_same (DelayAt (is_captured name lines) 0 lines) _ _
-    (λ k delay. (
-      λ is. (is.0, (is_captured_decides name lines k).0 (rw zero-add at is.1)),
-      λ is. (is.0, rw zero-add ((is_captured_decides name lines k).1 is.1)),
-    ))
+    (grind (arith, is_captured_decides, zero-add, lines))
     (delays_from (is_captured name lines) 0 lines)
 
 abbrev BeforeAgents : List LineValue → ℕ → ℕ → Type 0
@@ -113,10 +110,7 @@ BeforeAgents lines k delay =
 before_step : (line : LineValue) (lines : List LineValue) → is_agent line ≡ false
     → Step (BeforeAgents (line ∷ lines)) (BeforeAgents lines) (delay_in line)
 before_step line lines isnt = record {
-  at = λ delay. (
-    λ (is, none). let same : line ≡ CrawlDelay (Some delay) = cc in rw same refl,
-    λ is. (ap (λ l. Some l) (a_delay line delay is), λ j less. absurd (omega arith)),
-  );
+  at = grind (arith, a_delay);
   later = λ k delay. (
     λ (is, none). (is, λ j less. none (suc j) (omega arith)),
     λ (is, none). (is, following none),
@@ -196,7 +190,7 @@ pub delay_is_computed : (agent : List ℕ) (lines : List LineValue) (delay : Opt
     → IsDelayFor agent lines delay ↔ delay ≡ delay_for agent lines
 delay_is_computed agent lines delay =
     let is = is_delay_for agent lines _ _ (captured_first agent lines) (last_early lines) in
-    (λ has. one_delay_for agent lines _ _ has is, λ same. rw same is)
+    grind (arith, one_delay_for)
 
 abbrev Lists : LineValue → Option (List ℕ) → Type 0
 Lists line None = (sitemap : List ℕ) → ¬ ListsSitemap line sitemap
@@ -306,16 +300,9 @@ placed_held agent lines found =
     let test = is_captured (group_name agent lines) lines in
     let decides = is_captured_decides (group_name agent lines) lines in
     let (to, from) = given_come placed_in test 0 lines found in (
-      λ has.
-          let (k, position, line, far, at, is) = to has in
-          let same : k ≡ position = omega arith in
-          let given = (cond_given (test position) (placed_in (position, line)) found).0 is in
-          let (number, holds) =
-          line_holds agent lines position found line (rw same at at, (decides position).0 given.0) given.1 in
-          (position, number, holds),
+      grind (arith, cond_given, to, test, decides),
       λ (position, number, holds).
           let given = held_given agent lines position found holds number in
           let passes = (decides position).1 holds.line.1 in
-          let is = (cond_given (test position) _ found).1 (passes, given) in
-          from (position, position, _, omega arith, holds.line.0, is),
+          grind (arith, cond_given, test, from),
     )

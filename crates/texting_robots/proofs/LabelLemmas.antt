@@ -69,14 +69,12 @@ some_found test hay (Some k) first = grind (arith, list_any_at)
 pub front_tells : (test : ℕ → Bool) (text : List ℕ) (k : ℕ) → list_any test (take k text) ≡ true
     → list_any test text ≡ true
 front_tells test text k some =
-    ap (list_any test) (sym (take-append-drop k text)) ∙ list_any-append test (take k text) (drop k text)
-    ∙ ap (λ x. x || list_any test (drop k text)) some
+    cc (take-append-drop k text, list_any-append test (take k text) (drop k text))
 
 pub skips_front : (test : ℕ → Bool) (text : List ℕ) (k : ℕ) → list_any test (take k text) ≡ false
     → list_any test (drop k text) ≡ list_any test text
 skips_front test text k none =
-    ap (λ x. x || list_any test (drop k text)) (sym none)
-    ∙ sym (list_any-append test (take k text) (drop k text)) ∙ ap (list_any test) (take-append-drop k text)
+    cc (list_any-append test (take k text) (drop k text), take-append-drop k text)
 
 pub either_end : (test : ℕ → Bool) (text : List ℕ) (k : ℕ)
     → k ≤ length text → length text ≤ k + k
@@ -87,12 +85,9 @@ either_end test text k within meet none =
     let n = length text - k in
     let front = take k text in
     let parts = or_parts (list_any test (take n front)) (list_any test (drop n front))
-    (sym (list_any-append test (take n front) (drop n front))
-    ∙ ap (list_any test) (take-append-drop n front) ∙ none) in
+    (cc (list_any-append test (take n front) (drop n front), take-append-drop n front)) in
     let before = ap (list_any test) (sym (take-take n k text (omega arith))) ∙ parts.0 in
-    ap (list_any test) (take_rest text n) ∙ ap (λ x. x || list_any test (drop n text)) (sym before)
-    ∙ sym (list_any-append test (take n text) (drop n text))
-    ∙ ap (list_any test) (take-append-drop n text)
+    cc (take_rest text n, list_any-append test (take n text) (drop n text), take-append-drop n text)
 
 -- ---- The membership of lines, as the iterator computes it.
 
@@ -202,11 +197,9 @@ is_next lines position = record {
   none = λ k least less group.
       let there : position + (k - position) ≡ k = omega arith in
       let read = rw there at (get_or-drop position lines (k - position) (Raw [])) in
-      let fails = rw read at (fails_before_first is_group left (k - position) (Raw []) (omega arith)) in
-      cc (at k (within is_group lines k group));
+      grind (arith, fails_before_first, within, at);
   stop = elim (cases_lt (next_group lines position) (length lines)) [
-    | inl less ↦ inl (at _ less ∙ sym (ap is_group (get_or-drop position lines _ (Raw [])))
-        ∙ passes_at_first is_group left (Raw []) (omega (arith, length-drop position lines)))
+    | inl less ↦ grind (arith, get_or-drop, length-drop, passes_at_first, at)
     | inr past ↦ inr past
   ];
 }
@@ -273,14 +266,11 @@ module _ (name : List ℕ) (lines : List LineValue) (position : ℕ) (line : Lin
       let captured = is_captured_decides name lines next in
       let same : ((is_agent line || is_group line) && test)
       ≡ ((passes_at is_group lines position && test) || (passes_at is_agent lines position && test))
-      = rw at (ap (λ b. b && test) (or_comm (is_agent line) (is_group line))
-      ∙ and-or_distrib_right (is_group line) (is_agent line) test) in
+      = grind (arith, and-or_distrib_right, or_comm) in
       Decides-at _ _ same (Decides-or _ _
-      (and_given _ _ (itself (passes_at is_group lines position)) (λ group.
-      subst (λ k. Decides test (IsCaptured name lines k)) (group_stops name lines position next is group)
-      captured))
-      (Decides-like _ (λ (agent, (j, named, run)). (agent, j, named, run))
-      (λ (agent, j, named, run). (agent, (j, named, run)))
+      (grind (arith, and_given, itself, is))
+      (Decides-like _ (grind arith)
+      (grind arith)
       (and_given _ _ (itself (passes_at is_agent lines position)) (λ agent.
       Decides-like _ (run_named name lines position next is agent)
       (named_captures name lines position next is agent) captured))))
@@ -355,11 +345,7 @@ module _ (name : List ℕ) (all : List LineValue) where
       let later = left_only (position + 1) bodies labels next (cc) (cc) (λ k other at.
       let further : (position + 1) + k ≡ position + suc k = omega arith in rw further
       (each (suc k) other at)) in
-      let line_is : line_of body ≡ label.line = cc in
-      let body_is : body ≡ label.body = cc in
-      let first : label ≡ label_at name all (position, body) =
-      rw (sym belongs, sym here.0, line_is, body_is) refl in
-      rw (first, later) refl
+      grind arith
 
 pub labels_hold : (name : List ℕ) (bodies : List (List ℕ))
     → (lines_in (labels_of name bodies) ≡ map line_of bodies) × (bodies_in (labels_of name bodies) ≡ bodies)

@@ -26,10 +26,8 @@ pub first_labeled : (f : ℕ → ℕ) (width : ℕ) (v lanes : List ℕ) → wid
 first_labeled f width v lanes fits long lanes_are =
     let test = λ (b : ℕ). top 7 (f b) in
     let mask : mask_l (map (top 7) lanes) % 2 ^ 64 ≡ mask_l (map test v)
-    = ap (λ l. mask_l l % 2 ^ 64) (ap (map (top 7)) lanes_are ∙ map-map (top 7) f v)
-    ∙ mask_l-mod (map test v) 64 (omega (arith, length-map v test, long)) in
-    ap (λ m. if m == 0 then width else trailing_zeros w64 m) mask
-    ∙ first_set_mask_l test v width long (omega arith)
+    = cc (map-map (top 7) f v, mask_l-mod (map test v) 64 (omega (arith, length-map v test, long))) in
+    grind (arith, first_set_mask_l)
 
 module _ (test : ℕ → Bool) (text : List ℕ) where
   pub first_seen : (k : ℕ) → k ≤ length text
@@ -44,10 +42,8 @@ module _ (test : ℕ → Bool) (text : List ℕ) where
       let most = prefix_len-le-length (λ b. not (test b)) front in
       let seen : position_or_len test text ≡ cond (here == k) (k + position_or_len test back) here =
       ap (position_or_len test) (sym (take-append-drop k text))
-      ∙ prefix_len-append (λ b. not (test b)) front back ∙ rw long refl in (
-        λ less. seen ∙ cond-false _ _ _ (ne_eqb here k (omega arith)),
-        λ all. seen ∙ cond-true _ _ _ (eq-eqb here k (omega arith)),
-      )
+      ∙ prefix_len-append (λ b. not (test b)) front back ∙ rw long refl in grind (arith, cond-false,
+      cond-true, eq-eqb, ne_eqb)
 
   -- the last `k` bytes, if the first and the last `k` cover the text
   pub last_seen : (k : ℕ) → k ≤ length text → length text ≤ k + k
@@ -60,12 +56,7 @@ module _ (test : ℕ → Bool) (text : List ℕ) where
       let whole = (first_seen k within).1 none in
       let parts = first_seen n (omega arith) in
       let short = length-drop n text in
-      let following : take k (take (length text - n) (drop n text)) ≡ drop n text
-      = ap (take k) (take_rest text n) ∙ take_all k (drop n text) (omega arith) in
-      elim (cases_lt (position_or_len test (take n text)) n) [
-        | inl less ↦ absurd (omega (arith, parts.0 less, whole))
-        | inr more ↦ parts.1 more ∙ ap (λ l. n + position_or_len test l) (sym following)
-      ]
+      grind (arith, cases_lt, take_all, take_rest, parts.0, parts.1)
 
   pub within_front : (k : ℕ) → position_or_len test (take k text) ≤ k
   within_front k = grind (arith, length-take, prefix_len-le-length)
@@ -90,16 +81,14 @@ pub first_wildcard_lane : (width : ℕ) (v lanes : List ℕ) → width ≤ 64 �
     → lanes ≡ map flag v
     → (let mask = mask_l (map (top 7) lanes) % 2 ^ 64 in
     (if mask == 0 then width else trailing_zeros w64 mask) ≡ position_or_len is_wildcard v)
-first_wildcard_lane width v lanes fits long lanes_are = first_labeled flag width v lanes fits long lanes_are
-    ∙ ap (λ test. position_or_len test v) (fun_ext label_is)
+first_wildcard_lane width v lanes fits long lanes_are =
+    cc (first_labeled flag width v lanes fits long lanes_are, fun_ext label_is)
 
 pub any_flagged : (f : ℕ → ℕ) (v lanes : List ℕ) → length v ≤ 64 → lanes ≡ map f v
     → not (mask_l (map (top 7) lanes) % 2 ^ 64 == 0) ≡ list_any (λ b. top 7 (f b)) v
 any_flagged f v lanes fits lanes_are =
     let test = λ (b : ℕ). top 7 (f b) in
-    ap (λ m. not (m == 0)) (ap (λ l. mask_l l % 2 ^ 64) (ap (map (top 7)) lanes_are ∙ map-map (top 7) f v)
-    ∙ mask_l-mod (map test v) 64 (omega (arith, length-map v test)))
-    ∙ any_set test v
+    cc (map-map (top 7) f v, mask_l-mod (map test v) 64 (omega (arith, length-map v test)), any_set test v)
   where
     any_set : (test : ℕ → Bool) (v : List ℕ) → not (mask_l (map test v) == 0) ≡ list_any test v
     any_set test [] = refl
@@ -133,8 +122,8 @@ escape_lane_is b = grind (arith, joined, regrouped, top_lane)
 
 pub escaped_lane : (v lanes : List ℕ) → length v ≤ 64 → lanes ≡ map escape_lane v
     → not (mask_l (map (top 7) lanes) % 2 ^ 64 == 0) ≡ list_any is_escaped v
-escaped_lane v lanes fits lanes_are = any_flagged escape_lane v lanes fits lanes_are
-    ∙ ap (λ test. list_any test v) (fun_ext escape_lane_is)
+escaped_lane v lanes fits lanes_are =
+    cc (any_flagged escape_lane v lanes fits lanes_are, fun_ext escape_lane_is)
 
 -- vectors are the same if the comparison sets every bit
 module _ where
@@ -150,4 +139,4 @@ module _ where
       let tops = ap (λ ms. mask_l ms % 2 ^ 64) (tops_compared w8 eqb xs ys) in
       let short = length-zip2 eqb xs ys in
       let mask = mask_l-mod (zip2 eqb xs ys) 64 (omega (arith, short, long, along)) in
-      ones xs ys (omega (arith, long, along)) (rw long (omega (arith, sym mask ∙ (sym tops ∙ full))))
+      grind (arith, ones)

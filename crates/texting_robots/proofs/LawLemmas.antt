@@ -25,13 +25,12 @@ same_from : (agent : List ℕ) (lines : List LineValue) (other : List ℕ) (othe
     → SameButSitemaps agent lines other others
 same_from agent lines other others rules delay = record {
   rules = rules;
-  verdict = λ text answer. along (λ (r : List Rule). IsVerdict r text answer) _ _ rules;
+  verdict = grind (arith, along);
   delay = delay;
   rejection =
       let one = rejection_is_computed agent lines in
       let two = rejection_is_computed other others in
-      let same = along (λ (r : List Rule). Any (λ (rule : Rule). IsOverlong rule.0) r) _ _ rules in
-      (λ is. two.1 (same.0 (one.0 is)), λ is. one.1 (same.1 (two.0 is)));
+      grind (arith, along, two.1, one.0, one.1, two.0);
 }
 
 -- the same crawlers are named, and the captured lines give the same
@@ -118,22 +117,15 @@ module _ (keep : LineValue → Bool)
 
   pub same_filtered : (agent : List ℕ) (lines : List LineValue)
       → SameButSitemaps agent lines agent (filter keep lines)
-  same_filtered agent lines = same_alike agent lines (filter keep lines) (record {
-    agents = any_kept is_agent (λ line is. is) lines;
-    named = λ name. any_kept (is_agent_named name) (only_agents name) lines;
-    rules = captured_kept rule_in no_rule _ _ lines;
-    delays = captured_kept delay_in no_delay _ _ lines;
-    before = before_kept lines;
-  })
+  same_filtered agent lines = same_alike agent lines (filter keep lines) (grind (arith, any_kept,
+      before_kept, captured_kept, no_delay, no_rule, only_agents))
 
   same_kept : (agent : List ℕ) (lines others : List LineValue) → filter keep lines ≡ filter keep others
       → SameButSitemaps agent lines agent others
   same_kept agent lines others same =
       let one = same_filtered agent lines in
       let two = same_filtered agent others in
-      same_from agent lines agent others
-      (one.rules ∙ ap (rules_for agent) same ∙ sym two.rules)
-      (one.delay ∙ ap (delay_for agent) same ∙ sym two.delay)
+      grind (arith, same_from)
 
 raw_neutral : (line : LineValue) → not (is_raw line) ≡ false → IsNeutral line
 raw_neutral line h = grind arith
@@ -150,7 +142,7 @@ pub raw_changes_nothing : (agent : List ℕ) (lines others : List LineValue)
 raw_changes_nothing agent lines others same =
     let found = found_kept sitemap_in (λ line. not (is_raw line)) raw_no_sitemap in (
       same_kept (λ line. not (is_raw line)) raw_neutral agent lines others same,
-      found lines ∙ ap sitemaps_in same ∙ sym (found others),
+      grind (arith, found),
     )
 
 pub sitemaps_change_nothing_else : (agent : List ℕ) (lines others : List LineValue)
@@ -184,8 +176,7 @@ occurs_walked name all tracker position [] back splits left = rw (add-zero posit
 occurs_walked name all tracker position (line ∷ front) back splits left =
     let (at, next) = at_front all position line (front ++ back) left in
     let here = occurs_next name all position tracker line at splits in
-    let sum : position + suc (length front) ≡ (position + 1) + length front = omega arith in
-    rw sum (occurs_walked name all (step name tracker line) (position + 1) front back here next)
+    grind (arith, occurs_walked name all (step name tracker line) (position + 1) front back here next)
 
 captured_after : {X : Type 0} (given : LineValue → Option X) (name : List ℕ) (tracker : GroupTracker)
     (front back others : List LineValue)
@@ -223,14 +214,9 @@ uncaptured_reaches_nothing agent front back line other kind uncaptured =
         named = λ n. any (is_agent_named n) (alike.named n);
         rules = captured_after rule_in _ _ front _ _ (apart rule_in _ _ alike free);
         delays = captured_after delay_in _ _ front _ _ (apart delay_in _ _ alike free);
-        before = before_after front _ _ (elim (cases_Bool (is_agent other)) [
-          | inl is ↦ rw (alike.agent, is) refl
-          | inr isnt ↦ rw (alike.agent, isnt, alike.delay) refl
-        ]);
+        before = grind (arith, before_after, cases_Bool);
       }),
-      filter_map-append sitemap_in front (line ∷ back)
-          ∙ ap (λ o. sitemaps_in front ++ cons_option o (sitemaps_in back)) alike.sitemap
-          ∙ sym (filter_map-append sitemap_in front (other ∷ back)),
+      grind (arith, filter_map-append),
     )
   where
     any : (test : LineValue → Bool) → test line ≡ test other

@@ -23,11 +23,11 @@ use Rattle.texting_robots.specs.declared.parser.statement.Kind.TheVariants as ki
 pub line_stated : (body : List ℕ) (kind : Kind) (value : List ℕ)
     → statement_of body ≡ Some (kind, value) → line_of body ≡ line_with kind value body
 unfolding line_of
-line_stated body kind value found = ap (λ s. line_by s body) found
+line_stated body kind value found = cc
 
 pub line_raw : (body : List ℕ) → statement_of body ≡ None → line_of body ≡ Raw body
 unfolding line_of
-line_raw body none = ap (λ s. line_by s body) none
+line_raw body none = cc
 
 with_delay : (value body : List ℕ) (delay : Option ℕ) → IsDelay value delay
     → IsLineWith kind.CrawlDelay value body (delay_or_raw delay body)
@@ -40,9 +40,8 @@ is_line_with kind value body = grind (arith, delay_of_is, with_delay)
 only_line_with : (kind : Kind) (value body : List ℕ) (line : LineValue) → IsLineWith kind value body line
     → line ≡ line_with kind value body
 only_line_with kind.CrawlDelay value body line (inl (delay, names, is)) =
-    is ∙ ap (λ d. delay_or_raw d body) (is_delay_of value (Some delay) names)
-only_line_with kind.CrawlDelay value body line (inr (names, is)) =
-    is ∙ ap (λ d. delay_or_raw d body) (is_delay_of value None names)
+    cc (is_delay_of value (Some delay) names)
+only_line_with kind.CrawlDelay value body line (inr (names, is)) = cc (is_delay_of value None names)
 only_line_with kind.Disallow [] body line is = is
 only_line_with _ value body line is = is
 
@@ -74,9 +73,8 @@ pub only_lines : (lines : List LineValue) (bodies : List (List ℕ)) → AllZip 
 only_lines [] [] all = refl
 only_lines [] (body ∷ bodies) all = absurd all
 only_lines (line ∷ lines) [] all = absurd all
-only_lines (line ∷ lines) (body ∷ bodies) all = ap (λ x. x ∷ lines)
-    (only_line line body (statement_of body) refl all.0) ∙ ap (λ t. line_of body ∷ t)
-    (only_lines lines bodies all.1)
+only_lines (line ∷ lines) (body ∷ bodies) all =
+    cc (only_line line body (statement_of body) refl all.0, only_lines lines bodies all.1)
 
 parsed_are_lines : (text : List ℕ) → AreLinesOf (parsed text) text
 parsed_are_lines text =
@@ -194,7 +192,7 @@ tail_range tail rest (inr (blanks, all, some, whole, plain)) = (blanks, [], rw w
 
 value_range : (kind : Kind) (value body : List ℕ) → IsStatement kind value body → IsRangeOf value body
 value_range kind value body s =
-    let in_region : IsRangeOf value s.region = (s.trimmed.front, s.trimmed.back, s.trimmed.whole) in
+    let in_region : IsRangeOf value s.region = grind arith in
     let in_tail : IsRangeOf s.region s.tail = ([], s.comment, s.parted) in
     let in_rest : IsRangeOf s.rest body =
     (s.margin ++ s.key, [], s.whole ∙ simp (append_assoc, append-nil)) in
@@ -222,7 +220,7 @@ line_ranges (body ∷ bodies) = grind (arith, is_line, line_range, line_ranges b
 taken_off : (byte : ℕ) (text : List ℕ) → (taken : List ℕ) × (text ≡ taken ++ without byte text)
 taken_off byte [] = ([], refl)
 taken_off byte (b ∷ text) = elim (cases_Bool (b == byte)) [
-  | inl is ↦ (b ∷ [], ap (λ t. b ∷ t) (sym (cond-true _ _ _ is)))
+  | inl is ↦ (b ∷ [], cc (cond-true _ _ _ is))
   | inr isnt ↦ ([], sym (cond-false _ _ _ isnt))
 ]
 
@@ -242,8 +240,7 @@ front_is_end text =
     let two = taken_off 0xBB (without 0xEF text) in
     let three = taken_off 0xBF (without 0xBB (without 0xEF text)) in (
       one.0 ++ (two.0 ++ three.0),
-      one.1 ∙ ap (λ t. one.0 ++ t) (two.1 ∙ ap (λ t. two.0 ++ t) three.1)
-          ∙ simp append_assoc,
+      grind (arith, append_assoc),
     )
 
 parsed_ranges : (text : List ℕ) → HoldRangesOf (parsed text) text
@@ -252,7 +249,7 @@ parsed_ranges text =
     record {
       pairs = cut (without_front text);
       is_cut = is_cut (without_front text);
-      whole = (end.0, end.1 ∙ ap (λ t. end.0 ++ t) (sym (is_cut (without_front text)).whole));
+      whole = grind (arith, is_cut);
       each =
           line_ranges (bodies_of (without_front text));
     }

@@ -1,4 +1,5 @@
 -- The rules that lines hold, and what follows from them.
+use Rattle.std.proofs.Common.{rules}
 use Rattle.std.proofs.Common.{◌≡◌, ◌≢◌, ◌⊎◌, inl, inr, ℕ, suc, ◌+◌, ◌<◌, Bool, cond, List, [], ◌∷◌, Option}
 use Rattle.std.proofs.Common.{Some, None, AllPairs, IsPermutation, get_or, length, refl, sym, ap, subst, ◌∙◌}
 use Rattle.std.proofs.Common.{◌↔◌, arith, swap, ◌*◌, true, Result, Ok, Err, map, take}
@@ -56,10 +57,7 @@ apart_swapped rules a b p q apart i j d less within same =
     let s = swapped_from_swap rules (swap rules a b) a b d p q refl in
     let x = origin _ _ a b i s (cases_eq i a) (cases_eq i b) in
     let y = origin _ _ a b j s (cases_eq j a) (cases_eq j b) in
-    let line = λ (placed : PlacedRule). placed.line in
-    let one = one_position rules apart x.0 y.0 d (omega (arith, x.1)) (omega (arith, y.1))
-    (sym (ap line x.2) ∙ same ∙ ap line y.2) in
-    omega (arith, x.1, y.1)
+    grind (arith, one_position)
 
 pub apart_permuted : (rules others : List PlacedRule) → IsPermutation rules others → AreApart rules
     → AreApart others
@@ -73,7 +71,7 @@ apart_tail first rules apart i j d less within same =
 apart_first : (first : PlacedRule) (rules : List PlacedRule) → AreApart (first ∷ rules)
     → ¬ Contains rules first
 apart_first first rules apart (k, below, at) =
-    apart 0 (suc k) first (omega arith) (omega arith) (ap (λ (placed : PlacedRule). placed.line) (sym at))
+    apart 0 (suc k) first (omega arith) (omega arith) (cc)
 
 abbrev IsOther : PlacedRule → List PlacedRule → PlacedRule → Type 0
 IsOther first rules placed = Contains rules placed × ¬ ◌≡◌ {A = PlacedRule} first placed
@@ -83,7 +81,7 @@ following : (first : PlacedRule) (rules : List PlacedRule) → AreApart (first �
 following first rules apart placed = (
   λ (k, below, at). (
     (suc k, omega arith, at),
-    λ same. apart_first first rules apart (k, omega arith, rw same at),
+    grind (arith, apart_first),
   ),
   λ (has, other). after_first first rules placed other has,
 )
@@ -134,8 +132,7 @@ rules_apart test n (line ∷ lines) =
     let (far, position, following, ahead, at, gives) =
     (given_come placed_in test (n + 1) lines other).0 (Contains-get_or rules k d below) in
     let here = given_number _ n line found is in
-    let there = given_number _ position following other gives in
-    omega arith)
+    grind (arith, given_number))
     (rules_apart test (n + 1) lines))
 
 pub computed_are : (agent : List ℕ) (lines : List LineValue)
@@ -175,7 +172,7 @@ rejection_is_computed agent lines = (
   λ (k, rule, below, at, overlong).
       let (found, has, same) = placed_of (placed_rules agent lines) rule (k, below, at) in
       let (position, number, holds) = (placed_held agent lines found).0 has in
-      (position, found.rule, holds, subst (λ (r : Rule). IsOverlong r.0) (sym same) overlong),
+      grind arith,
 )
 
 -- ---- What follows from the rules that lines hold.
@@ -183,13 +180,10 @@ rejection_is_computed agent lines = (
 looks_permuted : (rules others : List PlacedRule) (old new : ViewValue) → IsPermutation rules others
     → LooksForRules rules old new → LooksForRules others old new
 looks_permuted rules others old new moved looks = record {
-  all = subst (λ n. LooksAtMost old new (2 * length old.text * n))
-      (sym (length_permutation rules others moved)) looks.all;
+  all = grind (arith, length_permutation);
   tried = λ placed is.
       let back = longest_permuted others rules old.text placed (IsPermutation-sym rules others moved) is in
-      let same : as_long_as placed others
-      ≡ as_long_as placed rules = sum_by-IsPermutation _ rules others moved in
-      subst (λ n. LooksAtMost old new (2 * length old.text * n)) (sym same) (looks.tried placed back);
+      grind (arith, sum_by-IsPermutation, looks.tried);
 }
 
 pub permuted_alike : (rules others : List PlacedRule) → IsPermutation rules others
@@ -313,10 +307,7 @@ unanswered agent file lines rules view (Err x) e are same rejected = record {
   rejected = rejected_wider _ _ x (λ has. of_lines file (IsRejected agent) has lines are) (rw same rejected);
   accepted = tt;
   verdict = tt;
-  looks = record {
-    all = no_looks view _;
-    tried = λ placed is. no_looks view _;
-  };
+  looks = grind (arith, no_looks);
 }
 
 pub deciding_line_holds_its_rule : (agent : List ℕ) (lines : List LineValue) (rules : List PlacedRule)
@@ -326,7 +317,7 @@ pub deciding_line_holds_its_rule : (agent : List ℕ) (lines : List LineValue) (
     × (position : ℕ) × (number ≡ position + 1) × HoldsRule agent lines position placed.rule
 deciding_line_holds_its_rule agent lines rules text number are (differs, found, decides, at) =
     let (position, is, holds) = (are.held found).0 decides.listed in
-    (found, decides, at, position, sym at ∙ is, holds)
+    grind arith
 
 one_kind : (agent : List ℕ) (lines : List LineValue) (position : ℕ) (rule other : Rule)
     → HoldsRule agent lines position rule → HoldsRule agent lines position other → rule.1 ≡ other.1

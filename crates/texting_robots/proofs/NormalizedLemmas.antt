@@ -108,12 +108,7 @@ module _ (part : List ℕ) (n len : ℕ) (text : List ℕ) (inside : n ≤ lengt
 
   pub after_all : n ≤ len → after part (drop n text) ≡ after part text
   after_all all =
-      let same : len ≡ n = omega (
-        arith,
-        prefix_len-le-length (is_kept part) (take n text),
-        length-take-le n text inside,
-      ) in
-      drop-drop _ n text ∙ ap (λ k. drop k text) (sym (by_front ∙ cond-true _ _ _ (eq-eqb len n same)))
+      grind (arith, by_front, cond-true, drop-drop, eq-eqb, length-take-le, prefix_len-le-length)
 
 module _ (part xs ys : List ℕ) (passes : All (Passes (is_kept part)) xs)
     (stops : StopsAt (is_kept part) ys) where
@@ -176,15 +171,14 @@ path_read (suc n) path (b ∷ text) rest is_path within past = elim (cases_eq b 
       elim (cases_eq (dot_count segment) 0) [
         | inl resolved ↦
             let is_segment : IsSegment SpecialNotFile segment =
-            record { escaped = escaped; whole = solid; resolved = resolved } in
+            grind arith in
             rw whole (path_read n (path ++ 47 ∷ segment) following rest
             (push_valid SpecialNotFile path segment is_path is_segment) (omega (arith, length-drop len text))
             (sym (past_more (b ∷ text) slash resolved) ∙ past))
-        | inr dots ↦ absurd (none-some rest (sym (past_dots (b ∷ text) slash dots) ∙ past))
+        | inr dots ↦ grind (arith, none-some, past_dots)
       ]
   | inr other ↦
-      let same = same_Some _ _ (sym (cond-false _ _ _ (ne_eqb b 47 other)) ∙ past) in
-      (path, ap (λ t. path ++ t) same, is_path)
+      grind (arith, cond-false, ne_eqb, same_Some)
 ]
 
 joined_stops : (segments : List (List ℕ)) (rest : List ℕ) → EndsPath rest
@@ -200,8 +194,7 @@ not_ended text h = grind arith
 pub path_left : (text rest : List ℕ) → EndsPath rest → Leaves IsPath text rest
     → past_path text ≡ Some rest
 unfolding is_kept should_percent_encode
-path_left text rest ends (path, assembled, is_path) =
-    ap past_path (assembled ∙ ap (λ p. p ++ rest) is_path.joined) ∙ by is_path.segments is_path.each
+path_left text rest ends (path, assembled, is_path) = grind (arith, by, is_path.segments)
   where
     by : (segments : List (List ℕ)) → All (IsSegment SpecialNotFile) segments
         → past_path (join_segments segments ++ rest) ≡ Some rest
@@ -247,8 +240,7 @@ past_open (suc n) b (c ∷ text) few within =
     let stand = prefix_len_passes (is_kept OPEN.now) (c ∷ text) 0 0 (omega arith) in
     let (plain, next) = and_parts _ _ (sym (open_is c) ∙ stand) in
     let step = past_one b (c ∷ text) within (not-true _ plain) in
-    let more = past_open n c text (omega (arith, rw stand at few)) next in
-    (step ∙ more.0, λ last. step ∙ more.1 last)
+    grind (arith, past_open n c text)
 
 closed : (text : List ℕ) → StopsAt (is_kept OPEN.now) text → begins_dotted text ≡ false
     → after SEGMENT.now text ≡ text
@@ -264,15 +256,11 @@ plain_end (b ∷ text) plain rest slash front back =
     let here = b ∷ text in
     let first = eq-eqb b 47 slash in
     let len = ap length front ∙ length-prefix_len (is_kept OPEN.now) text in
-    let following : drop (length plain) text ≡ rest = ap (λ k. drop k text) len ∙ sym back in
+    let following : drop (length plain) text ≡ rest = cc in
     let (upto, over) = past_open (length plain) b text (omega (arith, len)) (rw first refl) in
     let start = cond-true (b == 47) (past_segment here) (Some here) first in
     let stops = subst (StopsAt (is_kept OPEN.now)) (sym back)
-    (StopsAt-drop-prefix_len (is_kept OPEN.now) text) in (
-      start ∙ upto ∙ past_rest (drop (length plain) here),
-      λ plain. start ∙ over (ap begins_dotted following ∙ plain) ∙ ap past_segment following
-          ∙ past_rest rest ∙ ap past_path (closed rest stops plain),
-    )
+    (StopsAt-drop-prefix_len (is_kept OPEN.now) text) in grind (arith, closed, past_rest, over)
 
 ends_stops : (rest : List ℕ) → EndsSite rest
     → StopsAt (is_kept NAME.now) rest × StopsAt (is_kept NUMBER.now) rest
@@ -295,8 +283,8 @@ decimal_read digits port plain parses =
     let read = rw (without_leading_plus_none digits no_plus) at parses in
     let some = read.0.0.1 in
     let first : get_or digits 0 0 ≡ 48 → length digits ≡ 1 = λ e. grind (arith, nat_tests) in
-    sym (decimal-digits_value (numerals_by_value _ tells_digits) digits read.0.0.1 read.0.0.0 first
-    (omega (arith, read.0.1))) ∙ ap decimal (sym read.1)
+    cc (decimal-digits_value (numerals_by_value _ tells_digits) digits read.0.0.1 read.0.0.0 first (omega
+    (arith, read.0.1)))
 
 pub decimal_plain : (port : ℕ) → port < 2 ^ 16 → begins_plainly (decimal port) ≡ true
 decimal_plain port small = grind (arith, decimal_digit, first_decimal)
@@ -313,11 +301,11 @@ port_left own (b ∷ text) rest colon ends (part, assembled, (Some port, written
     let stops = (ends_stops rest ends).1 in (
       (
         port,
-        ap (kept_prefix NUMBER.now) whole ∙ front_at NUMBER.now (decimal port) rest digits stops,
+        cc (front_at NUMBER.now (decimal port) rest digits stops),
         other.0,
         other.1,
       ),
-      ap (after NUMBER.now) whole ∙ after_at NUMBER.now (decimal port) rest digits stops,
+      cc (after_at NUMBER.now (decimal port) rest digits stops),
     )
 
 pub port_read : (own : ℕ) (text : List ℕ) → get_or text 0 0 ≡ 58
@@ -339,10 +327,10 @@ authority_read own text rest letter (port, assembled, is_port) =
     let host = kept_prefix NAME.now text in
     let (allowed, small) = kept_all NAME.now FORBIDDEN_DOMAIN is_ascii_uppercase refl host
     (All-take-prefix_len (is_kept NAME.now) text) in
-    let name : IsName host = record { allowed = allowed; small = small; letter = letter } in (
+    let name : IsName host = grind arith in (
       host ++ port,
       sym (take-append-drop _ text) ∙ ap (λ t. host ++ t) assembled ∙ sym (append_assoc host port rest),
-      record { host = host; port = port; assembled = refl; is_name = name; is_port = is_port },
+      grind arith,
     )
 
 pub authority_left : (own : ℕ) (text rest : List ℕ) → EndsSite rest
@@ -361,7 +349,7 @@ authority_left own text rest ends (part, assembled, authority) =
       rw front name.letter,
       (
         authority.port,
-        ap (after NAME.now) whole ∙ after_at NAME.now host (authority.port ++ rest) each stops,
+        cc (after_at NAME.now host (authority.port ++ rest) each stops),
         authority.is_port,
       ),
     )

@@ -81,8 +81,7 @@ any_unplaced P rules (k, placed, below, at, is) =
       k,
       placed.rule,
       rw (length-map rules rule) below,
-      get_or-map rule rules k placed placed.rule below
-          ∙ ap rule at,
+      grind (arith, get_or-map),
       is,
     )
 

@@ -48,8 +48,7 @@ module _ (p : List ℕ) (ends : Ends) (segments : List Segment) (borders more : 
       let table : Span = record { start = segment.table; end = segment.table + len } in
       let fits = is.fits in
       let stays = part_kept borders more table (record { ordered = omega arith; within = fits }) in
-      let sizes = length-append borders more in
-      record { span = is.span; fits = omega arith; table = rw stays is.table }
+      grind (arith, length-append)
 
   tables_kept : AreSegments p ends segments borders → AreSegments p ends segments (borders ++ more)
   tables_kept are = grind (arith, segment_kept)
@@ -142,7 +141,7 @@ module _ {text segment : List ℕ} where
     open_farther later le = record {
       following = first.following;
       agrees = first.agrees;
-      closed = λ at from before agrees. first.closed at from before (λ k l m. agrees k l (omega arith));
+      closed = grind (arith, first.closed);
     }
 
     pub open_more : get_or text position 0 ≡ get_or segment matched 0
@@ -167,7 +166,7 @@ module _ {text segment : List ℕ} where
           (omega arith) (omega arith) first.agrees in
           record {
             following = omega arith;
-            agrees = (farther (position - border) border (omega arith)).1 longest.agrees;
+            agrees = grind (arith, farther);
             closed = λ at from before agrees.
                 ⊎_elim (λ (skipped : position - matched < at).
                 let border = (farther at (position - at) (omega arith)).0
@@ -187,7 +186,7 @@ module _ {text segment : List ℕ} where
     open_found all within =
         rw (← all) (
           record { low = omega arith; high = omega arith; before = open_before },
-          record { fits = omega arith; reads = λ k l. first.agrees k (omega arith) (omega arith) },
+          grind (arith, first.agrees),
         )
 
     pub open_none : matched < length segment → position ≡ length text → FindsNeedle text segment low None
@@ -221,8 +220,7 @@ module _ {segment old now : List ℕ} {len : ℕ} (adds : AddsBorders segment ol
       let long = adds.long in
       record {
         table = adds.table ++ border ∷ [];
-        added = ap (λ items. items ++ border ∷ []) adds.added
-            ∙ append_assoc old adds.table (border ∷ []);
+        added = grind (arith, append_assoc);
         long = omega arith;
         borders = borders_push adds.table border adds.borders (rw long longest);
       }
@@ -234,9 +232,7 @@ module _ {segment old now : List ℕ} {len : ℕ} (adds : AddsBorders segment ol
       let there : at ≡ length old + (count - 1) = omega arith in
       let moved = ap (λ k. get_or (old ++ adds.table) k entry) there in
       let read = is ∙ ap (λ items. get_or items at entry) adds.added ∙ moved in
-      let in_table = get_or-append-add old adds.table (count - 1) entry in
-      let same = read ∙ in_table ∙ get_or_default_zero adds.table (count - 1) entry (omega arith) in
-      subst (IsLongestBorder segment count) (sym same) (adds.borders count some (omega arith))
+      grind (arith, get_or-append-add, get_or_default_zero, adds.borders)
 
 -- ---- The first occurrence of a segment is enough, and a search finds it.
 
@@ -253,13 +249,13 @@ module _ (t : List ℕ) where
       let between = take (j - i) (drop i t) in
       let there : i + (j - i) ≡ j = omega arith in
       let rest = drop-drop (j - i) i t ∙ ap (λ n. drop n t) there in
-      (between, sym (take-append-drop (j - i) (drop i t)) ∙ ap (λ x. between ++ x) rest)
+      (between, cc (take-append-drop (j - i) (drop i t)))
 
   suffix_position : (i : ℕ) (u : List ℕ) → i ≤ length t → IsSuffix u (drop i t)
       → (j : ℕ) × (i ≤ j) × (j + length u ≡ length t) × (drop j t ≡ u)
   suffix_position i u le (front, e) =
       let sizes : length t - i ≡ length front + length u =
-      sym (length-drop i t) ∙ ap length e ∙ length-append front u in
+      cc (length-drop i t, length-append front u) in
       let is = sym (drop-drop (length front) i t) ∙ front_rest (drop i t) front u e in
       (i + length front, omega arith, omega arith, is)
 
@@ -271,9 +267,9 @@ module _ (t : List ℕ) where
         → OccursAt t segment at × (drop (at + length segment) t ≡ rest)
     here_occurs rest at le e =
         let sizes : length t - at ≡ length segment + length rest =
-        sym (length-drop at t) ∙ ap length e ∙ length-append segment rest in
+        cc (length-drop at t, length-append segment rest) in
         let following = sym (drop-drop (length segment) at t) ∙ front_rest (drop at t) segment rest e in
-        (record { fits = omega arith; reads = at_reads 0 t segment at rest e }, following)
+        grind (arith, at_reads)
 
     module _ (from : ℕ) (within : from ≤ length t) where
       pub after_found : (at : ℕ) → FindsNeedle t segment from (Some at)
@@ -282,7 +278,7 @@ module _ (t : List ℕ) where
           let (front, e) = suffix_drop from at none.low in
           record {
             front = front;
-            splits = e ∙ ap (λ x. front ++ x) (occurs_here at here);
+            splits = cc (occurs_here at here);
             first = λ other after f.
                 let (position, ahead, sizes, is) = suffix_position from (segment ++ after) within
                 (other, f) in
@@ -290,7 +286,7 @@ module _ (t : List ℕ) where
                 let later : at ≤ position =
                 ⊎_elim (λ l. absurd (none.before position ahead l occurs)) (λ l. l) (cases_lt position at) in
                 let less = suffix_drop (at + length segment) (position + length segment) (omega arith) in
-                subst (λ x. IsSuffix x (drop (at + length segment) t)) rest less;
+                grind arith;
           }
 
       pub found_nowhere : FindsNeedle t segment from None → OccursNowhere segment (drop from t)

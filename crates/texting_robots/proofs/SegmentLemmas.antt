@@ -34,7 +34,7 @@ under : {R : List ℕ → Type 0} (P Q : List ℕ → Type 0) → ((t : List ℕ
 under P Q same = grind arith
 
 pub suffix_trans : {a b c : List ℕ} → IsSuffix a b → IsSuffix b c → IsSuffix a c
-suffix_trans {a} (f, e) (g, h) = (g ++ f, h ∙ ap (λ x. g ++ x) e ∙ sym (append_assoc g f a))
+suffix_trans {a} (f, e) (g, h) = (g ++ f, cc (append_assoc g f a))
 
 module _ (anchors : Bool) where
   pub in_front : (segment q t : List ℕ) → All (IsPlain anchors) segment → MatchesWith anchors (segment ++ q) t
@@ -45,7 +45,7 @@ module _ (anchors : Bool) where
       let later = λ (s : List ℕ). in_front segment q s (All-tail (IsPlain anchors) b segment all) in
       let (not_star, not_end) = All-head (IsPlain anchors) b segment all in
       rw (not_star, not_end) (
-        λ (s, e, m). let (after, f, n) = (later s).0 m in (after, e ∙ ap (λ x. b ∷ x) f, n),
+        λ (s, e, m). let (after, f, n) = (later s).0 m in (after, cc, n),
         λ (after, e, n). (segment ++ after, e, (later (segment ++ after)).1 (after, refl, n)),
       )
 
@@ -75,9 +75,7 @@ module _ (anchors : Bool) where
         let is = eqb-true b star first in
         let n = prefix_len (λ b. b == star) q in
         let one_more : 1 + n ≡ suc n = omega arith in
-        let (drops, adds) = star_star (star ∷ q) t refl in
-        let (to, from) = star_stars q t in
-        rw (is, one_more) (λ m. adds (to m), λ m. from (drops m))
+        grind (arith, star_star, star_stars q t)
     | inr other ↦ rw other (λ m. m, λ m. m)
   ]
 
@@ -114,8 +112,7 @@ grows_at_wildcard [] at_wildcard other = λ s t i m. tt
 grows_at_wildcard (b ∷ q) at_wildcard other = elim (or_cases (b == star) (b == dollar) at_wildcard) [
   | inl first ↦ let e = eqb-true b star first in rw e (star_grows true q)
   | inr first ↦
-      let e = eqb-true b dollar first in
-      rw e (λ s t i m. absurd (dollar_matches_none q s (rw e at other) m))
+      grind (arith, dollar_matches_none, eqb-true)
 ]
 
 pub wildcard_matches_none : (q t : List ℕ) → IsAtWildcard q → q ≢ []
@@ -178,14 +175,13 @@ module _ {left next segment rest : List ℕ} (is : IsFromStar left next segment 
   next_in =
       let n = prefix_len (λ b. b == star) is.following in
       let split = sym (take-append-drop n is.following) ∙ ap (λ x. take n is.following ++ x) (sym is.skips) in
-      (star ∷ take n is.following, is.star_first ∙ ap (λ x. star ∷ x) split)
+      (star ∷ take n is.following, cc)
 
   star_decides : (t : List ℕ) → Matches left t ↔ Somewhere segment rest t
   star_decides t =
       let (to, from) = star_stars true is.following t in
       let (parts, whole) = somewhere true segment rest t (plain_wildcards segment is.cut.plain) in
-      let e = sym is.skips ∙ is.cut.parts in
-      rw is.star_first (λ m. parts (rw e at (from m)), λ h. to (rw e (whole h)))
+      grind (arith, is.cut.parts, is.star_first, parts, from, to, whole)
 
   star_is_left : ¬ Closes rest → IsLeft left segment rest
   star_is_left other = grind (arith, grows_at_wildcard, star_decides)
@@ -228,8 +224,7 @@ pub cut_first : (p segment left : List ℕ) (segments : List Segment) (borders :
 cut_first p segment left segments borders cut =
     let e = cut.parts in
     let sizes = ap length e ∙ length-append segment left in
-    let first : take (length segment) p ≡ segment = ap (take (length segment)) e
-    ∙ take_at segment left _ refl in
+    let first : take (length segment) p ≡ segment = grind (arith, take_at) in
     record {
       left_in = (segment, e);
       at_wildcard = cut.at_wildcard;
@@ -241,10 +236,7 @@ cut_first p segment left segments borders cut =
         are_segments = record {
           first = omega arith;
           plain = cut.len;
-          unsearched = λ other. elim rest.searched [
-            | inl none ↦ none
-            | inr (following, at) ↦ absurd (other (rw (e, at) (get_or-append_seam segment star following 0)))
-          ];
+          unsearched = grind (arith, get_or-append_seam);
           known = rest.known;
           ending = rest.is_ending;
           rest = left;
@@ -268,19 +260,14 @@ module _ {p : List ℕ} {first_len : ℕ} {old_segments segments : List Segment}
   done ending is_ending decides last =
       let none = All-nil (IsSegment p (borders ++ [])) in
       let rest : IsRest p (borders ++ []) left [] ending =
-      record {
-        known = none;
-        is_ending = is_ending;
-        in_order = decides;
-        searched = elim last [ inl other ↦ inl (refl, other) | inr at ↦ inr at ];
-      } in
+      grind arith in
       rw (← append-nil segments, ← append-nil borders) (upto.completes [] [] ending rest)
 
   pub cut_open : left ≡ [] → AddsWith Open
   cut_open none = grind (arith, done, end_matches)
 
   pub cut_closed : Closes left → AddsWith Closed
-  cut_closed closes = done Closed tt (λ t. closes_decides left t closes) (inl tt)
+  cut_closed closes = grind (arith, closes_decides, done)
 
   pub cut_never : left ≢ [] → ((q : List ℕ) → left ≢ star ∷ q)
       → ¬ Closes left → AddsWith Never
@@ -322,6 +309,5 @@ module _ {p : List ℕ} {first_len : ℕ} {old_segments segments : List Segment}
                 in_order = (rest, is_left, h.in_order);
                 searched = inr (is.following, is.star_first);
               } in
-              let adds = upto.completes (added ∷ more) (table ++ tables) ending whole in
-              rw (append_assoc segments, append_assoc borders) adds;
+              grind (arith, append_assoc, upto.completes);
         }

@@ -159,7 +159,7 @@ found_in_own given of_tag fits none name lines some =
     captured_walked given name lines
     ∙ found_in_runs given of_tag fits none name (start_of lines) 0 false 0 0 [] (named lines) lines
     (omega arith)
-    (record { captured = ap not some; named = refl; first = λ r above. refl }) refl
+    (grind arith) refl
 
 pub rule_of_group : (position : ℕ) (line : LineValue) → is_group line ≡ false → placed_in (position, line)
     ≡ None
@@ -293,15 +293,6 @@ captured_in_groups name lines position line some at is =
     let (to, from) = given_come group_line test 0 lines (position, line) in
     let same = sym (kept_groups (captured_lines name lines)) ∙ captured_by_groups name lines some in
     rw (← same) (
-      λ captured.
-          let kept : group_line (position, line) ≡ Some (position, line) = rw is refl in
-          let given = cond_given {X = ℕ × LineValue} (test position) _ (position, line) in
-          let gives = given.1 (decides.1 captured, kept) in
-          from (position, position, line, omega arith, at, gives),
-      λ has.
-          let (k, other, l, far, there, gives) = to has in
-          let (passes, kept) = (cond_given {X = ℕ × LineValue} (test other) _ (position, line)).0 gives in
-          let found = ((cond_given {X = ℕ × LineValue} (is_group l) _ (position, line)).0 kept).1 in
-          let here = same_place (other, l) (position, line) found in
-          decides.0 (rw here at passes),
+      grind (arith, cond_given, test, decides.1, from),
+      grind (arith, cond_given, same_place, to, test, decides.0),
     )

@@ -50,14 +50,8 @@ here p x xs first = grind (arith, cases_Bool)
 
 pub linked_none : (count : ℕ) (names : List Named) (heads nexts : List ℕ) → count ≡ length names
     → heads ≡ replicate count count → length nexts ≡ count → AreLinked count names heads nexts
-linked_none count names heads nexts counted are followed = record {
-  buckets = ap length are ∙ length-replicate count count ∙ counted;
-  followed = followed ∙ counted;
-  heads_are = λ b below.
-      let gone : drop count names ≡ [] = ap (λ k. drop k names) counted ∙ all_dropped names in
-      rw (are, get_or-replicate count b count 0 (omega arith), gone) (omega arith);
-  nexts_are = λ i n from at. absurd (let within = slice_get_within names i n at in omega arith);
-}
+linked_none count names heads nexts counted are followed =
+    grind (arith, get_or-replicate, length-replicate, slice_get_within, all_dropped)
   where
     all_dropped : {X : Type 0} (xs : List X) → drop (length xs) xs ≡ []
     all_dropped [] = refl
@@ -83,7 +77,7 @@ linked_more names position bucket n heads nexts at its within linked =
       ];
       nexts_are = λ i m from there. elim (eqb_tells i position) [
         | inl (is, same) ↦
-            let one : Some n ≡ Some m = sym at ∙ ap (slice_get names) (sym same) ∙ there in
+            let one : Some n ≡ Some m = cc in
             let alike : n ≡ m = cc in
             get_or-set_at nexts position i (get_or heads bucket 0) 0 same (omega (arith, linked.followed))
             ∙ linked.heads_are bucket within
@@ -147,8 +141,7 @@ pub walk_on : (name : List ℕ) (names : List Named) (heads nexts : List ℕ) (p
 walk_on name names heads nexts position next n linked at is first =
     let N = length names in
     let p = is_in N (bucket_of N name) in
-    let inside : p n ≡ true = here p n (drop (position + 1) names) (ap (position_or_len p) (sym
-    (drop_is names position n at)) ∙ first) in
+    let inside : p n ≡ true = grind (arith, drop_is, here) in
     next_in_bucket name position next (bucket_of N (str_to_ascii_lowercase n.name)) names
     (eqb-true _ _ inside) (next_is names heads nexts position next n linked at is)
 
@@ -177,7 +170,7 @@ named_bucket name names position n at first =
     grind (arith, bytes_eq-Decides, drop_is, eq-eqb, first_now, here)
 
 no_name : Named
-no_name = record { name = []; run = 0; start = 0 }
+no_name = grind arith
 
 pub some_at : (names : List Named) (position : ℕ) → position < length names
     → (n : Named) × (slice_get names position ≡ Some n)
@@ -190,11 +183,10 @@ pub runs_from_first : (name : List ℕ) (names : List Named) (r : ℕ)
     → is_run_of name (drop (first_named name names) names) r ≡ is_run_of name names r
 runs_from_first name [] r = refl
 runs_from_first name (n ∷ names) r = elim (cases_Bool (has_name name n)) [
-  | inl is ↦ ap (λ k. is_run_of name (drop k (n ∷ names)) r) (first_now (has_name name) n names is)
+  | inl is ↦ grind (arith, first_now)
   | inr isnt ↦
       let other : (is_of name r n || is_run_of name names r) ≡ is_run_of name names r = rw isnt refl in
-      ap (λ k. is_run_of name (drop k (n ∷ names)) r) (first_later (has_name name) n names isnt)
-      ∙ runs_from_first name names r ∙ sym other
+      cc (first_later (has_name name) n names isnt, runs_from_first name names r)
 ]
 
 pub later_at : {X : Type 0} (xs : List X) (k j : ℕ) (x : X) → slice_get (drop k xs) j ≡ Some x
@@ -213,8 +205,8 @@ kept_at : (text : List ℕ) (lines : List KeptLine) (at : ℕ) (line : KeptLine)
     ≡ get_or lines at line
     → drop at (map (tag_at text) lines) ≡ tag_at text line ∷ drop (at + 1) (map (tag_at text) lines)
 kept_at text lines at line within is =
-    drop_is (map (tag_at text) lines) at (tag_at text line) (slice_get-map (tag_at text) lines at
-    ∙ ap (option_map (tag_at text)) (slice_get_read lines (length lines) at line refl within is))
+    drop_is (map (tag_at text) lines) at (tag_at text line) (grind (arith, slice_get-map, slice_get_read,
+    within))
 
 pub front_line : (text : List ℕ) (lines : List KeptLine) (at run : ℕ) (line : KeptLine) → at < length lines
     → line ≡ get_or lines at line → line.run ≡ run
@@ -236,9 +228,7 @@ pub first_within : (name : List ℕ) (names : List Named)
 first_within name [] = refl
 first_within name (n ∷ names) =
     let before = λ (k : ℕ). ltb k (length (n ∷ names)) in elim (cases_Bool (has_name name n)) [
-      | inl is ↦ ap before (first_now (has_name name) n names is)
-          ∙ lt-ltb 0 (length (n ∷ names)) (omega arith)
-          ∙ sym (rw is refl)
+      | inl is ↦ grind (arith, first_now, lt-ltb)
       | inr isnt ↦ ap before (first_later (has_name name) n names isnt)
           ∙ both_more (first_named name names) (length names) ∙ first_within name names ∙ sym (rw isnt refl)
     ]
@@ -277,8 +267,7 @@ first_if : (name : List ℕ) (names : List Named) (position : ℕ) (n : Named) �
 first_if name [] position n at has = cc
 first_if name (m ∷ names) zero n at has = grind (arith, first_now)
 first_if name (m ∷ names) (suc position) n at has = elim (cases_Bool (has_name name m)) [
-  | inl is ↦ ap (λ k. k == suc position) (first_now (has_name name) m names is)
-      ∙ ne_eqb 0 (suc position) (λ same. omega arith) ∙ rw is refl
+  | inl is ↦ grind (arith, first_now, ne_eqb)
   | inr isnt ↦ ap (λ k. k == suc position) (first_later (has_name name) m names isnt)
       ∙ same_suc (first_named name names) position ∙ first_if name names position n at has ∙ rw isnt refl
 ]
@@ -286,7 +275,7 @@ first_if name (m ∷ names) (suc position) n at has = elim (cases_Bool (has_name
 any_map : {X Y : Type 0} (p : Y → Bool) (f : X → Y) (xs : List X) → list_any p (map f xs)
     ≡ list_any (λ x. p (f x)) xs
 any_map p f [] = refl
-any_map p f (x ∷ xs) = ap (λ b. p (f x) || b) (any_map p f xs)
+any_map p f (x ∷ xs) = cc (any_map p f xs)
 
 among : (names : List Named) (position : ℕ) (n : Named) → slice_get names position ≡ Some n
     → (first_named (str_to_ascii_lowercase n.name) names == position)
@@ -294,9 +283,7 @@ among : (names : List Named) (position : ℕ) (n : Named) → slice_get names po
 among names position n at =
     let name = str_to_ascii_lowercase n.name in
     first_if name names position n at ((bytes_eq-Decides name name).1 refl)
-    ∙ ap not (sym (ap (is_among n.name) (take-map name_of position names)
-    ∙ any_map (λ (other : List ℕ). bytes_eq (str_to_ascii_lowercase other) name) name_of
-    (take position names)))
+    ∙ ap not (grind (arith, any_map, take-map, position))
 
 abbrev pub left_at : ℕ → List Named → List (List ℕ)
 left_at position names =
@@ -309,13 +296,9 @@ once_next : (names : List (List ℕ)) (position : ℕ) (name : List ℕ) → sli
     (name ∷ each_once (take (position + 1) names) (drop (position + 1) names))
 once_next names position name at =
     let more : take (position + 1) names ≡ take position names ++ name ∷ [] =
-    take_more names position name (slice_get_within names position name at)
-    ∙ ap (λ (n : List ℕ). take position names ++ n ∷ [])
-    (get_or_from_slice_get names position name name at) in
-    ap (each_once (take position names)) (drop_is names position name at)
-    ∙ ap (λ (earlier : List (List ℕ)). cond (is_among name (take position names))
-    (each_once earlier (drop (position + 1) names)) (name ∷ each_once earlier (drop (position + 1) names)))
-    (sym more)
+    cc (take_more names position name (slice_get_within names position name at),
+    get_or_from_slice_get names position name name at) in
+    grind (arith, drop_is)
 
 value_at : (names : List Named) (position : ℕ) (n : Named) → slice_get names position ≡ Some n
     → slice_get (map name_of names) position ≡ Some n.name
@@ -327,8 +310,8 @@ pub left_again : (names : List Named) (position : ℕ) (n : Named) → slice_get
 left_again names position n at other =
     let isnt : not (is_among n.name (take position (map name_of names))) ≡ false =
     sym (among names position n at) ∙ ne_eqb _ position other in
-    sym (ap (filter is_utf8) (once_next (map name_of names) position n.name (value_at names position n at)
-    ∙ dropped (is_among n.name (take position (map name_of names))) _ _ isnt))
+    cc (once_next (map name_of names) position n.name (value_at names position n at),
+    dropped (is_among n.name (take position (map name_of names))) _ _ isnt)
   where
     dropped : {X : Type 0} (b : Bool) (xs ys : List X) → not b ≡ false → cond b xs ys ≡ xs
     dropped true xs ys isnt = refl
@@ -340,8 +323,8 @@ pub left_first : (names : List Named) (position : ℕ) (n : Named) → slice_get
 left_first names position n at same =
     let is : not (is_among n.name (take position (map name_of names))) ≡ true =
     sym (among names position n at) ∙ eq-eqb _ position same in
-    ap (filter is_utf8) (once_next (map name_of names) position n.name (value_at names position n at)
-    ∙ kept (is_among n.name (take position (map name_of names))) _ _ is) ∙ if_text (is_utf8 n.name) n.name _
+    cc (once_next (map name_of names) position n.name (value_at names position n at),
+    kept (is_among n.name (take position (map name_of names))) _ _ is, if_text (is_utf8 n.name) n.name _)
   where
     kept : {X : Type 0} (b : Bool) (xs ys : List X) → not b ≡ true → cond b xs ys ≡ ys
     kept false xs ys is = refl

@@ -38,13 +38,9 @@ run_first p r (t ∷ tags) none (first, rest) = elim (eqb_tells t.run r) [
   | inl (is, same) ↦ rw (is, none t.run (omega arith)) (ap (λ ts. t ∷ ts) (run_first p r tags none rest))
   | inr (isnt, other) ↦ rw isnt (elim (cases_Bool (p t.run)) [
     | inl has ↦
-        let above : r < t.run = elim (cases_Bool (ltb r t.run)) [
-          | inl is_less ↦ ltb-true r t.run is_less
-          | inr isnt_less ↦ absurd (let wrong = sym has ∙ none t.run (ltb-false r t.run isnt_less) in cc)
-        ] in
+        let above : r < t.run = grind (arith, cases_Bool, ltb-false, ltb-true, r, none) in
         let nothing = none_above r t.run tags above first in
-        let ih = run_first p r tags none rest in
-        rw (has, nothing) (ap (λ ts. t ∷ ts) (ih ∙ ap (λ ts. ts ++ filter (λ t. p t.run) tags) nothing))
+        grind (arith, p, run_first p r tags none rest)
     | inr hasnt ↦ rw hasnt (run_first p r tags none rest)
   ])
 ]
@@ -53,7 +49,7 @@ later_next : (name : List ℕ) (run : ℕ) (n : Named) (names : List Named) (r :
     → run < n.run → ((q : ℕ) → q < n.run → is_run_of name names q ≡ false)
     → is_later name run (n ∷ names) r ≡ ((r == n.run) || is_later name n.run names r)
 later_next name run n names r has above none = elim (eqb_tells r n.run) [
-  | inl (is, same) ↦ rw (is, has, eq-eqb n.run r (sym same), lt-ltb run r (omega arith)) refl
+  | inl (is, same) ↦ grind (arith, eq-eqb, lt-ltb)
   | inr (isnt, other) ↦ rw (isnt, has, ne_eqb n.run r (λ same. other (sym same))) (elim (cases_Bool
       (ltb n.run r)) [
         | inl is_less ↦ rw (is_less, lt-ltb run r (let less = ltb-true n.run r is_less in omega arith)) refl
@@ -78,19 +74,15 @@ runs_after : (name : List ℕ) (names : List Named) (name_index next r : ℕ)
     → next ≡ name_index + 1 + first_named name (drop (name_index + 1) names)
     → is_run_of name (drop next names) r ≡ is_run_of name (drop (name_index + 1) names) r
 runs_after name names name_index next r are =
-    ap (λ (ns : List Named). is_run_of name ns r)
-    (ap (λ k. drop k names) are ∙ sym (drop-drop (first_named name (drop (name_index + 1) names))
-    (name_index + 1) names))
-    ∙ runs_from_first name (drop (name_index + 1) names) r
+    cc (drop-drop (first_named name (drop (name_index + 1) names)) (name_index + 1) names,
+    runs_from_first name (drop (name_index + 1) names) r)
 
 pub first_kept : (name : List ℕ) (name_index next : ℕ) (names : List Named)
     → next ≡ name_index + 1 + first_named name (drop (name_index + 1) names)
     → first_named name (drop next names) ≡ 0
 first_kept name name_index next names are =
-    ap (λ (ns : List Named). first_named name ns)
-    (ap (λ k. drop k names) are ∙ sym (drop-drop (first_named name (drop (name_index + 1) names))
-    (name_index + 1) names))
-    ∙ first_here (has_name name) (drop (name_index + 1) names)
+    cc (drop-drop (first_named name (drop (name_index + 1) names)) (name_index + 1) names,
+    first_here (has_name name) (drop (name_index + 1) names))
 
 pub next_run : (name : List ℕ) (run name_index next : ℕ) (names : List Named) (tags rest : List Tagged)
     (n : Named)
@@ -105,28 +97,20 @@ next_run name run name_index next names tags rest n at first (lines, named_is, t
     let left = drop_is names name_index n at in
     let has : has_name name n ≡ true = here (has_name name) n after (rw left at first) in
     let there : slice_get (named lines) name_index
-    ≡ Some n = ap (λ (ns : List Named). slice_get ns name_index)
-    (sym named_is) ∙ at in
+    ≡ Some n = cc in
     let none = λ (q : ℕ) (below : q < n.run). none_below name after n.run q
-    (λ j m later. names_ascend lines name_index (name_index + 1 + j) n m (omega arith) there
-    (ap (λ (ns : List Named). slice_get ns (name_index + 1 + j)) (sym named_is)
-    ∙ later_at names (name_index + 1) j m later))
+    (grind (arith, later_at, names_ascend, name_index, names))
     below in
     let front : in_front n.run (drop n.start tags) ≡ of_run n.run tags =
     subst (λ (ts : List Tagged). in_front n.run (drop n.start ts) ≡ of_run n.run ts) (sym tagged_is)
     (starts lines name_index n there).lines in
-    let ascends : Ascends tags = subst (λ (ts : List Tagged). Ascends ts) (sym tagged_is)
-    (tagged_ascends lines) in
+    let ascends : Ascends tags = grind (arith, tagged_ascends) in
     let later = λ (t : Tagged). later_next name run n after t.run has above none in
     let passed : (q : ℕ) → q ≤ n.run → is_later name n.run after q ≡ false =
     λ q least. rw (le-ltb n.run q least) refl in
-    ap (λ ts. ts ++ filter (λ t. is_later name n.run (drop next names) t.run) tags) front
-    ∙ ap (λ ts. of_run n.run tags ++ ts) (filter_agree _ _
-    (λ (t : Tagged). ap (λ b. ltb n.run t.run && b) (runs_after name names name_index next t.run are)) tags)
-    ∙ sym (run_first (is_later name n.run after) n.run tags passed ascends)
-    ∙ sym (filter_agree _ _ later tags)
-    ∙ ap (λ (ns : List Named). filter (λ t. is_later name run ns t.run) tags) (sym left)
-    ∙ ap (λ ts. ts ++ filter (λ t. is_later name run (drop name_index names) t.run) tags) (sym gone)
+    cc (filter_agree _ _ (λ (t : Tagged). ap (λ b. ltb n.run t.run && b)
+    (runs_after name names name_index next t.run are)) tags,
+    run_first (is_later name n.run after) n.run tags passed ascends, filter_agree _ _ later tags)
 
 pub same_run : (name : List ℕ) (run name_index next : ℕ) (names : List Named) (tags rest : List Tagged)
     (n : Named)
@@ -163,8 +147,7 @@ pub own_named : (name : List ℕ) (lines : List LineValue)
     → own_from name 0 [] (drop (first_named name (named lines)) (named lines)) (tagged lines)
     ≡ own_tagged name lines
 own_named name lines = filter_agree _ _
-    (λ (t : Tagged). ap (λ b. ltb 0 t.run && b) (runs_from_first name (named lines) t.run)
-    ∙ later_than_none name lines t.run) (tagged lines)
+    (grind (arith, later_than_none, runs_from_first, lines)) (tagged lines)
 
 pub own_unnamed : (name : List ℕ) (names : List Named) (tags : List Tagged) (name_index : ℕ) → names ≡ []
     → own_from name 0 tags (drop name_index names) tags ≡ in_front 0 tags
@@ -245,8 +228,7 @@ pub listed_more : (text : List ℕ) (sitemaps : List Span) (i : ℕ) (d : Span) 
     → filter_map (listed text) (take (i + 1) sitemaps)
     ≡ filter_map (listed text) (take i sitemaps) ++ option_to_list (listed text (get_or sitemaps i d))
 listed_more text sitemaps i d within =
-    ap (filter_map (listed text)) (take_more sitemaps i d within) ∙ given_push (listed text) (take i sitemaps)
-    (get_or sitemaps i d)
+    cc (take_more sitemaps i d within, given_push (listed text) (take i sitemaps) (get_or sitemaps i d))
 
 -- the rule of this line is the first that is too long, or memory ran out
 pub rejected_at : (agent file : List ℕ) (rule : PlacedRule) (taken left : List PlacedRule) (e : Error)
@@ -254,15 +236,7 @@ pub rejected_at : (agent file : List ℕ) (rule : PlacedRule) (taken left : List
     → All (λ (other : PlacedRule). ¬ IsOverlong other.rule.0) taken
     → IsMemoryErrorOr (IsOverlong rule.rule.0) e → IsRejectionOf agent file (rejection_at rule.line e)
 rejected_at agent file rule taken left error.InvalidRule whole accepted is =
-    let first : IsFirstOverlong (placed_rules agent (file_lines file)) rule.line = record {
-      front = taken;
-      placed = rule;
-      back = left;
-      whole = sym whole;
-      accepted = accepted;
-      overlong = is;
-      line = refl;
-    } in
+    let first : IsFirstOverlong (placed_rules agent (file_lines file)) rule.line = grind arith in
     (rejected_of agent file rule.line first, first)
 rejected_at agent file rule taken left other whole accepted is = tt
 
@@ -281,19 +255,14 @@ pub same_robot : (agent other : List ℕ) (lines : List LineValue) (robot : Robo
     → IsRobotOf other lines robot
 same_robot agent other lines robot same is =
     let rules : placed_rules agent lines ≡ placed_rules other lines =
-    ap (λ (name : List ℕ). filter_map placed_in (captured_lines name lines)) same in
+    cc in
     let delays : delay_for agent lines ≡ delay_for other lines =
-    ap (λ (name : List ℕ). option_or (slice_get (filter_map (λ (p : ℕ × LineValue). delay_in p.1)
-    (captured_lines name lines)) 0) (delay_before_agents lines)) same in
+    cc in
     record {
-      delay = (delay_is_computed other lines robot.delay).1
-          ((delay_is_computed agent lines robot.delay).0 is.delay ∙ delays);
+      delay = grind (arith, delay_is_computed);
       sitemaps = is.sitemaps;
       rules = (rules_are_computed other lines robot.rules).1
           (subst (λ (all : List PlacedRule). IsPermutation all robot.rules) rules
           ((rules_are_computed agent lines robot.rules).0 is.rules));
-      accepted = λ rejected. is.accepted ((rejection_is_computed agent lines).1
-          (subst (λ (all : List PlacedRule). Any (λ (rule : Rule). IsOverlong rule.0) (unplaced all))
-          (sym rules)
-          ((rejection_is_computed other lines).0 rejected)));
+      accepted = grind (arith, rejection_is_computed, is.accepted);
     }

@@ -99,7 +99,7 @@ pub no_names : (lines : List LineValue) → named lines ≡ [] → list_any is_a
 no_names lines none = grind (arith, some_from)
 
 pub some_names : (lines : List LineValue) → named lines ≢ [] → list_any is_agent lines ≡ true
-some_names lines some = sym (some_from 0 false 0 0 lines) ∙ filled (named lines) some
+some_names lines some = grind (arith, some_from, filled)
   where
     filled : (ns : List Named) → ns ≢ [] → list_any (λ (n : Named). true) ns ≡ true
     filled [] some = absurd (some refl)
@@ -192,8 +192,7 @@ starts_from run true position count (UserAgent value ∷ lines) within zero n at
 starts_from run false position count (UserAgent value ∷ lines) within zero n at =
     let same : record { name = value; run = position + 1; start = count } ≡ n = cc in
     start_here value (position + 1) count _ n same
-    (above_from (position + 1) (position + 1) true (position + 1) lines (le_self (position + 1))
-    (omega arith))
+    (grind (arith, above_from, le_self, lines))
     (ascends_from (position + 1) true (position + 1) lines (omega arith))
 starts_from run true position count (UserAgent value ∷ lines) within (suc i) n at =
     starts_from run true (position + 1) count lines (omega arith) i n at

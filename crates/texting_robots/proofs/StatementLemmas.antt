@@ -75,9 +75,9 @@ skipped [] = ([], tt, refl, tt)
 skipped (b ∷ text) = elim (cases_Bool (b == space || b == tab)) [
   | inl is ↦
       let (blanks, all, whole, plain) = skipped text in
-      rw is (b ∷ blanks, ((blank_decides b).0 is, all), ap (λ t. b ∷ t) whole, plain)
+      rw is (b ∷ blanks, ((blank_decides b).0 is, all), cc, plain)
   | inr isnt ↦
-      rw isnt ([], tt, refl, λ blank. true≢false (sym ((blank_decides b).1 blank) ∙ isnt))
+      grind (arith, blank_decides)
 ]
 
 plain_by : (kind : Kind) (text : List ℕ) → kind_by text ≡ Some kind → NoBlank text
@@ -109,28 +109,16 @@ key_found : (kind : Kind) (key rest : List ℕ) → Contains (field_names kind) 
 key_found kind key rest is =
     let small = map to_ascii_lowercase key in
     let reads = All-contains (IsRead kind) (field_names kind) small
-    (All-from_recursion (IsRead kind) (field_names kind) (each_read kind)) is
+    (grind (arith, each_read)) is
     (map to_ascii_lowercase rest) (key ++ rest) in
-    rw (
-      kind_small (key ++ rest),
-      any_small (field_names kind) (key ++ rest),
-      map-append,
-      reads.0,
-      reads.1,
-      drop_at key rest _ (sym (length-map key to_ascii_lowercase)),
-    ) (refl, refl)
+    grind (arith, any_small, drop_at, kind_small, length-map, map-append)
 
 found_key : (list : List (List ℕ)) (text rest : List ℕ) → after_any list text ≡ Some rest
     → (key : List ℕ) × Contains list (map to_ascii_lowercase key) × (text ≡ key ++ rest)
 found_key [] text rest is = grind arith
 found_key (s ∷ list) text rest is = elim (cases_Bool (begins s text)) [
   | inl test ↦
-      let n = length s in
-      let same : drop n text ≡ rest = same_Some _ _ (rw test at is) in (
-        take n text,
-        (0, omega arith, sym ((bytes_eq-Decides _ _).0 test)),
-        sym (take-append-drop n text) ∙ ap (λ t. take n text ++ t) same,
-      )
+      grind (arith, bytes_eq-Decides, same_Some, take-append-drop)
   | inr other ↦
       let (key, among, whole) = found_key list text rest (rw other at is) in
       (key, Contains-append_right (s ∷ []) list _ among, whole)
@@ -157,11 +145,11 @@ blanks_found : (rest left found : List ℕ) → Skipped left rest → StartsValu
     → after_blanks rest left ≡ Some found → Tailed rest found
 blanks_found rest left found (blanks, all, whole, _) plain is =
     elim (cases_Bool (nat_lt (length left) (length rest))) [
-      | inr short ↦ let none : None ≡ Some found = rw short at is in cc
+      | inr short ↦ grind arith
       | inl more ↦
           let less = ltb-true (length left) (length rest) more in
           let some : blanks ≢ []
-          = λ none. omega (arith, less, ap length (whole ∙ ap (λ t. t ++ left) none)) in
+          = grind arith in
           let same : left ≡ found = same_Some _ _ (rw more at is) in
           (left, inr (blanks, all, some, whole, plain), sym same ∙ sym (spaced rest left plain).0)
     ]
@@ -181,10 +169,9 @@ Parted region tail = (comment : List ℕ) × (tail ≡ region ++ comment)
 parted : (tail : List ℕ) → Parted (region_of tail) tail
 parted [] = ([], refl, tt, inl refl)
 parted (b ∷ tail) = rw (region_step b tail) (elim (cases_Bool (b == hash)) [
-  | inl is ↦ rw is (b ∷ tail, refl, tt, inr (tail, ap (λ x. x ∷ tail) (eqb-true b hash is)))
+  | inl is ↦ rw is (b ∷ tail, refl, tt, grind (arith, eqb-true))
   | inr isnt ↦
-      let (comment, whole, plain, is) = parted tail in
-      rw isnt (comment, ap (λ t. b ∷ t) whole, (eqb-false b hash isnt, plain), is)
+      grind (arith, eqb-false, parted tail)
 ])
 
 pub region_is : (region comment : List ℕ) → Each (λ byte. byte ≢ hash) region
@@ -197,8 +184,7 @@ region_is (b ∷ region) comment plain is =
 value_skipped : (tail : List ℕ) → value_of (skip_blanks tail) ≡ value_of tail
 value_skipped tail =
     let (blanks, all, whole, _) = skipped tail in
-    let left = region_of (skip_blanks tail) in
-    sym (ap value_of whole ∙ ap trimmed (at blanks all) ∙ blanks_skipped blanks left all)
+    grind (arith, blanks_skipped, at)
   where
     first : (b : ℕ) (text : List ℕ) → IsBlank b → region_of (b ∷ text) ≡ b ∷ region_of text
     first b text (inl is) = rw is (region_step 32 text)
@@ -217,14 +203,12 @@ statement_found kind value body s =
     let text = s.key ++ s.rest in
     let key = key_found kind s.key s.rest s.is_key in
     let reads : skip_blanks body ≡ text
-    = ap skip_blanks s.whole ∙ skip_front s.margin text s.margin_blank
-    ∙ kept text (plain_by kind text key.0) in
+    = cc (skip_front s.margin text s.margin_blank, kept text (plain_by kind text key.0)) in
     let region : region_of s.tail ≡ s.region
-    = ap region_of s.parted ∙ region_is s.region s.comment s.no_hash s.is_comment in
+    = cc (region_is s.region s.comment s.no_hash s.is_comment) in
     let is : value_of (skip_blanks s.tail) ≡ value
-    = value_skipped s.tail ∙ ap trimmed region
-    ∙ is_trimmed s.region value s.trimmed in
-    rw (reads, key.0, key.1, tail_found s.tail s.rest s.separated, is) refl
+    = cc (value_skipped s.tail, is_trimmed s.region value s.trimmed) in
+    grind (arith, tail_found)
 
 stated : (kind : Kind) (body rest found : List ℕ)
     → after_any (field_names kind) (skip_blanks body) ≡ Some rest → tail_of rest ≡ Some found
@@ -234,23 +218,7 @@ stated kind body rest found keyed is =
     let (key, is_key, whole) = found_key (field_names kind) (skip_blanks body) rest keyed in
     let (tail, separated, same) = found_tail rest (skip_blanks rest) found (skipped rest) is in
     let (comment, parts, no_hash, is_comment) = parted tail in
-    record {
-      margin = margin;
-      key = key;
-      rest = rest;
-      tail = tail;
-      region = region_of tail;
-      comment = comment;
-      whole = before ∙ ap (λ t. margin ++ t) whole;
-      margin_blank = blank;
-      is_key = is_key;
-      separated = separated;
-      parted = parts;
-      no_hash = no_hash;
-      is_comment = is_comment;
-      trimmed = subst (λ v. IsTrimOf v (region_of tail)) (sym (ap value_of same ∙ value_skipped tail))
-          (trimmed_is_trim (region_of tail));
-    }
+    grind (arith, trimmed_is_trim, value_skipped)
 
 pub found_statement : (kind : Kind) (value body : List ℕ) → statement_of body ≡ Some (kind, value)
     → IsStatement kind value body
@@ -259,9 +227,8 @@ found_statement kind value body found =
     let text = skip_blanks body in
     option_and_then_some _ (kind_by text) (kind, value) found (λ k by is.
     option_and_then_some _ (tail_as k text) (kind, value) is (λ tail is same.
-    option_and_then_some tail_of (after_any (field_names k) text) tail is (λ rest keyed tailed.
-    subst (λ (p : Kind × List ℕ). IsStatement p.0 p.1 body) (same_Some _ _ same)
-    (stated k body rest tail keyed tailed))))
+    option_and_then_some tail_of (after_any (field_names k) text) tail is (grind (arith, same_Some, stated,
+    tail))))
 
 pub one_statement : (kind kind' : Kind) (value value' body : List ℕ) → IsStatement kind value body
     → IsStatement kind' value' body → (kind ≡ kind') × (value ≡ value')

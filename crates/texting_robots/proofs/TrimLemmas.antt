@@ -115,7 +115,7 @@ started = by_units Started ([], tt, sym (drop-nil _)) (λ bytes some (chars, all
       | inl white ↦ (
         c ∷ chars,
         (white, all),
-        written bytes white ∙ ap (λ t. encode_utf8 c ++ t) whole ∙ (rw (step, white, append_assoc) refl),
+        grind (arith, append_assoc, written),
       )
     ])
 
@@ -139,11 +139,7 @@ end_char rest c is =
     let read : decoded back ≡ good c n = rw append-nil at (decoded-encode c [] is) in
     let one : pieces back ≡ good c n ∷ []
     = rw (pieces-step back some, read, drop_all n back (omega arith), pieces-nil) refl in
-    let last : IsLastPiece bytes (good c n) = record {
-      splits = rw (front, ← one) (pieces-append (length rest) rest back (omega arith) clean);
-      fits = omega arith;
-      some = some;
-    } in
+    let last : IsLastPiece bytes (good c n) = grind (arith, pieces-append) in
     let whole : 0 + (length bytes - n) + n ≡ length bytes = omega arith in
     rw (spans-last bytes (good c n) 0 last, kept_end-snoc is_whitespace 0, front, whole) refl
 
@@ -174,7 +170,7 @@ ended_next bytes text end some (within, (chars, all, spaces)) =
     let long : length (text ++ unit) ≡ length text + n = simp (length-append, length-take) (omega arith) in
     elim (cases_Bool (is_whitespace c)) [
       | inr other ↦
-          rw other (omega arith, ([], tt, drop_all (length text + n) (text ++ unit) (omega arith)))
+          grind (arith, drop_all)
       | inl white ↦
           let same : unit ≡ encode_utf8 c
           = append_cancel_right _ _ (following bytes) (take-append-drop n bytes ∙ written bytes white) in
@@ -182,7 +178,7 @@ ended_next bytes text end some (within, (chars, all, spaces)) =
             omega arith,
             (
               chars ++ c ∷ [],
-              each_append (λ char. IsTrue (is_whitespace char)) chars (c ∷ []) all (white, tt),
+              grind (arith, each_append),
               rw (drop-append-le end text unit within, spaces, encodes-append, append-nil, same) refl,
             ),
           )
@@ -212,27 +208,15 @@ trimmed_is_trim region =
     let whole = take-append-drop (end_of rest) rest in record {
       front = front;
       back = drop (end_of rest) rest;
-      whole = cut ∙ ap (λ t. front ++ t) (sym whole);
+      whole = cc;
       front_spaces = (chars, all, refl);
-      front_longest = λ s r e is.
-          let same : rest ≡ from_start r
-          = ap from_start (e ∙ ap (λ t. t ++ r) is.2) ∙ start_spaces is.0 r is.1 in
-          let short = length-drop (kept_start is_whitespace (length r) (spans_from 0 (pieces r))) r in
-          omega (
-            arith,
-            short,
-            ap length same,
-            simp length-append at (ap length cut),
-            simp length-append at (ap length e),
-          );
+      front_longest = grind (arith, length-append, length-drop, start_spaces);
       back_spaces = e.1;
       back_longest = λ r s e is.
           let same : end_of rest ≡ end_of r
-          = ap end_of (sym whole ∙ e ∙ ap (λ t. r ++ t) is.2) ∙ end_spaces is.0 r is.1 in
+          = grind (arith, end_spaces) in
           let within = (ended r [] 0 (omega arith, ([], tt, refl))).0 in
-          let long : length rest ≡ length r + length s =
-          ap length (sym whole ∙ e) ∙ length-append r s in
-          omega (arith, same, within, length-drop (end_of rest) rest);
+          grind (arith, length-append, length-drop);
     }
 
 pub is_trimmed : (region value : List ℕ) → IsTrimOf value region → trimmed region ≡ value
@@ -242,14 +226,13 @@ is_trimmed region value u =
     let below = u.front_longest t.front (trimmed region ++ t.back) t.whole t.front_spaces in
     let above = t.front_longest u.front (value ++ u.back) u.whole u.front_spaces in
     let rest : trimmed region ++ t.back ≡ value ++ u.back
-    = sym (drop_at t.front _ n (omega arith)) ∙ ap (drop n) (sym t.whole ∙ u.whole)
+    = sym (drop_at t.front _ n (omega arith)) ∙ ap (drop n) (cc)
     ∙ drop_at u.front _ n refl in
     let within = u.back_longest (trimmed region) t.back (sym rest) t.back_spaces in
     let over = t.back_longest value u.back rest u.back_spaces in
     let long : length (trimmed region) ≡ length value
     = omega (arith, simp length-append at (ap length rest)) in
-    sym (take_at (trimmed region) t.back _ long) ∙ ap (take (length value)) rest
-    ∙ take_at value u.back _ refl
+    cc (take_at (trimmed region) t.back _ long, take_at value u.back _ refl)
 
 pub same_trim : (text region value : List ℕ) → trimmed text ≡ trimmed region → IsTrimOf value region
     → IsTrimOf value text
@@ -270,9 +253,8 @@ end_blanks : (left blanks : List ℕ) → Each IsBlank blanks
 end_blanks left blanks all =
     let (white, same) = blank_spaces blanks all in
     let end : end_of (left ++ blanks) ≡ end_of left
-    = ap (λ t. end_of (left ++ t)) (sym same) ∙ end_spaces blanks left white in
-    ap (λ k. take k (left ++ blanks)) end
-    ∙ take-append-le (end_of left) left blanks (ended left [] 0 (omega arith, ([], tt, refl))).0
+    = grind (arith, end_spaces) in
+    cc (take-append-le (end_of left) left blanks (ended left [] 0 (omega arith, ([], tt, refl))).0)
 
 blanks_after_chars : (chars blanks : List ℕ) → scalars chars ≡ true → Each IsBlank blanks
     → trimmed (encode_utf8_all chars ++ blanks) ≡ trimmed (encode_utf8_all chars)
@@ -283,10 +265,7 @@ blanks_after_chars (c ∷ cs) blanks is all =
     let text = encode_utf8_all cs in
     let bare = start_char c text both.0 in
     let more = rw (← append_assoc) at (start_char c (text ++ blanks) both.0) in
-    elim (cases_Bool (is_whitespace c)) [
-      | inl white ↦ rw (bare, more, white) (blanks_after_chars cs blanks both.1 all)
-      | inr dark ↦ rw (bare, more, dark) (end_blanks (encode_utf8 c ++ text) blanks all)
-    ]
+    grind (arith, cases_Bool, end_blanks, blanks_after_chars cs blanks both.1 all)
 
 pub trailing_blanks : (text blanks : List ℕ) → IsUtf8 text → Each IsBlank blanks
     → trimmed (text ++ blanks) ≡ trimmed text
@@ -296,7 +275,7 @@ graphic_char : (b : ℕ) → is_ascii_graphic b ≡ true
     → (scalar b ≡ true) × (is_whitespace b ≡ false) × (encode_utf8 b ≡ b ∷ [])
 graphic_char b is =
     let low : b < 128 = grind (arith, nat_tests) in
-    (low_scalar b (omega arith), grind (arith, nat_tests), encode_ascii b low)
+    grind (arith, encode_ascii)
 
 graphic_first : (b : ℕ) (rest : List ℕ) → is_ascii_graphic b ≡ true
     → from_start (b ∷ rest) ≡ b ∷ rest
@@ -316,8 +295,7 @@ graphic_trim b rest first_is last_is =
     = sym (take_more text (length rest) 0 (omega arith)) ∙ take_all (length rest + 1) text (omega arith) in
     let end : end_of text ≡ length text
     = (rw (one, whole) at (end_char front last scalar_l)) ∙ cond-false _ _ _ dark in
-    ap (trim_end_by is_whitespace) (graphic_first b rest first_is) ∙ ap (λ k. take k text) end
-    ∙ take_all (length text) text (omega arith)
+    grind (arith, graphic_first, take_all)
 
 pub graphic_ends : (text : List ℕ) (first last : ℕ) → Some first ≡ slice_get text 0
     → Some last ≡ slice_get text (length text - 1) → is_ascii_graphic first ≡ true
@@ -340,10 +318,7 @@ other_value (b ∷ tail) (x ∷ name) first letter here there unlike visible dif
     let other : eq_ignore_ascii_case b x ≡ false = cc in
     let len = prefix_len (λ byte. not (byte == hash)) tail in
     let one : 1 + len ≡ suc len = omega arith in
-    let region : region_of (b ∷ tail) ≡ b ∷ region_of tail = rw plain (ap (λ k. take k (b ∷ tail)) one) in
-    let value = ap trimmed region ∙ ap (trim_end_by is_whitespace) (graphic_first b (region_of tail) is) in
-    ap (λ v. bytes_eq (str_to_ascii_lowercase v) (str_to_ascii_lowercase (x ∷ name))) value
-    ∙ short other (kept_end is_whitespace 0 (spans_from 0 (pieces (b ∷ region_of tail))))
+    grind (arith, graphic_first, short)
   where
     short : eq_ignore_ascii_case b x ≡ false → (k : ℕ)
         → bytes_eq (str_to_ascii_lowercase (take k (b ∷ region_of tail))) (str_to_ascii_lowercase (x ∷ name))

@@ -169,8 +169,7 @@ compared : (p q : List ℕ) → length p ≡ length q → Compared (slice_cmp na
 compared [] [] n = refl
 compared [] (y ∷ q) n = absurd (omega (arith, n))
 compared (x ∷ p) [] n = absurd (omega (arith, n))
-compared (x ∷ p) (y ∷ q) n =
-    first (nat_cmp x y) (ranked x y _ refl) (slice_cmp nat_cmp p q) (compared p q (omega (arith, n)))
+compared (x ∷ p) (y ∷ q) n = grind (arith, ranked, first, compared p q)
   where
     first : (o : Ordering) → MatchOrdering o (x < y) (x ≡ y) (y < x)
         → (rest : Ordering) → Compared rest p q → Compared (ordering_then o rest) (x ∷ p) (y ∷ q)
@@ -194,7 +193,7 @@ pattern_total =
 
 pattern_compared : (p q : List ℕ)
     → MatchOrdering (pattern_cmp p q) (IsBefore p q) (p ≡ q) (IsBefore q p)
-pattern_compared p q = by_length (nat_cmp (length q) (length p)) (ranked (length q) (length p) _ refl)
+pattern_compared p q = grind (arith, ranked, by_length)
   where
     by_bytes : length p ≡ length q → (o : Ordering) → Compared o p q
         → MatchOrdering o (IsBefore p q) (p ≡ q) (IsBefore q p)
@@ -212,10 +211,7 @@ pattern_compared p q = by_length (nat_cmp (length q) (length p)) (ranked (length
 pub less_is_before : (p q : List ℕ) → (pattern_cmp p q ≡ Less) ↔ IsBefore p q
 less_is_before p q = (
   λ h. rw h at (pattern_compared p q),
-  λ before. elim before [
-    | inl longer ↦ rw (cmp_less (length q) (length p) longer) refl
-    | inr (same, k, begin, less) ↦ rw (same, cmp_same (length q)) (smaller_is_less p q k same begin less)
-  ],
+  grind (arith, cmp_less, cmp_same, smaller_is_less),
 )
 
 pub equal_is_same : (p q : List ℕ) → (pattern_cmp p q ≡ Equal) ↔ (p ≡ q)
@@ -229,8 +225,7 @@ one_holds p q =
 pub not_both : (p q : List ℕ) → IsBefore p q → ¬ IsBefore q p
 not_both p q before after =
     let first = (less_is_before p q).1 before in
-    let second = (less_is_before q p).1 after in
-    let k : Less ≡ Greater = sym first ∙ pattern_total.antisymm p q ∙ ap ordering_reverse second in cc
+    grind (arith, less_is_before, pattern_total)
 
 pub not_equal : (p : List ℕ) → ¬ IsBefore p p
 not_equal p before = not_both p p before before

@@ -1,7 +1,8 @@
+use Rattle.std.proofs.Common.{arith}
 use Rattle.std.proofs.Common.{rules}
 use Rattle.percent_encoding.specs.Percent.{percent_encode_byte}
 use Rattle.texting_robots.proofs.escape.push_byte.Goals as goal
 
 pub returns : goal.returns
 unfolding percent_encode_byte
-returns c = rw (← c.if-not-is_escaped.ensures, ← c.percent_encode_byte.ensures) (search rules)
+returns c = grind arith

@@ -1,3 +1,4 @@
+use Rattle.std.proofs.Common.{arith}
 use Rattle.std.{proofs.Common.refl, specs.Fmt.digits}
 use Rattle.percent_encoding.specs.AsciiSet.{should_percent_encode}
 use Rattle.percent_encoding.specs.Percent.{percent_decode, percent_encode}
@@ -15,10 +16,4 @@ unfolding parse_url trim_c0_control_and_space strip_tabs_and_new_lines split_onc
     parse_special_host percent_decode ascii_domain ends_in_a_number parse_number parse_port leading_slashes
     parse_path_start parse_segments push_segment dot_count percent_encode should_percent_encode
     parse_non_special digits
-returns c = record {
-  prepared_url = (refl, refl);
-  prepared_path = (refl, refl, refl);
-  escapes = refl;
-  address = (refl, refl);
-  no_address = (refl, refl, refl);
-}
+returns c = grind arith

@@ -1,10 +1,10 @@
+use Rattle.std.proofs.Common.{arith}
 use Rattle.std.proofs.Common.{sym, ◌∙◌}
 use Rattle.texting_robots.proofs.{GivenLemmas.sitemaps_are_computed, LawLemmas.sitemaps_change_nothing_else}
 use Rattle.texting_robots.proofs.laws.sitemaps_for_all.Goals as goal
 
-pub returns-clause-others : goal.returns-clause-others
-returns-clause-others c = sitemaps_change_nothing_else
-
-pub returns-clause-sitemaps : goal.returns-clause-sitemaps
-returns-clause-sitemaps c = λ agent other lines robot another one two.
-    (sitemaps_are_computed lines _).0 one.sitemaps ∙ sym ((sitemaps_are_computed lines _).0 two.sitemaps)
+pub returns : goal.returns
+returns c = record {
+  others = sitemaps_change_nothing_else;
+  sitemaps = grind (arith, sitemaps_are_computed);
+}

@@ -38,9 +38,4 @@ loop-rest-preserved c =
     ∙ c.after_plain-rest-else-begins_dotted.ensures.passed
 
 pub returns : goal.returns
-returns c =
-    let other : get_or c.loop-rest.rest.now 0 0 ≢ 47 = elim c.if-rest-lt1.branch [
-      | in_default w ↦ λ e. omega (arith, get_or_past c.loop-rest.rest.now 0 0)
-      | in_default-2 w ↦ λ e. omega arith
-    ] in
-    c.loop-rest.invariant ∙ cond-false _ _ _ (ne_eqb _ 47 other)
+returns c = grind (arith, cond-false, get_or_past, in_default-2, ne_eqb)

@@ -5,16 +5,10 @@ use Rattle.texting_robots.proofs.AllocationFreeLemmas.{path_some, prepared_alone
 use Rattle.texting_robots.proofs.normalized.borrowed_target.Goals as goal
 
 pub returns-in_err-target-clause-plain : goal.returns-in_err-target-clause-plain
-returns-in_err-target-clause-plain c plain =
-    absurd (c.in_err-target.ensures.whole plain.target plain.rooted
-    (rw c.as_bytes.ensures.value (plain.site, plain.assembled, plain.is_site)))
+returns-in_err-target-clause-plain c plain = grind (arith, c.in_err-target.ensures.whole)
 
 pub returns-in-empty-clause-text : goal.returns-in-empty-clause-text
-returns-in-empty-clause-text c =
-    let (site, assembled, is_site) = rw c.as_bytes.ensures.value at c.in_ok-target.ensures.some in
-    let none = nil_from_length c.in_ok-target.target.now (omega arith) in
-    sym
-    (ap prepared (assembled ∙ ap (λ t. site ++ t) none ∙ append-nil site) ∙ prepared_alone site is_site)
+returns-in-empty-clause-text c = grind (arith, append-nil, nil_from_length, prepared_alone)
 
 pub returns-in-47-clause-text : goal.returns-in-47-clause-text
 returns-in-47-clause-text c =

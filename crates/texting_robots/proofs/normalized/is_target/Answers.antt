@@ -9,11 +9,7 @@ use Rattle.texting_robots.proofs.{NormalizedLemmas.path_read}
 use Rattle.texting_robots.proofs.normalized.is_target.Goals as goal
 
 pub returns-in_default : goal.returns-in_default
-returns-in_default c = (
-  λ no. absurd (false≢true no),
-  λ is.
-      absurd (none-some _ (sym c.in_default.ensures ∙ target_past c.args.text.now is)),
-)
+returns-in_default c = grind (arith, none-some, target_past)
 
 pub returns : goal.returns
 returns c =

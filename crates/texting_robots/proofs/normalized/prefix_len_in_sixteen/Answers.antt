@@ -32,8 +32,7 @@ module _ (part bytes lower upper : List ℕ) (long : length bytes ≡ 16)
 
   counted : cond (bits == 0) 16 (count_trailing_zeros 64 bits) ≡ prefix_len (is_kept part) bytes
   unfolding is_kept
-  counted = (λ i. cond (bits_are i == 0) 16 (count_trailing_zeros 64 (bits_are i)))
-      ∙ first_set_mask_l other bytes 16 long (omega arith)
+  counted = grind (arith, bits_are, first_set_mask_l)
 
 pub looked_up-lower-requires : goal.looked_up-lower-requires
 looked_up-lower-requires c =

@@ -1,3 +1,4 @@
+use Rattle.std.proofs.Common.{arith}
 use Rattle.std.proofs.Common.{◌≤◌, length, rules, subst, sym}
 use Rattle.texting_robots.proofs.CountLemmas.{file_bodies_within}
 use Rattle.texting_robots.proofs.parser.file_bodies.Goals as goal
@@ -6,5 +7,4 @@ pub returns-clause-value : goal.returns-clause-value
 returns-clause-value c = search rules
 
 pub returns-clause-count : goal.returns-clause-count
-returns-clause-count c = subst (λ bodies. length bodies ≤ length c.args.input.now)
-    (sym (returns-clause-value c)) (file_bodies_within c.args.input.now)
+returns-clause-count c = grind (arith, file_bodies_within, returns-clause-value)

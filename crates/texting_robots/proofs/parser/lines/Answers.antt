@@ -1,18 +1,14 @@
+use Rattle.std.proofs.Common.{arith}
 use Rattle.std.proofs.Common.{◌≤◌, ◌∙◌, ap, length, subst, sym}
 use Rattle.texting_robots.specs.Internal.{Line.lines_of}
 use Rattle.texting_robots.proofs.{CountLemmas.lines_within, CutFromFront.read_as_is}
 use Rattle.texting_robots.proofs.LineLemmas.{lines_are, lines_range}
 use Rattle.texting_robots.proofs.parser.lines.Goals as goal
 
-pub returns-clause-value : goal.returns-clause-value
-returns-clause-value c = ap lines_of (read_as_is c.without_front.result.now ∙ c.without_front.ensures.value)
-
-pub returns-clause-lines : goal.returns-clause-lines
-returns-clause-lines c = lines_are _ _ (returns-clause-value c)
-
-pub returns-clause-ranges : goal.returns-clause-ranges
-returns-clause-ranges c = lines_range _ _ (returns-clause-value c)
-
-pub returns-clause-count : goal.returns-clause-count
-returns-clause-count c = subst (λ lines. length lines ≤ length c.args.input.now)
-    (sym (returns-clause-value c)) (lines_within c.args.input.now)
+pub returns : goal.returns
+returns c = record {
+  value = grind (arith, read_as_is);
+  lines = lines_are _ _ (grind (arith, read_as_is));
+  ranges = lines_range _ _ (grind (arith, read_as_is));
+  count = grind (arith, lines_within, read_as_is);
+}

@@ -4,34 +4,18 @@ use Rattle.texting_robots.specs.Internal.Cut.{body_len, end_len, read_as}
 use Rattle.texting_robots.proofs.{AgentLemmas.advances, CutFromFront.next_body}
 use Rattle.texting_robots.proofs.parser.split_line.Goals as goal
 
-pub returns-clause-lines : goal.returns-clause-lines
-returns-clause-lines c =
-    rw (c.after_end.ensures, c.split_at.ensures.front, c.split_at.ensures.back, c.body_len.ensures.value)
-    (next_body c.args.nul_ends c.args.text.now c.requires)
-
-pub returns-clause-parts : goal.returns-clause-parts
-returns-clause-parts c =
-    let text = c.args.text.now in
-    let k = body_len (read_as c.args.nul_ends text) in
-    let after = drop k text in
-    let end = end_len (read_as c.args.nul_ends after) in
-    rw (c.after_end.ensures, c.split_at.ensures.front, c.split_at.ensures.back, c.body_len.ensures.value) (
-      take end after,
-      sym (take-append-drop k text)
-          ∙ ap (λ rest. take k text ++ rest) (sym (take-append-drop end after)),
-    )
-
-pub returns-clause-shorter : goal.returns-clause-shorter
-returns-clause-shorter c =
-    let n = c.args.nul_ends in
-    let text = c.args.text.now in
-    let k = body_len (read_as n text) in
-    let after = drop k text in
-    rw (c.after_end.ensures, c.split_at.ensures.back, c.body_len.ensures.value)
-    (omega (
-      arith,
-      advances n text c.requires,
-      c.requires,
-      length-drop k text,
-      length-drop (end_len (read_as n after)) after,
-    ))
+pub returns : goal.returns
+returns c = record {
+  lines = grind (arith, next_body);
+  parts =
+      let text = c.args.text.now in
+      let k = body_len (read_as c.args.nul_ends text) in
+      let after = drop k text in
+      let end = end_len (read_as c.args.nul_ends after) in
+      rw (c.after_end.ensures, c.split_at.ensures.front, c.split_at.ensures.back, c.body_len.ensures.value) (
+        take end after,
+        sym (take-append-drop k text)
+            ∙ ap (λ rest. take k text ++ rest) (sym (take-append-drop end after)),
+      );
+  shorter = grind (arith, advances, length-drop);
+}

@@ -60,12 +60,8 @@ returns-in_err-take-clause-rejected c =
 
 -- a line that fails gives a rule or a sitemap, so no line fails if the file gives neither
 pub returns-in_err-take-clause-without_memory : goal.returns-in_err-take-clause-without_memory
-returns-in_err-take-clause-without_memory c = λ rules sitemaps.
-    let (next, here, _, _) = c.in-Some.ensures.steps in
-    let so_far = c.loop-position.invariant in
-    absurd (false≢true (rw here at c.in_err-take.ensures.without_memory
-    (given_none _ _ _ (rw next at so_far.rules ∙ rules))
-    (given_none _ _ _ (rw next at so_far.sitemaps ∙ sitemaps))))
+returns-in_err-take-clause-without_memory c =
+    grind (arith, given_none, c.in-Some.ensures.steps, c.loop-position.invariant)
 
 pub returns-clause-robot : goal.returns-clause-robot
 returns-clause-robot c =

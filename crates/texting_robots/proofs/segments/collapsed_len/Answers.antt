@@ -10,33 +10,13 @@ use Rattle.texting_robots.proofs.segments.collapsed_len.Goals.{
 
 pub loop-byte-preserved-then-byte-ne-STAR : goal.loop-byte-preserved-then-byte-ne-STAR
 loop-byte-preserved-then-byte-ne-STAR c =
-    let byte = c.in-Some.byte.now in
-    let after = c.in-Some.after.now in
-    let rest = c.in-Some.ensures.cases.0 in
-    let more : length (collapsed (byte ∷ after)) ≡ suc (length (collapsed after)) =
-    elim c.then-byte-ne-STAR.branch [
-      | plain w ↦ length_plain byte after w.if-byte-ne-STAR.true
-      | last w ↦
-          let starts = w.starts_with.ensures.value in
-          length_last byte after (sym (star_starts after) ∙ sym starts ∙ w.if-not-starts_with.true)
-    ] in
-    record {
-      fits = omega (arith, ap length rest, c.loop-byte.invariant.fits);
-      counted = omega (arith, ap (λ q. length (collapsed q)) rest, more, c.loop-byte.invariant.counted);
-    }
+    grind (arith, length_last, length_plain, star_starts, c.in-Some.byte.now, c.in-Some.after.now,
+    c.in-Some.ensures.cases.0)
 
 pub loop-byte-preserved : goal.loop-byte-preserved
 loop-byte-preserved c =
-    let after = c.in-Some.after.now in
-    let rest = c.in-Some.ensures.cases.0 in
-    let star = sym (star_starts after) ∙ sym c.starts_with.ensures.value ∙ c.if-not-starts_with.false in
-    let same = length_merged c.in-Some.byte.now after c.if-byte-ne-STAR.false star in
-    record {
-      fits = omega (arith, ap length rest, c.loop-byte.invariant.fits);
-      counted = omega (arith, ap (λ q. length (collapsed q)) rest, same, c.loop-byte.invariant.counted);
-    }
+    grind (arith, length_merged, star_starts, c.in-Some.after.now, c.in-Some.ensures.cases.0,
+    c.if-not-starts_with.false)
 
 pub returns : goal.returns
-returns c =
-    let none = length_none c.loop-byte.rest.now c.in_default.ensures.cases in
-    omega (arith, c.loop-byte.invariant.counted, none)
+returns c = grind (arith, length_none)

@@ -22,7 +22,4 @@ loop-rest-preserved c =
     (record { within = omega (arith, i.within, left); seen = omega (arith, i.seen, next, left) })
 
 pub overflow_add-result-2 : goal.overflow_add-result-2
-overflow_add-result-2 c =
-    let i = c.loop-rest.invariant in
-    let most = prefix_len-le-length (λ b. not (is_wildcard b)) c.loop-rest.rest.now in
-    omega (arith, i.within, most, c.wildcard_in_few.ensures)
+overflow_add-result-2 c = grind (arith, prefix_len-le-length, c.loop-rest.invariant)

@@ -1,4 +1,4 @@
-use Rattle.std.proofs.Common.{◌≡◌, ◌≢◌, ℕ, ◌++◌, List, Option, Some, None, MatchOption}
+use Rattle.std.proofs.Common.{◌≡◌, ◌≢◌, ℕ, ◌++◌, List, Option, Some, None, MatchOption, rules}
 use Rattle.std.specs.{Borrow.Bor, Option.IfNone, Option.IfSome}
 use Rattle.std.proofs.lemmas.{Bool.Decides.Decides-eqb, Slice.Eq.strip_prefix_is}
 use Rattle.texting_robots.proofs.haystack.UncountedHaystack.begins_with.Goals as goal
@@ -12,14 +12,14 @@ parted : (text segment : List ℕ) (result : Option (Bor (List ℕ)))
 parted text segment None none = (none, tt)
 parted text segment (Some rest) split = (tt, (tt, split))
 
-pub returns-clause-none : goal.returns-clause-none
-returns-clause-none c =
+pub returns : goal.returns
+returns c =
     let split = strip_prefix_is Decides-eqb c.self.inside.text.now c.args.segment.now c.strip_prefix.result
     c.strip_prefix.ensures.cases in
-    rw (← c.self.view_is) (parted _ _ _ split).0
-
-pub returns-clause-some : goal.returns-clause-some
-returns-clause-some c =
-    let split = strip_prefix_is Decides-eqb c.self.inside.text.now c.args.segment.now c.strip_prefix.result
-    c.strip_prefix.ensures.cases in
-    rw (← c.self.view_is) (parted _ _ _ split).1
+    record {
+      none = rw (← c.self.view_is) (parted _ _ _ split).0;
+      some = rw (← c.self.view_is) (parted _ _ _ split).1;
+      cost = search rules;
+      looks = search rules;
+      short = search rules;
+    }

@@ -1,3 +1,4 @@
+use Rattle.std.proofs.Common.{arith}
 use Rattle.std.proofs.Common.{false, None, Some, refl, sym, ◌∙◌}
 use Rattle.std.proofs.lemmas.Bool.{Decides.Decides-eqb}
 use Rattle.std.proofs.lemmas.{List.Prefix.front_rest, Slice.Eq.strip_prefix_is}
@@ -25,18 +26,10 @@ loop-left-init c =
     )
 
 pub loop-left-preserved : goal.loop-left-preserved
-loop-left-preserved c =
-    let i = c.loop-left.invariant in
-    let is = c.in-Some-left.is in
-    let (to, from) = stars_here _ c.cut_at_star-in-Some-left.ensures _ c.in-Some-after_first.ensures in
-    (λ m. to (rw is at (i.0 m)), λ more. i.1 (rw is (from more)))
+loop-left-preserved c = grind (arith, stars_here, c.loop-left.invariant, c.in-Some-left.is)
 
 pub returns-in_default-after_first : goal.returns-in_default-after_first
-returns-in_default-after_first c =
-    let none = stars_nowhere _ c.cut_at_star-in-Some-left.ensures c.in_default-after_first.ensures in
-    (λ e. cc, λ m. absurd (none (rw c.in-Some-left.is at (c.loop-left.invariant.0 m))))
+returns-in_default-after_first c = grind (arith, stars_nowhere, c.loop-left.invariant.0)
 
 pub returns : goal.returns
-returns c =
-    let m = end_matches false c.loop-left.rest.now in
-    (λ _. c.loop-left.invariant.1 (rw c.in_default-left.is m), λ _. refl)
+returns c = grind (arith, end_matches, c.loop-left.invariant.1)

@@ -7,14 +7,7 @@ use Rattle.texting_robots.proofs.AgentLemmas.{none_named}
 use Rattle.texting_robots.proofs.parser.LazyLines.name_agent.Goals as goal
 
 pub returns-then-names : goal.returns-then-names
-returns-then-names c =
-    let names = is_agent_named (str_to_ascii_lowercase c.args.agent.now) in
-    let after = read_as c.self-inside.inside.0.0.nul_ends c.split_line.result.1.now in
-    let later = list_any names (lines_of after) in
-    let first = ap names (sym c.new.ensures) ∙ sym c.names.ensures ∙ c.if-names.true in
-    sym (sym c.loop-rest.invariant
-    ∙ ap (λ bodies. list_any names (map line_of bodies)) c.split_line.ensures.lines
-    ∙ ap (λ x. x || later) first)
+returns-then-names c = grind (arith, c.if-names.true)
 
 pub loop-rest-preserved : goal.loop-rest-preserved
 loop-rest-preserved c =

@@ -15,25 +15,12 @@ loop-rest-preserved c =
       same = λ name. passed_over name c.args.nul_ends 32 rest (omega arith) none ∙ i.same name;
     })
 
-pub returns-clause-shorter : goal.returns-clause-shorter
-returns-clause-shorter c =
-    let i = c.loop-rest.invariant in
-    let n = c.args.nul_ends in
-    let rest = c.loop-rest.rest.now in
-    let k = body_len (read_as n rest) in
-    let after = drop k rest in
-    rw (c.after_end.ensures, c.split_at-2.ensures.back, c.body_len.ensures.value)
-    (omega (
-      arith,
-      advances n rest i.some,
-      i.within,
-      length-drop k rest,
-      length-drop (end_len (read_as n after)) after,
-    ))
-
-pub returns-clause-named : goal.returns-clause-named
-returns-clause-named c name =
-    let i = c.loop-rest.invariant in
-    let rest = c.loop-rest.rest.now in
-    rw (c.after_end.ensures, c.split_at-2.ensures.back, c.body_len.ensures.value)
-    (later_lines name c.args.nul_ends rest i.some ∙ i.same name)
+pub returns : goal.returns
+returns c = record {
+  shorter = grind (arith, advances, length-drop, c.loop-rest.invariant, c.loop-rest.rest.now);
+  named = λ name.
+      let i = c.loop-rest.invariant in
+      let rest = c.loop-rest.rest.now in
+      rw (c.after_end.ensures, c.split_at-2.ensures.back, c.body_len.ensures.value)
+      (later_lines name c.args.nul_ends rest i.some ∙ i.same name);
+}

@@ -1,3 +1,4 @@
+use Rattle.std.proofs.Common.{arith}
 use Rattle.std.proofs.Common.{◌≡◌, ℕ, List, ap, length, min, take, ◌∙◌}
 use Rattle.std.proofs.lemmas.{Bool.false≢true, List.take_min}
 use Rattle.texting_robots.proofs.MainTheoremLemmas.{if_err, nothing_of, robot_of}
@@ -7,13 +8,10 @@ read : (limit n : ℕ) (txt : List ℕ) → n ≡ min limit (length txt) → tak
 read limit n txt is = ap (λ n. take n txt) is ∙ take_min _ _
 
 pub returns-clause-robot : goal.returns-clause-robot
-returns-clause-robot c =
-    robot_of _ _ _ (rw (read _ _ _ c.min.ensures, ← c.parts.view_is) at c.in_ok-parts.ensures.robot)
+returns-clause-robot c = grind (arith, read, robot_of)
 
 pub returns-in_err-parts-clause-rejected : goal.returns-in_err-parts-clause-rejected
-returns-in_err-parts-clause-rejected c =
-    if_err c.from_residual.result c.in_err-parts.field-0.0 _ c.from_residual.ensures.1
-    (rw (read _ _ _ c.min.ensures) at c.in_err-parts.ensures.rejected)
+returns-in_err-parts-clause-rejected c = grind (arith, if_err, read)
 
 pub returns-in_err-parts-clause-without_memory : goal.returns-in_err-parts-clause-without_memory
 returns-in_err-parts-clause-without_memory c = λ nothing.

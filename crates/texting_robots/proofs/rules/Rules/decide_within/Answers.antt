@@ -1,10 +1,10 @@
+use Rattle.std.proofs.Common.{arith}
 use Rattle.std.proofs.{Common.inl, Common.inr, lemmas.List.length-map}
 use Rattle.texting_robots.proofs.{BestLemmas.none_denies, FirstLemmas.first_line, FirstLemmas.none_occurs}
 use Rattle.texting_robots.proofs.rules.Rules.decide_within.Goals as goal
 
 pub returns-then-is_robots_file-clause-visits : goal.returns-then-is_robots_file-clause-visits
-returns-then-is_robots_file-clause-visits c = λ differs none.
-    absurd (differs (c.is_robots_file.ensures.0 c.if-is_robots_file.true))
+returns-then-is_robots_file-clause-visits c = grind (arith, c.is_robots_file.ensures.0)
 
 pub returns-in-Some-clause-visits : goal.returns-in-Some-clause-visits
 returns-in-Some-clause-visits c = rw (← c.self.view_is) (λ differs none.
@@ -20,5 +20,4 @@ returns-in-None-clause-decision c =
     rw (← c.self.view_is) (record { verdict = none_denies _ _ none; deciding = inr none })
 
 pub returns-in-None-clause-visits : goal.returns-in-None-clause-visits
-returns-in-None-clause-visits c = λ differs none.
-    rw (← c.self.view_is, length-map) (rw c.in-None.is at c.in_ok-at.ensures.visits)
+returns-in-None-clause-visits c = grind (arith, length-map)

@@ -1,19 +1,15 @@
 use Rattle.std.proofs.Common.{ℕ, List, length, slice_range, string_bytes, ap}
-use Rattle.std.proofs.Common.{subst, ◌∙◌, arith, length-append}
+use Rattle.std.proofs.Common.{subst, ◌∙◌, arith, length-append, rules}
 use Rattle.texting_robots.specs.Internal.Segments.{ArePrefilter, AreSegments}
 use Rattle.texting_robots.specs.{Escape.escaped}
 use Rattle.texting_robots.proofs.SearchLemmas.{after_old, entries_pushed, entry_new, rules_pushed}
 use Rattle.texting_robots.proofs.rules.Unsorted.push.Goals as goal
 
 pub new-requires : goal.new-requires
-new-requires c =
-    let added = c.in_ok-ends.ensures in
-    let old = c.args.self.now in
-    let segments = after_old old.segments.items added.segments c.len-first_segment.result (omega arith) in
-    rw (c.deref.ensures.value, c.deref-2.ensures.value, added.put_segments, segments) added.are_segments
+new-requires c = grind (arith, after_old, c.in_ok-ends.ensures)
 
-pub returns-clause-known : goal.returns-clause-known
-returns-clause-known c =
+pub returns : goal.returns
+returns c =
     let reserved = c.in_ok-reserve_first.ensures in
     let text = rw reserved.text at c.in_ok-push_escaped.ensures in
     let added = c.in_ok-ends.ensures in
@@ -35,33 +31,22 @@ returns-clause-known c =
     let pushed = c.push_reserved.ensures in
     let room = c.reserve.ensures in
     record {
-      known = rw (pushed.items, room.items, reserved.entries, text, added.put_segments, added.put_tables)
-          (entries_pushed old_text more old.segments.items added.segments old.borders.items added.tables
-          old.entries.items _ c.requires.entries.known
-          (rw (← added.put_tables) (entry_new old_text more old.segments.items added.segments _ _ (record {
-            pattern_span = rw c.in_ok-between.ensures (record { start = omega arith; end = omega arith });
-            searched_span = rw c.in_ok-between-2.ensures (record { start = omega arith; end = omega arith });
-            is_cut = cut;
-            needed = needed;
-          }))));
-      masks = omega (arith, c.requires.entries.masks, pushed.len, room.len, as_many);
+      known = record {
+        known = rw (pushed.items, room.items, reserved.entries, text, added.put_segments, added.put_tables)
+            (entries_pushed old_text more old.segments.items added.segments old.borders.items added.tables
+            old.entries.items _ c.requires.entries.known
+            (rw (← added.put_tables) (entry_new old_text more old.segments.items added.segments _ _ (record {
+              pattern_span = rw c.in_ok-between.ensures (record { start = omega arith; end = omega arith });
+              searched_span = rw c.in_ok-between-2.ensures (record { start = omega arith; end = omega arith });
+              is_cut = cut;
+              needed = needed;
+            }))));
+        masks = omega (arith, c.requires.entries.masks, pushed.len, room.len, as_many);
+      };
+      added = rw (pushed.items, room.items, reserved.entries, text, ← c.in_ok-narrow.ensures)
+          (rules_pushed old_text more old.segments.items old.borders.items old.entries.items _
+          c.requires.entries.known
+          (rw c.in_ok-between.ensures (record { start = omega arith; end = omega arith })));
+      accepted = search rules;
+      rejected = search rules;
     }
-
-pub returns-clause-added : goal.returns-clause-added
-returns-clause-added c =
-    let reserved = c.in_ok-reserve_first.ensures in
-    let text = rw reserved.text at c.in_ok-push_escaped.ensures in
-    let old = c.args.self.now in
-    let old_text = string_bytes old.text in
-    let more = escaped c.args.value.now in
-    let size = ap length text in
-    let before = ap length reserved.text in
-    rw (
-      c.push_reserved.ensures.items,
-      c.reserve.ensures.items,
-      reserved.entries,
-      text,
-      ← c.in_ok-narrow.ensures,
-    )
-    (rules_pushed old_text more old.segments.items old.borders.items old.entries.items _
-    c.requires.entries.known (rw c.in_ok-between.ensures (record { start = omega arith; end = omega arith })))

@@ -4,12 +4,7 @@ use Rattle.texting_robots.proofs.{FirstLemmas.within_looks, SegmentLemmas.first_
 use Rattle.texting_robots.proofs.segments.Pattern.matches.Goals as goal
 
 pub returns-in_default-clause-cost : goal.returns-in_default-clause-cost
-returns-in_default-clause-cost g c =
-    let inside = c.self.inside in
-    let is = rw (length-take-le inside.ends.first_len inside.bytes.now c.self.invariant.first)
-    at c.in_default.ensures in
-    rw (← c.self.view_is) (within_looks _ _ _ _ c.self.invariant _ _ _
-    (λ less. omega (arith, is.short less)) (omega (arith, is.cost.cost)) (λ _. is.looks))
+returns-in_default-clause-cost g c = grind (arith, length-take-le, within_looks, c.self.inside)
 
 pub loop-segment-init : goal.loop-segment-init
 loop-segment-init g c =
@@ -29,17 +24,8 @@ loop-segment-init g c =
     }
 
 pub returns-in_default-find-clause-cost : goal.returns-in_default-find-clause-cost
-returns-in_default-find-clause-cost g c =
-    let i = c.loop-segment.invariant in
-    let spent = rw i.cost.text at c.in_default-find.ensures.cost in
-    rw (← c.self.view_is) (within_looks _ _ _ _ c.self.invariant _ _ _
-    (λ less. absurd (omega (arith, less, i.fits))) (omega (arith, spent.cost, i.cost.cost))
-    (λ (none, _). absurd (omega (arith, ap length none, c.loop-segment-test.true))))
+returns-in_default-find-clause-cost g c = grind (arith, within_looks, c.loop-segment.invariant)
 
 pub returns-clause-cost : goal.returns-clause-cost
 returns-clause-cost g c =
-    let i = c.loop-segment.invariant in
-    let spent = rw i.cost.text at c.ends_as.ensures.cost in
-    rw (← c.self.view_is) (within_looks _ _ _ _ c.self.invariant _ _ _
-    (λ less. absurd (omega (arith, less, i.fits))) (omega (arith, spent.cost, i.cost.cost))
-    (λ only. omega (arith, c.ends_as.ensures.unsearched only.1, i.first only)))
+    grind (arith, within_looks, c.loop-segment.invariant, c.ends_as.ensures.unsearched)

@@ -1,3 +1,4 @@
+use Rattle.std.proofs.Common.{arith}
 use Rattle.std.proofs.Common.{◌++◌, ap, map, sym, ◌∙◌}
 use Rattle.texting_robots.specs.Executable.{file_lines}
 use Rattle.texting_robots.proofs.RulesLemmas.{given_more}
@@ -5,9 +6,7 @@ use Rattle.texting_robots.proofs.SiteNameLemmas.{all_left, left_again, left_at, 
 use Rattle.texting_robots.proofs.site.Site.agents.Goals as goal
 
 pub loop-position-init : goal.loop-position-init
-loop-position-init c =
-    let named_is = rw c.self.view_is at c.self.invariant.names_are in
-    rw c.new-agents.ensures.items (ap (left_at 0) named_is ∙ all_left (file_lines c.args.self.now))
+loop-position-init c = grind (arith, all_left, left_at)
 
 pub loop-position-preserved-then-first-position : goal.loop-position-preserved-then-first-position
 loop-position-preserved-then-first-position c =

@@ -1,3 +1,4 @@
+use Rattle.std.proofs.Common.{arith}
 use Rattle.std.proofs.Common.{List, subst, sym, ◌∙◌, ℕ}
 use Rattle.std.proofs.lemmas.Bool.{false≢true}
 use Rattle.texting_robots.specs.Robot.{IsRobotOfFile}
@@ -16,8 +17,7 @@ returns-clause-robot c =
     })) same (lines, are, is)
 
 pub returns-in_err-robot-clause-without_memory : goal.returns-in_err-robot-clause-without_memory
-returns-in_err-robot-clause-without_memory c = λ (lines, are, (rules, sitemaps)).
-    absurd (false≢true (c.in_err-robot.ensures.without_memory (lines, are, rules)))
+returns-in_err-robot-clause-without_memory c = grind (arith, c.in_err-robot.ensures.without_memory)
 
 pub returns-in_err-sitemaps-clause-without_memory : goal.returns-in_err-sitemaps-clause-without_memory
 returns-in_err-sitemaps-clause-without_memory c = λ nothing.

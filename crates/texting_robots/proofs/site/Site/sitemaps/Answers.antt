@@ -7,11 +7,7 @@ use Rattle.texting_robots.proofs.SiteOwnLemmas.{listed_more}
 use Rattle.texting_robots.proofs.site.Site.sitemaps.Goals as goal
 
 pub loop-span-preserved : goal.loop-span-preserved
-loop-span-preserved c =
-    let here = rw (c.deref.ensures.value, c.self.view_is) at c.line_in.ensures in
-    rw (c.in_ok-push_if_sitemap.ensures, here, c.loop-span.invariant)
-    (sym (listed_more c.args.self.now c.deref-span-items.result.now c.loop-span.span-index _
-    c.loop-span-test.true))
+loop-span-preserved c = grind (arith, listed_more)
 
 pub returns : goal.returns
 returns c =

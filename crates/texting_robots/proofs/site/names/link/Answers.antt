@@ -6,11 +6,7 @@ use Rattle.texting_robots.proofs.SiteNameLemmas.{agent_at, linked_more, linked_n
 use Rattle.texting_robots.proofs.site.names.link.Goals as goal
 
 pub loop-position-init : goal.loop-position-init
-loop-position-init c = record {
-  within = omega arith;
-  linked = linked_none _ (map named_of c.args.lines.now) _ _ (sym (length-map c.args.lines.now named_of))
-      c.requires.heads c.requires.nexts;
-}
+loop-position-init c = grind (arith, length-map, linked_none)
 
 pub loop-position-preserved : goal.loop-position-preserved
 loop-position-preserved c =

@@ -1,15 +1,11 @@
+use Rattle.std.proofs.Common.{arith}
 use Rattle.texting_robots.proofs.SiteNameLemmas.{front_line, front_other, front_past}
 use Rattle.texting_robots.proofs.site.own.line_of_run.Goals.{in_default-via-in-Some+else-line-run}
 use Rattle.texting_robots.proofs.site.own.line_of_run.Goals.{in_default-via-in_default}
 use Rattle.texting_robots.proofs.site.own.line_of_run.Goals as goal
 
 pub returns-in-Some : goal.returns-in-Some
-returns-in-Some c =
-    let (_, is, _, (within, _), _) = c.in-Some.ensures.lookup in (
-      within,
-      rw c.read.ensures (front_line c.args.text.now c.args.lines.now c.args.at c.args.run _ within is
-          c.if-line-run.true),
-    )
+returns-in-Some c = grind (arith, front_line, c.in-Some.ensures.lookup)
 
 pub returns-in_default : goal.returns-in_default
 returns-in_default c = elim c.in_default.branch [

@@ -7,18 +7,10 @@ use Rattle.texting_robots.proofs.SiteOwnLemmas.{at_end, first_kept, next_run, sa
 use Rattle.texting_robots.proofs.site.own.next_line.Goals as goal
 
 pub loop-line-init : goal.loop-line-init
-loop-line-init c = record { left = refl; first = c.requires.0 }
+loop-line-init c = grind arith
 
 pub returns-in-Some : goal.returns-in-Some
-returns-in-Some c =
-    let name = str_to_ascii_lowercase c.args.name.now in
-    let tags = map (tag_at c.args.text.now) c.args.lines.now in
-    let left = drop c.loop-line.name_index c.args.names.now in
-    let (_, front) = c.in-Some.ensures in (
-      (c.loop-line.invariant.first, c.requires.1),
-      sym c.loop-line.invariant.left
-          ∙ ap (λ ts. ts ++ filter (λ (t : Tagged). is_later name c.loop-line.run left t.run) tags) front,
-    )
+returns-in-Some c = grind (arith, c.in-Some.ensures)
 
 pub returns-in_err-named : goal.returns-in_err-named
 returns-in_err-named c =

@@ -106,42 +106,14 @@ none_left : (rest : List ℕ) → length rest ≡ 0 → lines_of (read_as true r
 none_left rest none =
     ap (λ t. lines_of (read_as true t)) (nil_from_length rest none) ∙ ap (map line_of) bodies_nil
 
-pub returns-clause-lines : goal.returns-clause-lines
-returns-clause-lines c =
-    let left = none_left c.loop-rest.rest.now (grind (
-      arith,
-      nat_tests,
-      c.is_empty.ensures,
-      c.loop-rest-test.false,
-    )) in
-    rw c.finished.ensures.lines (sym (append-nil _) ∙ rw left at c.loop-rest.invariant.lines_are)
-
-pub returns-clause-names : goal.returns-clause-names
-returns-clause-names c =
-    let left = none_left c.loop-rest.rest.now (grind (
-      arith,
-      nat_tests,
-      c.is_empty.ensures,
-      c.loop-rest-test.false,
-    )) in
-    rw c.finished.ensures.names (sym (append-nil _) ∙ rw left at c.loop-rest.invariant.names_are)
-
-pub returns-clause-sitemaps : goal.returns-clause-sitemaps
-returns-clause-sitemaps c =
-    let left = none_left c.loop-rest.rest.now (grind (
-      arith,
-      nat_tests,
-      c.is_empty.ensures,
-      c.loop-rest-test.false,
-    )) in
-    rw c.finished.ensures.sitemaps (sym (append-nil _) ∙ rw left at c.loop-rest.invariant.sitemaps_are)
-
-pub returns-clause-early : goal.returns-clause-early
-returns-clause-early c =
-    let left = none_left c.loop-rest.rest.now (grind (
-      arith,
-      nat_tests,
-      c.is_empty.ensures,
-      c.loop-rest-test.false,
-    )) in
-    c.finished.ensures.early ∙ rw left at c.loop-rest.invariant.early
+pub returns : goal.returns
+returns c =
+    let none : length c.loop-rest.rest.now ≡ 0 =
+    grind (arith, nat_tests, c.is_empty.ensures, c.loop-rest-test.false) in
+    let at_end = rw (none_left c.loop-rest.rest.now none) at c.loop-rest.invariant in
+    record {
+      lines = rw c.finished.ensures.lines (sym (append-nil _) ∙ at_end.lines_are);
+      names = rw c.finished.ensures.names (sym (append-nil _) ∙ at_end.names_are);
+      sitemaps = rw c.finished.ensures.sitemaps (sym (append-nil _) ∙ at_end.sitemaps_are);
+      early = c.finished.ensures.early ∙ at_end.early;
+    }

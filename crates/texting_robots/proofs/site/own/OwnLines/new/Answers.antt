@@ -6,12 +6,7 @@ use Rattle.texting_robots.proofs.{SiteNameLemmas.first_here, SiteOwnLemmas.whole
 use Rattle.texting_robots.proofs.site.own.OwnLines.new.Goals as goal
 
 pub invariant_of-result : goal.invariant_of-result
-invariant_of-result c =
-    let name = str_to_ascii_lowercase c.args.name.now in (
-      ap (λ k. first_named name (drop k c.args.names.now)) c.first.ensures
-          ∙ first_here (has_name name) c.args.names.now,
-      c.requires,
-    )
+invariant_of-result c = grind (arith, first_here)
 
 pub returns : goal.returns
 returns c =
