@@ -185,11 +185,7 @@ fn write_agent(report: &mut Failing<'_>, checked: &Checked<'_>, number: usize) -
     }
 }
 
-fn write_failure(
-    report: &mut Failing<'_>,
-    checked: &Checked<'_>,
-    message: &str,
-) -> fmt::Result {
+fn write_failure(report: &mut Failing<'_>, checked: &Checked<'_>, message: &str) -> fmt::Result {
     let (name, line) = (report.name, checked.expectation.number);
     if line != report.line {
         end_names(report)?;

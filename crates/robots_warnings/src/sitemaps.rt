@@ -21,11 +21,7 @@ fn listed<'a>(line: Line<'a>) -> Option<&'a str>
     }
 }
 
-fn add_listed(
-    alloc: Global,
-    lines: &mut Lines,
-    labeled: &LabeledLine<'_>,
-) -> Result<(), AllocError>
+fn add_listed(alloc: Global, lines: &mut Lines, labeled: &LabeledLine<'_>) -> Result<(), AllocError>
     ensures { OnOk result ((sitemap : List ℕ) → get_by_text lines.new sitemap
         ≡ option_or (get_by_text lines.old sitemap) (line_listing sitemap (label_by_value labeled.now))) }
 {
