@@ -63,9 +63,17 @@ def repeated(text):
     return re.sub(r"\\(?:\{(\d+) ([^}]*)\}|.)", lambda it: it[2] * int(it[1]) if it[1] else it[0], text)
 
 
+# the known crawlers that ignore the group of `*`
+IGNORING = ["AdsBot-Google", "AdsBot-Google-Mobile", "APIs-Google", "Mediapartners-Google", "YandexMobileBot", "YandexMetrika", "YandexDirect"]
+
+# what a report on `*` says of them, if its group denies something
+STILL_OPEN = f"; but crawlers that obey only a group with their own name may fetch all: {', '.join(IGNORING[:3])} and 4 more"
+
+
 def spelled(text):
-    r"""The bytes that a golden case means: \\ is a backslash, \r CR, \xHH a byte, and \{N TEXT} N times the TEXT."""
-    escapes = {b"\\": b"\\", b"r": b"\r"}
+    r"""The bytes that a golden case means: \\ is a backslash, \r CR, \xHH a byte, \{N TEXT} N times the TEXT, \* who may fetch what is
+    denied to *, and \i their names in JSON."""
+    escapes = {b"\\": b"\\", b"r": b"\r", b"*": STILL_OPEN.encode(), b"i": json.dumps(IGNORING, separators=(",", ":")).encode()}
     return re.sub(rb"\\(?:x([0-9A-F]{2})|(.?))", lambda it: bytes.fromhex(it[1].decode()) if it[1] else escapes[it[2]], repeated(text).encode())
 
 
@@ -202,7 +210,7 @@ def warning_lines(warnings, file="robots.txt", agent=None):
     return "".join(shown + more + total)
 
 
-VERDICTS = "RFC 9309 syntax and verdicts, for URLs with usual escapes (%20, not %41)"
+VERDICTS = "RFC 9309 syntax and verdicts, for URLs with usual escapes (%20 for a space, not %41 for A)"
 KEYS = set("like args agent robots file expect old from pieces room out more rfc warn err status indented".split())
 
 

@@ -4,7 +4,7 @@ import json
 from itertools import permutations
 
 import pytest
-from support import run
+from support import IGNORING, run
 
 ROBOTS = b"""User-agent: *
 Disallow: /private/
@@ -32,8 +32,7 @@ GOOGLEBOT = "but its vendor applies the group Googlebot to it"
 
 NORMALLY = "by RFC 9309, which compares normal forms,"
 
-# the known crawlers that ignore the group of `*`
-IGNORING = ["AdsBot-Google", "AdsBot-Google-Mobile", "APIs-Google", "Mediapartners-Google", "YandexMobileBot", "YandexMetrika", "YandexDirect"]
+BOTH = "; a crawler that ignores * has to pass with that group and without"
 
 NAMED = "".join(f"User-agent: {name}\n" for name in ["*", *IGNORING]).encode()
 
@@ -43,7 +42,7 @@ ANY = {
     "no group": (b"Disallow: /a", b"deny any /a", [], None),
     "allowed to all": (b"User-agent: *\nDisallow: /a", b"allow any /b", [], None),
     "denied to *": (b"User-agent: *\nDisallow: /a", b"allow any /a", ["*", *IGNORING], "line 2 denies it"),
-    "those that ignore *": (b"User-agent: *\nDisallow: /a", b"deny any /a", IGNORING, "its vendor doesn't apply the group * to it"),
+    "those that ignore *": (b"User-agent: *\nDisallow: /a", b"deny any /a", IGNORING, "its vendor doesn't apply the group * to it" + BOTH),
     "which are named": (NAMED + b"Disallow: /a", b"deny-all Any /a", [], None),
     "a crawler of the file": (NAMED + b"Disallow: /a\nUser-agent: Ferris\nDisallow: /b", b"deny-all any /a", ["Ferris"], "no rule matches /a"),
     "a name with a version": (b"User-agent: A/2\nDisallow: /a", b"allow ANY /a", ["A/2"], "line 2 denies it"),
@@ -109,7 +108,7 @@ def names_in(messages):
 def test_any_crawler(tmp_path, robots, text, names, why):
     """A text has a line for each of the first five crawlers for which it fails, and one with ten more names; JSON has a finding for each."""
     result, found = (check(tmp_path, b"\n" + text, *more, robots=robots) for more in ([], ["--json"]))
-    more = f" and {len(names) - 15} more" if len(names) > 15 else ""
+    more = f" and {len(names) - 15} more" if len(names) > 15 else BOTH if IGNORING[-1] in names else ""
     others = [f"expect.txt:2: also {', '.join(names[5:15])}{more}\n"] if len(names) > 5 else []
     lines = result.out.splitlines(keepends=True)
     told = [line.removeprefix("expect.txt:2: ") for line in lines[: min(len(names), 5)]]

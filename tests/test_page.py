@@ -9,7 +9,7 @@ from html.parser import HTMLParser
 import page_style
 import pytest
 from browser import Browser
-from support import ROOT, also_in, level_and_text, run, shared
+from support import ROOT, STILL_OPEN, also_in, level_and_text, run, shared
 
 SOURCE, STYLE = page_style.SOURCE.read_text(), page_style.STYLE.read_text()
 
@@ -222,7 +222,7 @@ def test_table_of_crawlers():
 
 
 @pytest.mark.parametrize("agent, vendor, fetch", [
-    ("AdsBot-Google", "; but it ignores the group *, and obeys only one with its own name, so it may fetch all, also what is denied here", "everything"),
+    ("AdsBot-Google", "; but it ignores the group *, and obeys only one with its own name, so it may fetch all: the verdicts are the file's, not the crawler's", "everything"),
     ("Googlebot-Image", "; but its vendor applies another group, whose verdicts may differ", "not decided"),
 ])
 def test_page_has_what_vendors_do(agent, vendor, fetch):
@@ -230,6 +230,7 @@ def test_page_has_what_vendors_do(agent, vendor, fetch):
     found = entries_of(f"--agent={agent}", "-", file=file)
     assert found["Group"] == f"* ({agent} has no group of its own), line 1{vendor}"
     assert (found["Crawl delay"], found["May fetch"]) == (f"10 s ({agent} ignores it)", fetch)
+    assert ["/a", "denied by the file, line 2"] in [cells for _, cells in children(Reader(page(f"--agent={agent}", "-", "/a", file=file)).elements, "tr")]
     assert "<td>disallow</td><td>(empty: allows everything)</td>" in page(f"--agent={agent}", "-", file=file)
 
 
@@ -241,7 +242,7 @@ def test_page_has_the_lines_and_warnings_of_the_json():
 
 
 @pytest.mark.parametrize("file, sentence", [
-    (b"User-agent: *\nDisallow: /", "RFC 9309 syntax and verdicts, for URLs with usual escapes (%20, not %41)"),
+    (b"User-agent: *\nDisallow: /", "RFC 9309 syntax and verdicts, for URLs with usual escapes (%20 for a space, not %41 for A)"),
     (b"User-agent: *\nDisallow: /a$b", "RFC 9309 syntax; verdicts may differ from RFC 9309's: line 2"),
     (b"User-agent: *\nDisallow: a", "not RFC 9309 syntax, first at line 2"),
     (b"# nothing", None),
@@ -265,7 +266,8 @@ def test_page_about_all_crawlers():
     rows = [["Crawler", "Group", "Rules", "Crawl delay", "May fetch", *URLS]]
     for it in found["agents"]:
         verdicts = [one["url"] + verdict(one) for one in it["verdicts"]]
-        rows.append([it["agent"], f"{it['agent']}, line {it['group_line']}", str(it["rules"]), delay(it["delay"]), it["may_fetch"].replace("by-rules", "what its rules allow"), *verdicts])
+        still_open = STILL_OPEN if it["ignored_by"] else ""
+        rows.append([it["agent"], f"{it['agent']}, line {it['group_line']}{still_open}", str(it["rules"]), delay(it["delay"]), it["may_fetch"].replace("by-rules", "what its rules allow"), *verdicts])
     assert [row[4] for row in rows] == ["May fetch", "what its rules allow", "nothing"]
     assert [cells for _, cells in children(elements, "tr")][: len(rows)] == rows
     assert [row for row in children(elements, "tr") if row[0]] == rows_of({**audit("--agent=*", "-"), "warnings": found["warnings"]})

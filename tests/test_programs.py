@@ -201,7 +201,7 @@ def test_many_agents():
         verdicts += "".join(f"{f'deny {2 * n}' if m == n else 'allow -'} {name} {url}\n" for m, url in enumerate(urls, 1))
     for n in range(1, 101, 2):
         text += f"User-agent: {'A' * n}_\nAllow: /none/{n}\n"
-    out += verdicts + "RFC 9309 syntax and verdicts, for URLs with usual escapes (%20, not %41)\n"
+    out += verdicts + "RFC 9309 syntax and verdicts, for URLs with usual escapes (%20 for a space, not %41 for A)\n"
     assert run("robots_audit", ["-", *urls], text.encode()) == Result(1, out, "")
 
 

@@ -11,7 +11,7 @@ ghost use Rattle.audit_compare.specs.Compare.{verdict_change};
 use crate::compared::{Compared, UrlChange};
 use crate::every_url::{Example, Verdicts};
 use audit_core::findings::{Findings, add};
-use audit_core::group::Group;
+use audit_core::group::{AtVendor, Group};
 use audit_core::reach::Reach;
 use audit_core::texts::{DelayOrNone, Fetched, Rejected};
 use printable_text::level::Level;
@@ -166,10 +166,26 @@ impl fmt::Display for Decided {
     }
 }
 
-fn add_url(alloc: Global, found: &mut Findings, agent: &str, change: &UrlChange<'_>) -> fmt::Result
+/// What a crawler's vendor does otherwise in the new file, or else that it did in the old one.
+fn write_vendor(message: &mut Line, compared: &Compared<'_>) -> fmt::Result {
+    match (compared.older.vendor, compared.newer.vendor) {
+        (AtVendor::NoGroup | AtVendor::OtherGroup, AtVendor::Same) => {
+            message.write_str("; but before, its vendor applied no group or another one")
+        }
+        (_, vendor) => write!(message, "{vendor}"),
+    }
+}
+
+fn add_url(
+    alloc: Global,
+    found: &mut Findings,
+    compared: &Compared<'_>,
+    change: &UrlChange<'_>,
+) -> fmt::Result
     ensures { OnOk result (Adds found.old.items found.new.items (url_change change.now ∷ [])) }
 {
-    let (older, newer, url) = (change.older, change.newer, change.url);
+    let (older, newer) = (change.older, change.newer);
+    let (agent, url) = (compared.agent, change.url);
     let (old, new) = (Decided(older), Decided(newer));
     let mut message = Line::new(alloc);
     write!(message, "crawler {agent} {url}: {old} -> {new}")?;
@@ -177,6 +193,7 @@ fn add_url(alloc: Global, found: &mut Findings, agent: &str, change: &UrlChange<
     if older.allowed != newer.allowed {
         write!(message, ", {name}")?;
     }
+    write_vendor(&mut message, compared)?;
     let level = if older.allowed && !newer.allowed {
         Level::Warning
     } else {
@@ -188,13 +205,13 @@ fn add_url(alloc: Global, found: &mut Findings, agent: &str, change: &UrlChange<
 fn add_urls(
     alloc: Global,
     found: &mut Findings,
-    agent: &str,
+    compared: &Compared<'_>,
     changes: &[UrlChange<'_>],
 ) -> fmt::Result
     ensures { OnOk result (Adds found.old.items found.new.items (map url_change changes.now)) }
 {
     for change in changes {
-        add_url(alloc, found, agent, change)?;
+        add_url(alloc, found, compared, change)?;
     }
     Ok(())
 }
@@ -266,6 +283,7 @@ fn add_verdict_change(
         write!(message, "may fetch {was} -> {is}")?;
     }
     write!(message, ", for example {path}: {old} -> {new}")?;
+    write_vendor(&mut message, compared)?;
     add(
         alloc,
         found,
@@ -289,6 +307,7 @@ fn add_verdicts(alloc: Global, found: &mut Findings, compared: &Compared<'_>) ->
         Verdicts::Other(example) => return add_verdict_change(alloc, found, compared, example),
         Verdicts::Same => {
             write!(message, "crawler {agent}: no URL's verdict changes")?;
+            write_vendor(&mut message, compared)?;
             add(alloc, found, Level::Note, None, "same-verdicts", &message)
         }
         Verdicts::Undecided => {
@@ -365,7 +384,7 @@ fn add_section(
             add_rules(alloc, found, agent, false, &compared.removed)?;
             add_rules(alloc, found, agent, true, &compared.added)
         }
-        Section::Urls => add_urls(alloc, found, agent, &compared.changes),
+        Section::Urls => add_urls(alloc, found, compared, &compared.changes),
         Section::EveryUrl => add_verdicts(alloc, found, compared),
     }
 }

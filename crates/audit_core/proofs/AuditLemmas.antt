@@ -2,24 +2,24 @@
 use Rattle.std.proofs.Common.{◌≡◌, ℕ, ◌||◌, Bool, true, false, List, [], ◌∷◌, ◌++◌, ap, bytes_eq, not, refl}
 use Rattle.std.proofs.Common.{if◌then◌else◌, subst, sym, ⊎_elim, ◌∙◌, ◌+◌, ◌<◌, ◌==◌, arith, drop, flat_map}
 use Rattle.std.proofs.Common.{length, map, slice_index_or, zip, append_assoc, None, Option, take}
-use Rattle.std.proofs.Common.{Some, codes, inl, inr, is_some}
-use Rattle.std.specs.{BTreeSet.BTreeSet, List.AllZip, List.list_any}
+use Rattle.std.proofs.Common.{Some, codes}
+use Rattle.std.specs.{BTreeSet.BTreeSet, List.AllZip}
 use Rattle.std.specs.Str.{is_utf8, str_to_ascii_lowercase}
 use Rattle.std.proofs.Math.{Bool.or-false}
-use Rattle.std.proofs.lemmas.Bool.{cases_Bool, false≢true, Decides.Decides-eqb}
+use Rattle.std.proofs.lemmas.Bool.{cases_Bool, Decides.Decides-eqb}
 use Rattle.std.proofs.lemmas.{Slice.Eq.bytes_eq-Decides, List.Elements.filter_map-append}
 use Rattle.std.proofs.lemmas.List.{append-nil, drop_more, map-append, take_more, Concat.flat_map-append}
 use Rattle.texting_robots.specs.Callers.{label_by_value, sitemaps_in, IsDelayFor, placed_rules}
 use Rattle.texting_robots.specs.Callers.{AnswerAlike, IsRobotWithoutSitemaps, PlacedRule, RobotValue}
 use Rattle.texting_robots.specs.Callers.{file_limit}
 use Rattle.texting_robots.specs.Callers.{UserAgent, by_value, HasLines, LineValue, delay_for, lines_read}
-use Rattle.texting_robots.specs.Callers.{IsFirstOverlong, Label, Sitemap}
-use Rattle.texting_robots.specs.{Agents.is_among, Executable.sitemap_in, Line.is_sitemap}
+use Rattle.texting_robots.specs.Callers.{IsFirstOverlong, Label}
+use Rattle.texting_robots.specs.{Agents.is_among, Executable.sitemap_in}
 use Rattle.texting_robots.specs.declared.labels.{LabeledLine.LabeledLine}
 use Rattle.robots_warnings.specs.Internal.Names.{AddsName, Key}
 use Rattle.audit_core.specs.Internal.Agents.{AddsAgent, HasAgents, has_lowered}
 use Rattle.robots_warnings.proofs.{ClosedLemmas.any_last}
-use Rattle.robots_warnings.specs.{Closed.line_closing, Facts.facts_of, File.labels_for, File.lines_of}
+use Rattle.robots_warnings.specs.{Facts.facts_of, File.labels_for, File.lines_of}
 use Rattle.robots_warnings.specs.{Read.IsRead, declared.read.FileRead.FileRead}
 use Rattle.audit_core.specs.Audit.{AreOfSitemaps, IsRuling, IsVerdictOn, VerdictValue, all_sitemaps}
 use Rattle.audit_core.specs.Audit.{sitemap_at, sitemap_warning, sitemaps_asked}

@@ -1,6 +1,6 @@
 -- The audit of a file: its lines, what applies to each requested crawler, and the warnings.
 use Rattle.std.specs.Prelude.{◌≡◌, ◌⊎◌, ◌==◌, ℕ, Bool, false, true, List, [], ◌∷◌, ◌++◌, Option, Some, None}
-use Rattle.std.specs.Prelude.{codes, count_by, filter, flat_map, if◌then◌else◌, is_none, is_some, length, map}
+use Rattle.std.specs.Prelude.{bytes_eq, codes, count_by, filter, flat_map, if◌then◌else◌, is_none, is_some, length, map}
 use Rattle.std.specs.Prelude.{not, option_map, sum_by, take, zip}
 use Rattle.std.specs.{List.AllZip, List.list_all, List.list_any, List.position_from, Str.is_utf8}
 use Rattle.texting_robots.specs.Callers.{IsFirstOverlong, IsRejected, Label, LineValue, PlacedRule, Sitemap}
@@ -14,7 +14,8 @@ use Rattle.rfc9309_laws.specs.{Conformance.conformance_of, declared.conformance.
 use Rattle.audit_core.specs.declared.group.AtVendor.TheVariants.{NoGroup, OtherGroup, Same}
 use Rattle.audit_core.specs.declared.group.Group.TheVariants.{Everyone, Named, Nobody, Star}
 use Rattle.robots_needless.specs.{Blocks.AreFoundIn, Needless.NeedlessValue, Needless.nothing}
-use Rattle.robots_warnings.specs.{declared.table.Cause.TheVariants.SitemapDenied, Crawlers.other_group}
+use Rattle.robots_warnings.specs.{declared.table.Cause.TheVariants.SitemapDenied, Crawlers.crawlers}
+use Rattle.robots_warnings.specs.Crawlers.{Row, ignores_star, other_group}
 use Rattle.audit_core.specs.{Reach.IsReach, declared.reach.Reach.Reach, declared.reach.Reach.TheVariants.Part}
 use Rattle.robots_warnings.specs.{declared.warning.Detail.TheVariants.Line, Closed.line_closing}
 use Rattle.robots_warnings.specs.{Facts.facts_of, Facts.is_too_large, File.labels_for}
@@ -55,6 +56,13 @@ abbrev pub at_vendor : Option (List ℕ) → AtVendor
 at_vendor None = Same
 at_vendor (Some group) = if length group == 0 then NoGroup else OtherGroup
 
+abbrev pub ignoring_among : List LineValue → List Row → List (List ℕ)
+ignoring_among lines rows = map (λ row. row.0) (filter (ignores_star lines) rows)
+
+-- of `*`, the known crawlers to which their vendors apply no group, although the file has one of `*`
+abbrev pub ignored_by : List LineValue → (agent : List ℕ) → List (List ℕ)
+ignored_by lines agent = if bytes_eq agent (codes "*") then ignoring_among lines crawlers else []
+
 pub record VerdictValue : Type 0 where
   pub url : List ℕ
   pub decision : Decision
@@ -67,6 +75,7 @@ pub record AgentValue : Type 0 where
   pub reach : Reach
   pub allows : List ℕ
   pub vendor : AtVendor
+  pub ignored_by : List (List ℕ)
   pub delay : Option ℕ
   pub rejected : Option ℕ
   pub verdicts : List VerdictValue
@@ -94,6 +103,7 @@ pub record IsAgentAudit (urls : List (List ℕ)) (lines : List LineValue) (agent
   pub reach_is : IsReach (placed_rules agent lines) value.reach value.allows
   pub vendor_is : value.vendor ≡ at_vendor (other_group lines agent)
   pub reach_elsewhere : (value.vendor ≡ Same) ⊎ (value.reach ≡ Part)
+  pub ignored_by_is : value.ignored_by ≡ ignored_by lines agent
   pub delay_is : value.delay ≡ delay_for agent lines
   pub ruling : IsRuling urls lines agent value.rejected value.verdicts
 

@@ -14,7 +14,7 @@ use crate::agents::agents_requested;
 use crate::asked::decision_on;
 use crate::chosen::choose;
 use crate::fault::Fault;
-use crate::group::{AtVendor, Group, at_vendor, group_of, naming_line};
+use crate::group::{AtVendor, Group, at_vendor, group_of, ignored_by, naming_line};
 use crate::needless::{add_needless, needless_rules};
 use crate::reach::{BUDGET, Reach, reach_of};
 use crate::request::Request;
@@ -59,6 +59,8 @@ pub struct AgentAudit<'a> {
     /// If that is listed, the lines of the Allows.
     pub allows: Vec<usize>,
     pub vendor: AtVendor,
+    /// If it is `*`, the known crawlers that ignore its group.
+    pub ignored_by: Vec<&'static str>,
     /// In microseconds.
     pub delay: Option<u64>,
     /// The line of the crawler's first overlong rule, because of which the file is rejected for the crawler.
@@ -200,6 +202,7 @@ fn agent_audit<'a>(
         reach,
         allows,
         vendor,
+        ignored_by: ignored_by(alloc, agent, &read.site)?,
         delay: read.site.delay(agent),
         rejected,
         verdicts,

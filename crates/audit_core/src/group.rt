@@ -1,12 +1,13 @@
 //! The group that applies to a crawler.
-ghost use Rattle.std.specs.Prelude.{◌≡◌, map};
+ghost use Rattle.std.specs.Prelude.{◌≡◌, IfOk, map};
 ghost use Rattle.std.specs.Str.{str_to_ascii_lowercase};
 ghost use Rattle.texting_robots.specs.Callers.{by_value, file_lines, is_agent_named, label_by_value};
 ghost use Rattle.robots_warnings.specs.File.{lines_of};
-ghost use Rattle.robots_warnings.specs.Crawlers.{other_group};
-ghost use Rattle.audit_core.specs.Audit.{at_vendor, group_of, naming_line};
+ghost use Rattle.robots_warnings.specs.{Crawlers.other_group, Internal.row_value};
+ghost use Rattle.audit_core.specs.Audit.{at_vendor, group_of, ignored_by, ignoring_among, naming_line};
 
-use robots_warnings::crawlers::other_group;
+use robots_warnings::crawlers::{Crawler, crawlers, ignores_star, other_group};
+use std::alloc::{AllocError, Global};
 use texting_robots::Site;
 use texting_robots::labels::LabeledLine;
 use texting_robots::parser::Line;
@@ -56,6 +57,38 @@ pub(crate) fn at_vendor(agent: &str, site: &Site) -> AtVendor
         Some(group) if group.is_empty() => AtVendor::NoGroup,
         Some(_) => AtVendor::OtherGroup,
     }
+}
+
+fn ignoring_among(
+    alloc: Global,
+    site: &Site,
+    rows: &'static [Crawler],
+) -> Result<Vec<&'static str>, AllocError>
+    ensures { IfOk result (λ names. map (λ name. name.now) names.items
+        ≡ ignoring_among (file_lines site.now) (map row_value rows.now)) }
+{
+    let mut names = Vec::new(alloc);
+    for row in rows {
+        if ignores_star(site, row) {
+            names.push(row.0)?;
+        }
+    }
+    Ok(names)
+}
+
+/// The known crawlers that ignore the group that is reported for this one, and so may fetch all.
+pub(crate) fn ignored_by(
+    alloc: Global,
+    agent: &str,
+    site: &Site,
+) -> Result<Vec<&'static str>, AllocError>
+    ensures { IfOk result (λ names. map (λ name. name.now) names.items
+        ≡ ignored_by (file_lines site.now) agent.now) }
+{
+    if agent != "*" {
+        return Ok(Vec::new(alloc));
+    }
+    ignoring_among(alloc, site, crawlers())
 }
 
 fn has_name(name: &[u8], line: Line<'_>) -> bool

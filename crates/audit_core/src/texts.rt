@@ -36,22 +36,33 @@ pub fn may_fetch(rejected: Option<usize>, vendor: AtVendor, reach: Reach) -> Opt
     }
 }
 
-/// Some lines, of which three are named, such as `lines 3, 5, 8 and 2 more`; nothing if there are none.
+/// Some things, of which three are named, such as `3, 5, 8 and 2 more`; nothing if there are none.
+#[derive(Clone, Copy)]
+struct Several<'a, T>(&'a [T]);
+
+impl<'a, T: fmt::Display> fmt::Display for Several<'a, T> {
+    fn fmt<W: fmt::Write>(&self, f: &mut fmt::Formatter<W>) -> fmt::Result {
+        match self.0 {
+            [] => Ok(()),
+            [one] => write!(f, "{one}"),
+            [one, two] => write!(f, "{one} and {two}"),
+            [one, two, three] => write!(f, "{one}, {two} and {three}"),
+            [one, two, three, more @ ..] => {
+                let more = more.len();
+                write!(f, "{one}, {two}, {three} and {more} more")
+            }
+        }
+    }
+}
+
+/// Some lines, of which three are named, such as `lines 3, 5, 8 and 2 more`.
 #[derive(Clone, Copy)]
 pub struct Lines<'a>(pub &'a [usize]);
 
 impl<'a> fmt::Display for Lines<'a> {
     fn fmt<W: fmt::Write>(&self, f: &mut fmt::Formatter<W>) -> fmt::Result {
-        match self.0 {
-            [] => Ok(()),
-            [one] => write!(f, "line {one}"),
-            [one, two] => write!(f, "lines {one} and {two}"),
-            [one, two, three] => write!(f, "lines {one}, {two} and {three}"),
-            [one, two, three, more @ ..] => {
-                let more = more.len();
-                write!(f, "lines {one}, {two}, {three} and {more} more")
-            }
-        }
+        let (end, lines) = (if self.0.len() == 1 { "" } else { "s" }, Several(self.0));
+        write!(f, "line{end} {lines}")
     }
 }
 
@@ -120,14 +131,33 @@ impl fmt::Display for AtVendor {
             AtVendor::Same => Ok(()),
             AtVendor::NoGroup => {
                 f.write_str(
-                    "; but it ignores the group *, and obeys only one with its own name, so it may fetch all, also what is \
-                    denied here",
+                    "; but it ignores the group *, and obeys only one with its own name, so it may fetch \
+                    all: the verdicts are the file's, not the crawler's",
                 )
             }
             AtVendor::OtherGroup => f.write_str(
                 "; but its vendor applies another group, whose verdicts may differ",
             ),
         }
+    }
+}
+
+/// The end of what is said of a crawler, if it doesn't obey the group that is reported, or if others don't
+/// obey the group of `*`, which denies something.
+#[derive(Clone, Copy)]
+pub struct Elsewhere<'a, 'b>(pub &'a AgentAudit<'b>);
+
+impl<'a, 'b> fmt::Display for Elsewhere<'a, 'b> {
+    fn fmt<W: fmt::Write>(&self, f: &mut fmt::Formatter<W>) -> fmt::Result {
+        let audit = self.0;
+        let (vendor, names) = (audit.vendor, Several(&audit.ignored_by));
+        if audit.reach != Reach::Everything && !audit.ignored_by.is_empty() {
+            write!(
+                f,
+                "; but crawlers that obey only a group with their own name may fetch all: {names}"
+            )?;
+        }
+        write!(f, "{vendor}")
     }
 }
 

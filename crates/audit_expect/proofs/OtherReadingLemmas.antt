@@ -1,24 +1,24 @@
 -- Other readings: which lines are empty Disallows, and what decides without their rules, also in normal form.
-use Rattle.std.specs.Prelude.{◌||◌, length, not}
-use Rattle.std.proofs.Common.{◌≡◌, ◌≢◌, ◌∙◌, ℕ, zero, suc, ◌==◌, Bool, true, false, List, [], ◌∷◌, ◌++◌, Some}
+use Rattle.std.specs.Prelude.{length, not}
+use Rattle.std.proofs.Common.{◌≡◌, ◌≢◌, ◌∙◌, ℕ, zero, suc, Bool, true, false, List, [], ◌∷◌, ◌++◌, Some}
 use Rattle.std.proofs.Common.{Contains, Option, None, ap, arith, inl, inr, map, refl, subst}
 use Rattle.std.proofs.Common.{◌<◌, ◌≤◌, ◌-◌, drop, slice_get, slice_index_or, sym}
-use Rattle.std.specs.{Char.to_ascii_lowercase, List.All, Option.option_map_or}
+use Rattle.std.specs.{List.All}
 use Rattle.std.proofs.lemmas.Bool.{cases_Bool, false≢true, not-true, Decides.nat_tests}
 use Rattle.std.proofs.lemmas.Option.{option_and_then_some, same_Some}
 use Rattle.std.proofs.lemmas.List.Elements.{All-filter, All-map, Contains-append_left, Contains-get_or}
 use Rattle.std.proofs.lemmas.List.Elements.{Contains-push, Contains-push_cases}
-use Rattle.texting_robots.specs.Callers.{Allow, IsBetter, IsDecidingLine, IsDecidingRule, IsOverlong, Matches}
-use Rattle.texting_robots.specs.Callers.{IsRejected, IsVerdict, LineValue, PlacedRule, Rule, placed_rules}
-use Rattle.texting_robots.specs.Callers.{Label, bodies_in, bodies_read, label_by_value, robots_file, unplaced}
+use Rattle.texting_robots.specs.Callers.{Allow, IsBetter, IsDecidingRule, IsOverlong, Matches}
+use Rattle.texting_robots.specs.Callers.{IsRejected, LineValue, PlacedRule, Rule, placed_rules}
+use Rattle.texting_robots.specs.Callers.{Label, bodies_in, bodies_read, label_by_value, robots_file}
 use Rattle.texting_robots.specs.declared.labels.{LabeledLine.LabeledLine}
 use Rattle.texting_robots.specs.{Statement.IsStatement, declared.parser.statement.Kind.TheVariants.Disallow}
 use Rattle.texting_robots.specs.{declared.decision.Decision.Decision, declared.parser.statement.Kind.Kind}
 use Rattle.texting_robots.specs.{Decision.IsDecisionOn, Internal.Line.line_of}
-use Rattle.texting_robots.specs.Internal.Statement.{kind_by, kind_with, skip_blanks, statement_of}
+use Rattle.texting_robots.specs.Internal.Statement.{kind_by, skip_blanks, statement_of}
 use Rattle.texting_robots.proofs.Shared.{none_denies, verdict_by, length_within, line_raw, line_stated}
-use Rattle.texting_robots.proofs.Shared.{any_unplaced, one_verdict, found_statement, statement_found}
-use Rattle.texting_robots.proofs.Shared.{rejection_is_computed, no_line_allows}
+use Rattle.texting_robots.proofs.Shared.{any_unplaced, found_statement, statement_found}
+use Rattle.texting_robots.proofs.Shared.{rejection_is_computed}
 use Rattle.robots_needless.proofs.TogetherLemmas.{in_filter, to_filter}
 use Rattle.robots_warnings.specs.Conflicts.{IsEmptyDisallow, begins_with_d, is_empty_disallow}
 use Rattle.robots_warnings.specs.FieldNames.{without_front}

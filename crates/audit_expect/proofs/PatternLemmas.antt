@@ -7,7 +7,6 @@ use Rattle.std.proofs.lemmas.Bool.{false≢true, Decides.nat_tests}
 use Rattle.std.proofs.lemmas.List.{map-append, Concat.flat_map-append, Sums.AllPass-from_list_all}
 use Rattle.std.proofs.lemmas.List.Elements.{Contains-push, Contains-push_cases}
 use Rattle.texting_robots.specs.Callers.{IsVerdict, Matches, PlacedRule, Rule, escaped, unplaced}
-use Rattle.texting_robots.specs.{Escape.escape_byte}
 use Rattle.texting_robots.specs.Pattern.{MatchesWith, star}
 use Rattle.robots_same.specs.Same.{HaveSameVerdicts}
 use Rattle.robots_needless.proofs.TogetherLemmas.{of_map}

@@ -15,7 +15,7 @@ use crate::patterns::OnPaths;
 use audit_core::asked::asked_target;
 use audit_core::audit::{Reading, read_for};
 use audit_core::fault::{Entry, Fault};
-use audit_core::findings::{Finding, Findings, add};
+use audit_core::findings::{Findings, add};
 use printable_text::level::Level;
 use printable_text::report::{Line, Report};
 use robots_warnings::crawlers::{meant, row_at};
@@ -99,16 +99,25 @@ fn write_judgment(
     }
 }
 
+/// Of an expectation about a crawler whose vendor applies no group to it.
+const BOTH: &str = "; a crawler that ignores * has to pass with that group and without";
+
 /// Why an expectation fails: at the vendor, or else here.
 fn write_reason(out: &mut Line, target: &str, checked: &Checked<'_>) -> fmt::Result {
     let (agent, allowed) = (checked.expectation.agent, checked.expectation.allowed);
     match &checked.vendor {
         AtVendor::Group(name, judgment) if fails_at(allowed, judgment) => {
             write!(out, "its vendor applies the group {name} to it, and ")?;
-            write_judgment(out, name, target, allowed, judgment)
+            write_judgment(out, name, target, allowed, judgment)?;
         }
-        AtVendor::Nobody if !allowed => out.write_str("its vendor doesn't apply the group * to it"),
-        _ => write_judgment(out, agent, target, allowed, &checked.judgment),
+        AtVendor::Nobody if !allowed => {
+            out.write_str("its vendor doesn't apply the group * to it")?;
+        }
+        _ => write_judgment(out, agent, target, allowed, &checked.judgment)?,
+    }
+    match checked.vendor {
+        AtVendor::Nobody => out.write_str(BOTH),
+        _ => Ok(()),
     }
 }
 
@@ -129,7 +138,77 @@ fn message_of(alloc: Global, checked: &Checked<'_>) -> Result<Line, Fault>
     Ok(message)
 }
 
-fn add_if_failing(alloc: Global, found: &mut Findings, checked: &Checked<'_>) -> Result<(), Fault>
+/// How many failures of one line are written, if it is about any crawler.
+const MOST: usize = 5;
+
+/// Of how many more the crawler is named.
+const NAMED: usize = 10;
+
+/// The report on failures, and how many of the latest line it has.
+#[derive(Drop)]
+struct Failing<'a> {
+    out: Report,
+    /// Of the file of expectations.
+    name: &'a str,
+    line: usize,
+    number: usize,
+    /// Whether a crawler that is only named ignores the group of `*`.
+    has_ignoring: bool,
+}
+
+/// Ends the line that only names crawlers, if there is one.
+fn end_names(report: &mut Failing<'_>) -> fmt::Result {
+    let (out, number) = (&mut report.out, report.number);
+    if number <= MOST {
+        return Ok(());
+    }
+    if number > MOST + NAMED {
+        let others = number - (MOST + NAMED);
+        write!(out, " and {others} more")?;
+    }
+    if report.has_ignoring {
+        out.write_str(BOTH)?;
+    }
+    out.end_line()
+}
+
+/// Writes the crawler of a failure after so many of its line.
+fn write_agent(report: &mut Failing<'_>, checked: &Checked<'_>, number: usize) -> fmt::Result {
+    let (name, line, agent) = (report.name, report.line, checked.expectation.agent);
+    report.has_ignoring |= matches!(checked.vendor, AtVendor::Nobody);
+    if number == MOST {
+        write!(report.out, "{name}:{line}: also {agent}")
+    } else if number < MOST + NAMED {
+        write!(report.out, ", {agent}")
+    } else {
+        Ok(())
+    }
+}
+
+fn write_failure(report: &mut Failing<'_>, checked: &Checked<'_>, message: &str) -> fmt::Result {
+    let (name, line) = (report.name, checked.expectation.number);
+    if line != report.line {
+        end_names(report)?;
+        report.line = line;
+        report.number = 0;
+        report.has_ignoring = false;
+    }
+    let number = report.number;
+    report.number = number.saturating_add(1);
+    if number >= MOST {
+        return write_agent(report, checked, number);
+    }
+    write!(report.out, "{name}:{line}: {message}")?;
+    report.out.end_line()
+}
+
+/// Writes and adds what fails.
+fn add_if_failing(
+    alloc: Global,
+    report: &mut Failing<'_>,
+    found: &mut Findings,
+    checked: &Checked<'_>,
+) -> Result<(), Fault>
     ensures ok { OnOk result (Adds found.old.items found.new.items
         (failures (checked_value checked.now ∷ []))) }
     ensures fault { IfErr result (λ fault. fault ≡ Fault.Memory) }
@@ -138,12 +217,14 @@ fn add_if_failing(alloc: Global, found: &mut Findings, checked: &Checked<'_>) ->
         return Ok(());
     }
     let message = message_of(alloc, checked)?;
+    write_failure(report, checked, message.as_str())?;
     let line = Some(checked.expectation.number);
     Ok(add(alloc, found, Level::Error, line, "expectation", &message)?)
 }
 
 fn failures<'a>(
     alloc: Global,
+    report: &mut Failing<'_>,
     expectations: &[Expectation<'a>],
     read: &'a FileRead<'_>,
 ) -> Result<Findings, Fault>
@@ -161,79 +242,23 @@ fn failures<'a>(
     for expectation in expectations {
         latest = reading_for(alloc, latest, expectation.agent, read)?;
         let checked = checked_on(alloc, expectation, &latest.reading, read)?;
-        add_if_failing(alloc, &mut found, &checked)?;
+        add_if_failing(alloc, report, &mut found, &checked)?;
     }
+    end_names(report)?;
     Ok(found)
 }
 
-fn write_holding(out: &mut Report, number: usize) -> fmt::Result {
+/// Writes how many expectations hold, if none fails.
+fn write_holding(out: &mut Report, found: &Findings, number: usize) -> fmt::Result {
+    if !found.is_empty() {
+        return Ok(());
+    }
     if number == 1 {
         out.write_str("1 expectation holds")?;
     } else {
         write!(out, "{number} expectations hold")?;
     }
     out.end_line()
-}
-
-fn write_place(out: &mut Report, name: &str, line: Option<usize>) -> fmt::Result {
-    out.write_str(name)?;
-    match line {
-        Some(line) => write!(out, ":{line}: "),
-        None => out.write_str(": "),
-    }
-}
-
-/// How many failures of one line are written, if it is about any crawler.
-const MOST: usize = 5;
-
-/// Of how many more the crawler is named.
-const NAMED: usize = 10;
-
-/// The failure after so many of its line.
-fn write_failure(out: &mut Report, name: &str, number: usize, finding: &Finding) -> fmt::Result {
-    let message = finding.message.as_str();
-    if number < MOST {
-        write_place(out, name, finding.line)?;
-        write!(out, "{message}")?;
-        return out.end_line();
-    }
-    if number >= MOST + NAMED {
-        return Ok(());
-    }
-    if number == MOST {
-        write_place(out, name, finding.line)?;
-    }
-    let front = if number == MOST { "also " } else { ", " };
-    let agent = match message.split_once(" must be ") {
-        Some((agent, _)) => agent,
-        None => message,
-    };
-    write!(out, "{front}{agent}")
-}
-
-/// Ends the line that names the crawlers of failures that aren't written, if there are some.
-fn end_names(out: &mut Report, number: usize) -> fmt::Result {
-    if number <= MOST {
-        return Ok(());
-    }
-    if number > MOST + NAMED {
-        let others = number - (MOST + NAMED);
-        write!(out, " and {others} more")?;
-    }
-    out.end_line()
-}
-
-fn write_failures(out: &mut Report, name: &str, found: &[Finding]) -> fmt::Result {
-    let (mut line, mut number) = (None, 0usize);
-    for finding in found {
-        if finding.line != line {
-            end_names(out, number)?;
-            (line, number) = (finding.line, 0);
-        }
-        write_failure(out, name, number, finding)?;
-        number = number.saturating_add(1);
-    }
-    end_names(out, number)
 }
 
 /// Writes a note for a name that is like that of a known crawler, if the file doesn't have it.
@@ -259,22 +284,24 @@ fn write_note(
     Ok(())
 }
 
-fn report_on(
+/// The report with the notes, and without failures.
+fn report_on<'a>(
     alloc: Global,
-    name: &str,
+    name: &'a str,
     expectations: &[Expectation<'_>],
     site: &Site,
-    found: &[Finding],
-) -> Result<Report, fmt::Error> {
+) -> Result<Failing<'a>, fmt::Error> {
     let mut out = Report::new(alloc);
     for expectation in expectations {
         write_note(alloc, &mut out, name, expectation, site)?;
     }
-    if found.is_empty() {
-        write_holding(&mut out, expectations.len())?;
-    }
-    write_failures(&mut out, name, found)?;
-    Ok(out)
+    Ok(Failing {
+        out,
+        name,
+        line: 0,
+        number: 0,
+        has_ignoring: false,
+    })
 }
 
 /// Fails if there are no expectations.
@@ -303,9 +330,10 @@ fn check_read<'a>(
 {
     let expectations = parsed(alloc, name, text)?;
     let all = about_each(alloc, &expectations, read)?;
-    let found = failures(alloc, &all, read)?;
-    let report = report_on(alloc, name, &expectations, &read.site, &found)?;
-    Ok((report, found))
+    let mut report = report_on(alloc, name, &expectations, &read.site)?;
+    let found = failures(alloc, &mut report, &all, read)?;
+    write_holding(&mut report.out, &found, expectations.len())?;
+    Ok((report.out, found))
 }
 
 /// Checks the expectations in a text, of a file with this name, against a robots.txt file. The report has a

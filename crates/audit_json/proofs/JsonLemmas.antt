@@ -1,13 +1,14 @@
 -- JSON without floating-point numbers, and SARIF.
 use Rattle.std.specs.Prelude.{◌&&◌, if◌then◌else◌}
 use Rattle.std.proofs.Common.{◌≡◌, ◌∙◌, ◌==◌, ℕ, Bool, true, false, List, [], ◌∷◌, ◌++◌, None, Option, Some}
-use Rattle.std.proofs.Common.{ap, append-nil, arith, flat_map, inl, inr, length, map, option_map, refl, subst, sym}
+use Rattle.std.proofs.Common.{ap, append-nil, arith, flat_map, inl, inr, length, map, option_map, refl}
+use Rattle.std.proofs.Common.{subst, sym}
 use Rattle.std.specs.{List.list_all}
 use Rattle.std.specs.Str.{IsUtf8, all_scalars, chars, encode_utf8_all}
 use Rattle.std.proofs.lemmas.Bool.{and_parts, cases_Bool, Decides.nat_tests}
 use Rattle.std.proofs.lemmas.{List.Concat.flat_map-append, List.Folds.list_all-append, Simd.map-map}
 use Rattle.std.proofs.lemmas.Str.{chars-encodes, encodes-append, scalars-chars}
-use Rattle.serde_json.specs.Data.{Data, Members, array, null, object}
+use Rattle.serde_json.specs.Data.{Data, Members, array, null, object, string}
 use Rattle.serde_json.specs.{View.items_of, Written.compact_text, Written.has_float, Written.members_text}
 use Rattle.texting_robots.specs.Callers.{Allow, CrawlDelay, Disallow, Label, LineValue, Raw, Sitemap}
 use Rattle.texting_robots.specs.Callers.{UserAgent}
@@ -41,7 +42,8 @@ object_report members = record {
 }
 
 json_report : (value : Data) (members : Members) → value ≡ object members → IsReport (json_line value)
-json_report value members is = subst (λ (value : Data). IsReport (json_line value)) (sym is) (object_report members)
+json_report value members is =
+    subst (λ (value : Data). IsReport (json_line value)) (sym is) (object_report members)
 
 pub audit_report : (has_rows : Bool) (audit : AuditValue) (found : List Finding)
     → IsReport (json_line (audit_json has_rows audit found))
@@ -104,6 +106,7 @@ agent_whole : (agent : AgentValue) → has_float (agent_json agent) ≡ false
 agent_whole agent = rw (
   number_whole agent.delay,
   number_whole agent.group_line,
+  list_whole string (λ text. refl) agent.ignored_by,
   word_whole (may_fetch agent.rejected agent.vendor agent.reach),
   number_whole agent.rejected,
   list_whole verdict_json verdict_whole agent.verdicts,

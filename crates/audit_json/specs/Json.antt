@@ -60,21 +60,22 @@ abbrev pub word_json : Option (List ℕ) → Data
 word_json None = null
 word_json (Some word) = string word
 
--- the crawler, its delay in microseconds, the group that applies to it and the first line that names it, what
--- the crawler may fetch, the line for which the file is rejected, how many rules apply, which group its vendor
--- applies, and the verdicts
+-- the crawler, its delay in microseconds, the group that applies to it, the first line that names it and who
+-- ignores it, what the crawler may fetch, the line for which the file is rejected, how many rules apply, which
+-- group its vendor applies, and the verdicts
 abbrev pub agent_json : AgentValue → Data
 agent_json agent = object
     (member (codes "agent") (sanitized_json agent.agent)
     (member (codes "delay") (number_json agent.delay)
     (member (codes "group") (string (group_word agent.group))
     (member (codes "group_line") (number_json agent.group_line)
+    (member (codes "ignored_by") (list_json string agent.ignored_by)
     (member (codes "may_fetch")
     (word_json (may_fetch agent.rejected agent.vendor agent.reach))
     (member (codes "rejected") (number_json agent.rejected)
     (member (codes "rules") (count_json agent.rules)
     (member (codes "vendor") (string (vendor_word agent.vendor))
-    (member (codes "verdicts") (list_json verdict_json agent.verdicts) no_members)))))))))
+    (member (codes "verdicts") (list_json verdict_json agent.verdicts) no_members))))))))))
 
 -- a delay in microseconds; for other lines the sanitized value; null if there is no value
 abbrev pub value_json : LineValue → Data
@@ -95,7 +96,7 @@ line_json label = object
     (member (codes "value") (value_json label.line) no_members)))))
 
 abbrev pub rows_json : (has_rows : Bool) → List Label → Data
-rows_json has_rows labels = list_json line_json (if has_rows then labels else [])
+rows_json has_rows labels = if has_rows then list_json line_json labels else null
 
 -- a finding: its level, the number of its line, its name and its message
 abbrev pub finding_json : Finding → Data

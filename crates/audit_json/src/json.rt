@@ -124,6 +124,16 @@ fn fetch_json(alloc: Global, audit: &AgentAudit<'_>) -> Result<Value, AllocError
     word_json(alloc, may_fetch(audit.rejected, audit.vendor, audit.reach))
 }
 
+impl Json for &'static str {
+    ghost use Rattle.serde_json.specs.Data.{string};
+
+    ghost json = { λ text. string text.now };
+
+    fn json(&self, alloc: Global) -> Result<Value, AllocError> {
+        Ok(Value::String(String::from_str(alloc, self)?))
+    }
+}
+
 impl<'a> Json for AgentAudit<'a> {
     ghost use Rattle.audit_json.specs.Json.{agent_json};
 
@@ -135,6 +145,7 @@ impl<'a> Json for AgentAudit<'a> {
             "delay": delay_json(self.delay),
             "group": group_word(self.group),
             "group_line": line_number(self.group_line),
+            "ignored_by": list_json(alloc, &self.ignored_by)?,
             "may_fetch": fetch_json(alloc, self)?,
             "rejected": line_number(self.rejected),
             "rules": self.rules,
@@ -206,10 +217,10 @@ fn sitemaps_json(alloc: Global, labels: &[LabeledLine<'_>]) -> Result<Value, All
 fn rows_json(alloc: Global, has_rows: bool, labels: &[LabeledLine<'_>]) -> Result<Value, AllocError>
     ensures { IfOk result (λ value. view value ≡ rows_json has_rows (map label_by_value labels.now)) }
 {
-    let mut list = Vec::new(alloc);
     if !has_rows {
-        return Ok(Value::Array(list));
+        return Ok(Value::Null);
     }
+    let mut list = Vec::new(alloc);
     for labeled in labels {
         list.push(line_json(alloc, labeled)?)?;
     }

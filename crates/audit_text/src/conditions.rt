@@ -8,7 +8,7 @@ pub(crate) type Named = (&'static str, &'static str);
 
 /// When warnings are given.
 #[rattlefmt::skip]
-static CONDITIONS: [(&str, &str); 66] = [
+static CONDITIONS: [(&str, &str); 67] = [
     ("looks-like-html",
         "the file has no directive, and its first character is <, not counting a byte order mark, spaces, tabs and line ends; then no line has a warning of its own"),
     ("looks-like-utf-16",
@@ -84,6 +84,8 @@ static CONDITIONS: [(&str, &str); 66] = [
     ("sitemap-fragment", "a # directly follows the value of a sitemap with a colon"),
     ("sitemap-denied",
         "the value of a sitemap is an http(s) URL that can be parsed, and a rule for * denies its path and query; not if the whole site is closed to * or the file is rejected for it; its host isn't compared with that of the file, which isn't known; the number is the line of that rule"),
+    ("repeated-sitemap",
+        "the value of a sitemap, in UTF-8, is that of one above it anywhere in the file; the number is the first such line"),
     ("one-line",
         "after the first colon of a line and before a comment there is User-agent: anywhere, or Allow:, Disallow:, Sitemap: or Crawl-delay: after a space, a tab, a star, a literal \\n or \\r, or, with a capital letter, directly after a letter, a digit, /, $, ? or ="),
     ("control-in-comment", "a comment has a byte below 0x20 other than a tab, or isn't UTF-8"),
@@ -154,7 +156,7 @@ static THEOREMS: [(&str, &str); 17] = [
 
 /// The examples of some warnings, corrected so that the warning isn't given.
 #[rattlefmt::skip]
-static CORRECTIONS: [(Cause, &str); 77] = [
+static CORRECTIONS: [(Cause, &str); 78] = [
     (Cause::LooksLikeHtml, "User-agent: *\nDisallow: /search"),
     (Cause::NoDirectives, "User-agent: *\nDisallow: /search"),
     (Cause::EmptyFile, "User-agent: *\nDisallow:"),
@@ -209,6 +211,7 @@ static CORRECTIONS: [(Cause, &str); 77] = [
     (Cause::SitemapHost, "User-agent: *\nDisallow: /a\nSitemap: https://example.com/s.xml"),
     (Cause::HashCutsSitemap, "Sitemap: https://example.com/s.xml"),
     (Cause::SitemapDenied, "User-agent: *\nDisallow: /s\nAllow: /s.xml\nSitemap: https://example.com/s.xml"),
+    (Cause::RepeatedSitemap, "Sitemap: https://example.com/s.xml"),
     (Cause::OneLine, "User-agent: *\nDisallow: /a"),
     (Cause::ControlInComment, "# a"),
     (Cause::RuleBeforeUserAgent, "User-agent: *\nDisallow: /a"),

@@ -4,7 +4,7 @@ use audit_core::audit::{AgentAudit, Audit};
 use audit_core::group::Group;
 use audit_core::reach::Reach;
 use audit_core::rows::Shown;
-use audit_core::texts::{Fetched, ignores_delay, write_rejected};
+use audit_core::texts::{Elsewhere, Fetched, ignores_delay, write_rejected};
 use printable_text::delay::Delay;
 use printable_text::report::Report;
 use robots_warnings::crawlers::is_wrong;
@@ -80,8 +80,8 @@ fn write_crawler(out: &mut Report, audit: &Audit<'_>, agent: &AgentAudit<'_>) ->
         write!(out, ", may fetch {fetched}")?;
         write_values(out, audit, &agent.allows)?;
     }
-    let vendor = agent.vendor;
-    write!(out, "{vendor}")?;
+    let elsewhere = Elsewhere(agent);
+    write!(out, "{elsewhere}")?;
     write_wrong(out, name)?;
     out.end_line()
 }

@@ -11,7 +11,7 @@ use audit_core::reach::Reach;
 use audit_core::request::Request;
 use audit_core::rows::write_rows;
 use audit_core::syntax::{Standard, has_directive};
-use audit_core::texts::{Applied, Delayed, Fetched, write_rejected};
+use audit_core::texts::{Applied, Delayed, Elsewhere, Fetched, write_rejected};
 use printable_text::level::Level;
 use printable_text::report::Report;
 use rfc9309_laws::conformance::Conformance;
@@ -30,8 +30,8 @@ fn write_fetched(out: &mut Report, audit: &AgentAudit<'_>) -> fmt::Result {
 }
 
 fn write_agent(out: &mut Report, is_quiet: bool, audit: &AgentAudit<'_>) -> fmt::Result {
-    let (applied, vendor, delayed) = (Applied(audit), audit.vendor, Delayed(audit));
-    write!(out, "group: {applied}{vendor}")?;
+    let (applied, elsewhere, delayed) = (Applied(audit), Elsewhere(audit), Delayed(audit));
+    write!(out, "group: {applied}{elsewhere}")?;
     if audit.group != Group::Star {
         write_wrong(out, audit.agent)?;
     }

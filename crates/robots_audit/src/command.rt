@@ -24,11 +24,12 @@ use std::alloc::{AllocError, Global};
 
 const AFTER_HELP: &str = "\
 The report goes to standard output; as text, its warnings go to standard error. \"deny 2 /a\" means that
-line 2 denies /a, and \"allow - /b\" that no line decides about /b, so it is allowed.
+line 2 denies /a, and \"allow - /b\" that no line decides about /b, so it is allowed. With one --agent, the
+lines of the file come first: + before one of the crawler's group, - before one of another.
 
 In a line of --expect, AGENT is a crawler's name, \"any\" (every crawler) or * (those without a group of
 their own). PATTERN means all paths that begin with it, or, with a $ at its end, all that end there; a *
-in it is any text.
+in it is any text. A crawler that ignores *, as AdsBot-Google does, has to pass with that group and without.
 
 With --expect, give only FILE; with --compare only FILE, URLs, --urls, --agent, --known and --verdicts; with
 either also --json, --github or --format; with --list-warnings or --explain nothing else. With --denied, give

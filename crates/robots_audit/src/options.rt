@@ -103,7 +103,7 @@ const PARAMETERS: &[Parameter] = &[
         short: Some('q'),
         long: Some("quiet"),
         value: Value::Absent,
-        help: "With one --agent: don't list the lines of the file",
+        help: "With one --agent: don't list the lines of the file (\"lines\" of JSON is null)",
         excludes: &[],
     },
     Parameter {

@@ -105,7 +105,11 @@ group_at_vendor lines group =
 abbrev pub gets_other : List LineValue → (agent group : List ℕ) → Bool
 gets_other lines agent group = is_none (first_at_vendor agent lines) && is_some (group_at_vendor lines group)
 
--- the same for a crawler with or without a row
+-- the vendor of the crawler in this row applies none of these groups to it, although `*` has one
+abbrev pub ignores_star : List LineValue → Row → Bool
+ignores_star lines row = length row.1 == 0 && gets_other lines row.0 row.1
+
+-- the group of a crawler with or without a row
 abbrev pub other_for : List LineValue → (agent : List ℕ) → (group : Option (List ℕ)) → Option (List ℕ)
 other_for lines agent None = None
 other_for lines agent (Some group) = option_or (first_at_vendor agent lines) (group_at_vendor lines group)

@@ -4,12 +4,14 @@ use Rattle.std.specs.Prelude.{flat_map, if◌then◌else◌, length, not, ◌||�
 use Rattle.std.specs.Option.{option_or}
 use Rattle.texting_robots.specs.Callers.{LineValue, Label, UserAgent, is_named}
 use Rattle.robots_warnings.specs.{declared.facts.FileFacts.FileFacts, Facts.suppresses_line_warnings}
-use Rattle.robots_warnings.specs.{File.is_in_scope_of, File.lines_of, Repeated.repeated, Spellings.unpaired}
+use Rattle.robots_warnings.specs.{File.is_in_scope_of, File.lines_of, Repeated.line_before}
+use Rattle.robots_warnings.specs.{Repeated.repeated, Spellings.unpaired}
 use Rattle.robots_warnings.specs.declared.positions.Preceding.{Preceding, TheVariants.Other}
 use Rattle.robots_warnings.specs.declared.table.Cause.{Cause, TheVariants.AllowedAndDisallowed}
 use Rattle.robots_warnings.specs.declared.table.Cause.TheVariants.{ClosesEverything, CutLine, EmptyDisallow}
 use Rattle.robots_warnings.specs.declared.table.Cause.TheVariants.{ClosesHome, ClosesHomeToOthers, WrongName}
 use Rattle.robots_warnings.specs.declared.table.Cause.TheVariants.{EscapedDelimiter, ClosesSite, RepeatedRule}
+use Rattle.robots_warnings.specs.declared.table.Cause.TheVariants.{RepeatedSitemap}
 use Rattle.robots_warnings.specs.declared.table.Cause.TheVariants.{IgnoresStar, VendorGroup}
 use Rattle.robots_warnings.specs.declared.table.Cause.TheVariants.{GroupPastSizeLimit, MisspelledName}
 use Rattle.robots_warnings.specs.declared.table.Cause.TheVariants.{NonstandardEscape, ReplacesStar}
@@ -183,7 +185,11 @@ vendor_warnings everywhere agents lines number (row ∷ rows) =
     vendor_warning everywhere agents lines number row
     ++ vendor_warnings everywhere agents lines (number + 1) rows
 
--- about the rules of a group or of a crawler as a whole
+-- if another line lists the sitemap of this line first
+abbrev pub sitemap_warning : List Label → Label → List WarningValue
+sitemap_warning labels label = warned_beside RepeatedSitemap label.number (line_before labels label)
+
+-- about the rules of a group or of a crawler as a whole, and about all sitemaps
 abbrev pub group_warnings : Bool → List (List ℕ) → List LineValue → List Label → List WarningValue
 group_warnings everywhere agents lines labels =
     warned_at NonstandardEscape None (unpaired Standard everywhere labels)
@@ -191,8 +197,9 @@ group_warnings everywhere agents lines labels =
     ++ (crawler_warnings (is_empty_at labels) agents lines labels
     ++ (warned_at ReplacesStar (Some (Rules (star_count lines))) (replacing agents lines labels)
     ++ (warned_at RepeatedRule None (repeated everywhere labels)
+    ++ (flat_map (sitemap_warning labels) labels
     ++ ((name_warnings labels ++ agent_warnings lines agents)
-    ++ vendor_warnings everywhere agents lines 0 crawlers)))))
+    ++ vendor_warnings everywhere agents lines 0 crawlers))))))
 
 abbrev pub general_warnings : FileFacts → (agents urls : List (List ℕ)) → List LineValue → List Label
     → List WarningValue

@@ -14,8 +14,9 @@ use std::alloc::{AllocError, Global};
 use std::collections::{BTreeMap, HashMap};
 use texting_robots::site::{Site, SiteRule};
 
-/// For a pattern, as it is compared, the line of the first Allow with it.
-type Lines = HashMap<String, usize>;
+/// For a pattern, as it is compared, the line of the first Allow with it; or for a sitemap, the first line
+/// that lists it.
+pub(crate) type Lines = HashMap<String, usize>;
 
 /// For the number of a line, another line that contradicts it.
 pub(crate) type Others = BTreeMap<usize, usize>;
@@ -30,7 +31,7 @@ fn compared_pattern(alloc: Global, rule: &SiteRule<'_>) -> Result<String, AllocE
     Ok(pattern)
 }
 
-fn add_first(lines: &mut Lines, pattern: String, number: usize) -> Result<(), AllocError>
+pub(crate) fn add_first(lines: &mut Lines, pattern: String, number: usize) -> Result<(), AllocError>
     ensures { OnOk result ((other : List ℕ) → get_by_text lines.new other
         ≡ option_or (get_by_text lines.old other)
         (if bytes_eq (string_bytes pattern) other then Some number else None)) }

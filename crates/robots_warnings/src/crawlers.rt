@@ -4,7 +4,7 @@ ghost use Rattle.std.specs.{List.list_any, List.position_from, Str.str_eq_ignore
 ghost use Rattle.texting_robots.specs.Callers.{by_value, file_lines, label_by_value};
 ghost use Rattle.robots_warnings.specs.Crawlers.{crawlers, first_at_vendor, gets_other, group_at_vendor};
 ghost use Rattle.robots_warnings.specs.Crawlers.{is_given, is_known, is_meant, is_near, is_row_of, is_wrong, meant};
-ghost use Rattle.robots_warnings.specs.Crawlers.{most_edits, name_at_vendor, name_for, other_group};
+ghost use Rattle.robots_warnings.specs.Crawlers.{ignores_star, most_edits, name_at_vendor, name_for, other_group};
 ghost use Rattle.robots_warnings.specs.Crawlers.{row_at, value_at_vendor, wrong_names};
 ghost use Rattle.robots_warnings.specs.Internal.{Adds, row_value};
 ghost use Rattle.robots_warnings.specs.Warnings.{agent_warning, agent_warnings, name_warnings};
@@ -200,6 +200,14 @@ fn gets_other(site: &Site, agent: &str, group: &str) -> bool
     ensures { result ≡ gets_other (file_lines site.now) agent.now group.now }
 {
     first_at_vendor(site, agent).is_none() && group_at_vendor(site, group).is_some()
+}
+
+/// Whether the vendor of the crawler in this row applies no group of the file to it, although `*` has one.
+pub fn ignores_star(site: &Site, crawler: &Crawler) -> bool
+    ensures { result ≡ ignores_star (file_lines site.now) (row_value crawler.now) }
+{
+    let (name, group) = *crawler;
+    group.is_empty() && gets_other(site, name, group)
 }
 
 /// The group that the vendor of a known crawler applies to it, or an empty name for no group, if it isn't the

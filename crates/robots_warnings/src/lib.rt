@@ -22,6 +22,7 @@ mod replaced;
 pub mod rules;
 pub mod several_values;
 pub mod site_patterns;
+mod sitemaps;
 pub mod spellings;
 pub mod table;
 pub mod targets;

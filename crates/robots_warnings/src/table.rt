@@ -92,6 +92,7 @@ pub enum Cause {
     SitemapHost,
     HashCutsSitemap,
     SitemapDenied,
+    RepeatedSitemap,
     // any line
     OneLine,
     ControlInComment,
@@ -128,7 +129,7 @@ pub enum Cause {
 
 /// The warnings with their levels and names.
 #[rattlefmt::skip]
-pub static WARNINGS: [(Cause, Level, &str); 94] = [
+pub static WARNINGS: [(Cause, Level, &str); 95] = [
     (Cause::LooksLikeHtml, Level::Error, "looks-like-html"),
     (Cause::LooksLikeUtf16, Level::Error, "looks-like-utf-16"),
     (Cause::NoDirectives, Level::Error, "no-directives"),
@@ -195,6 +196,7 @@ pub static WARNINGS: [(Cause, Level, &str); 94] = [
     (Cause::SitemapHost, Level::Warning, "sitemap-host"),
     (Cause::HashCutsSitemap, Level::Note, "sitemap-fragment"),
     (Cause::SitemapDenied, Level::Note, "sitemap-denied"),
+    (Cause::RepeatedSitemap, Level::Note, "repeated-sitemap"),
     (Cause::OneLine, Level::Error, "one-line"),
     (Cause::ControlInComment, Level::Note, "control-in-comment"),
     (Cause::CutLine, Level::Warning, "cut-line"),

@@ -3,7 +3,7 @@ use crate::table::Cause;
 
 /// In the order of [`WARNINGS`](crate::table::WARNINGS).
 #[rattlefmt::skip]
-pub(crate) static MESSAGES: [(Cause, &str); 94] = [
+pub(crate) static MESSAGES: [(Cause, &str); 95] = [
     (Cause::LooksLikeHtml,
         "no usable line found; the text starts with <, so it may be an HTML page; serve a plain-text robots.txt instead"),
     (Cause::LooksLikeUtf16,
@@ -136,6 +136,8 @@ pub(crate) static MESSAGES: [(Cause, &str); 94] = [
         "a # begins a comment, so the rest of the line isn't part of the sitemap's URL; delete it, or write a space before the #"),
     (Cause::SitemapDenied,
         "a rule for * denies this sitemap, if it is on the host of this file, so crawlers may not read it; allow it by a longer Allow, or correct the rule"),
+    (Cause::RepeatedSitemap,
+        "a line above lists the same sitemap, so this one changes nothing; delete it, or correct it if another sitemap is meant"),
     (Cause::OneLine,
         "another field name follows in the same line, where it isn't recognized; write each User-agent, Allow, Disallow, Crawl-delay and Sitemap on a line of its own"),
     (Cause::ControlInComment,
@@ -198,7 +200,7 @@ pub(crate) static MESSAGES: [(Cause, &str); 94] = [
 /// command in its first line, or a command. In a file, `\xFF` is a byte, and `\{512000 a}` is 512,000 times
 /// an `a`.
 #[rattlefmt::skip]
-pub(crate) static EXAMPLES: [(Cause, &str); 94] = [
+pub(crate) static EXAMPLES: [(Cause, &str); 95] = [
     (Cause::LooksLikeHtml, "<html>\n</html>"),
     (Cause::LooksLikeUtf16, "\\xFF\\xFED\\x00"),
     (Cause::NoDirectives, "hello\nworld"),
@@ -265,6 +267,8 @@ pub(crate) static EXAMPLES: [(Cause, &str); 94] = [
     (Cause::SitemapHost, "User-agent: *\nSitemap: http://localhost/s.xml"),
     (Cause::HashCutsSitemap, "Sitemap: https://example.com/s.xml#a"),
     (Cause::SitemapDenied, "User-agent: *\nDisallow: /s\nSitemap: https://example.com/s.xml"),
+    (Cause::RepeatedSitemap,
+        "Sitemap: https://example.com/s.xml\nSitemap: https://example.com/s.xml"),
     (Cause::OneLine, "User-agent: * Disallow: /"),
     (Cause::ControlInComment, "# \\x01"),
     (Cause::CutLine, "User-agent: *\nDisallow: /\\{512000 a}"),

@@ -8,7 +8,8 @@ ghost use Rattle.robots_warnings.specs.{Checks.rule_checks, Checks.value_checks,
 ghost use Rattle.robots_warnings.specs.Internal.{Adds, Rules.warnings_at};
 ghost use Rattle.robots_warnings.specs.Warnings.{file_lines_warnings, general_warnings, group_warnings};
 ghost use Rattle.robots_warnings.specs.Warnings.{line_warnings, past_limit_warnings, position_warnings};
-ghost use Rattle.robots_warnings.specs.Warnings.{url_warnings, warned, warned_at, warned_beside, warnings};
+ghost use Rattle.robots_warnings.specs.Warnings.{sitemap_warning, url_warnings, warned, warned_at};
+ghost use Rattle.robots_warnings.specs.Warnings.{warned_beside, warnings};
 
 use crate::checks::{
     Check, content_checks, field_checks, file_checks, form_checks, is_in_scope_of, plural_checks,
@@ -29,6 +30,7 @@ use crate::read::FileRead;
 use crate::repeated::repeated;
 use crate::replaced::{disallow_count, replacing};
 use crate::rules::{is_expression, is_plain};
+use crate::sitemaps::{line_before, listings};
 use crate::spellings::{Spelling, unpaired};
 use crate::table::Cause;
 use crate::warning::{Detail, Found, Warning};
@@ -378,6 +380,22 @@ fn warn_of_spelling(
     warn_at(found, cause, None, &numbers)
 }
 
+fn warn_of_sitemaps(
+    alloc: Global,
+    found: &mut Found<'_>,
+    labels: &[LabeledLine<'_>],
+) -> Result<(), AllocError>
+    ensures { OnOk result (Adds found.old.items found.new.items
+        (flat_map (sitemap_warning (map label_by_value labels.now)) (map label_by_value labels.now))) }
+{
+    let lines = listings(alloc, labels)?;
+    for labeled in labels {
+        let first = line_before(&lines, labeled);
+        warn_beside(found, Cause::RepeatedSitemap, labeled.number, first)?;
+    }
+    Ok(())
+}
+
 fn warn_of_groups<'a>(
     alloc: Global,
     found: &mut Found<'a>,
@@ -401,6 +419,7 @@ fn warn_of_groups<'a>(
     warn_at(found, Cause::ReplacesStar, detail, &replacing)?;
     let repeated = repeated(alloc, everywhere, labels)?;
     warn_at(found, Cause::RepeatedRule, None, &repeated)?;
+    warn_of_sitemaps(alloc, found, labels)?;
     warn_of_all_names(alloc, found, site, agents, labels)?;
     warn_of_vendors(found, everywhere, site, agents, crawlers())
 }

@@ -17,6 +17,7 @@ agent_of audit = record {
   reach = audit.reach;
   allows = audit.allows.items;
   vendor = audit.vendor;
+  ignored_by = map (λ name. name.now) audit.ignored_by.items;
   delay = audit.delay;
   rejected = audit.rejected;
   verdicts = audit.verdicts.items;

@@ -6,7 +6,7 @@ use crate::page::elements::Page;
 use audit_core::audit::{AgentAudit, Verdict};
 use audit_core::group::AtVendor;
 use audit_core::reach::Reach;
-use audit_core::texts::{Applied, Delayed, Fetched, may_fetch};
+use audit_core::texts::{Applied, Delayed, Elsewhere, Fetched, may_fetch};
 use std::fmt;
 use std::fmt::Write;
 
@@ -17,7 +17,12 @@ fn write_deciding_line(page: &mut Page, line: Option<usize>) -> fmt::Result {
     }
 }
 
-fn write_verdict_cell(page: &mut Page, has_url: bool, verdict: &Verdict<'_>) -> fmt::Result {
+fn write_verdict_cell(
+    page: &mut Page,
+    vendor: AtVendor,
+    has_url: bool,
+    verdict: &Verdict<'_>,
+) -> fmt::Result {
     let name = if verdict.decision.allowed {
         "allowed"
     } else {
@@ -27,19 +32,24 @@ fn write_verdict_cell(page: &mut Page, has_url: bool, verdict: &Verdict<'_>) -> 
     if has_url {
         page.code(verdict.url.as_bytes())?;
     }
-    write!(page.html, "{name}, ")?;
+    let by = if vendor == AtVendor::Same {
+        ""
+    } else {
+        " by the file"
+    };
+    write!(page.html, "{name}{by}, ")?;
     write_deciding_line(page, verdict.decision.line)?;
     page.html.close()
 }
 
-fn write_url_row(page: &mut Page, verdict: &Verdict<'_>) -> fmt::Result {
+fn write_url_row(page: &mut Page, vendor: AtVendor, verdict: &Verdict<'_>) -> fmt::Result {
     page.html.open("tr", &[])?;
     page.code_heading("row", verdict.url.as_bytes())?;
-    write_verdict_cell(page, false, verdict)?;
+    write_verdict_cell(page, vendor, false, verdict)?;
     page.html.close()
 }
 
-fn write_url_table(page: &mut Page, verdicts: &[Verdict<'_>]) -> fmt::Result {
+fn write_url_table(page: &mut Page, agent: &AgentAudit<'_>) -> fmt::Result {
     page.element("h2", "URLs")?;
     page.html.open("table", &[("class", "urls")])?;
     page.element("caption", "May the crawler fetch it?")?;
@@ -50,15 +60,15 @@ fn write_url_table(page: &mut Page, verdicts: &[Verdict<'_>]) -> fmt::Result {
     page.html.close()?;
     page.html.close()?;
     page.html.open("tbody", &[])?;
-    for verdict in verdicts {
-        write_url_row(page, verdict)?;
+    for verdict in &agent.verdicts {
+        write_url_row(page, agent.vendor, verdict)?;
     }
     page.html.close()?;
     page.html.close()
 }
 
 fn write_group_note(page: &mut Page, audit: &AgentAudit<'_>) -> fmt::Result {
-    let (applied, vendor) = (Applied(audit), audit.vendor);
+    let (applied, elsewhere) = (Applied(audit), Elsewhere(audit));
     write!(page.html, "{applied}")?;
     if let Some(line) = audit.group_line {
         page.html.write_str(", ")?;
@@ -68,7 +78,7 @@ fn write_group_note(page: &mut Page, audit: &AgentAudit<'_>) -> fmt::Result {
         page.html.write_str("; rejected: ")?;
         page.line_link(line)?;
     }
-    write!(page.html, "{vendor}")
+    write!(page.html, "{elsewhere}")
 }
 
 fn write_fetch(page: &mut Page, name: &'static str, agent: &AgentAudit<'_>) -> fmt::Result
@@ -127,7 +137,7 @@ fn write_agent_row(page: &mut Page, agent: &AgentAudit<'_>) -> fmt::Result {
     write_delay(page, "td", agent)?;
     write_fetch(page, "td", agent)?;
     for verdict in &agent.verdicts {
-        write_verdict_cell(page, true, verdict)?;
+        write_verdict_cell(page, agent.vendor, true, verdict)?;
     }
     page.html.close()
 }
@@ -194,7 +204,7 @@ pub(crate) fn write_verdict_part(
     }
     for agent in agents {
         if !agent.verdicts.is_empty() {
-            write_url_table(page, &agent.verdicts)?;
+            write_url_table(page, agent)?;
         }
     }
     Ok(())

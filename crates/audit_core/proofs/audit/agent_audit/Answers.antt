@@ -23,6 +23,7 @@ returns-clause-ok c =
       reach_is = rw (c.deref.ensures.value, c.in_ok-rules.ensures, site) at c.in_ok-reach.ensures.reach;
       vendor_is = rw site at c.at_vendor-vendor.ensures;
       reach_elsewhere = c.in_ok-reach.ensures.own;
+      ignored_by_is = rw site at c.in_ok-ignored_by.ensures;
       delay_is = delay_read agent file _ (rw site at c.delay.ensures);
       ruling = c.in_ok-rejected.ensures.ok agent file c.requires.reading;
     }

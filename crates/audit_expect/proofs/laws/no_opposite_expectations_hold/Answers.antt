@@ -6,8 +6,8 @@ use Rattle.texting_robots.proofs.Shared.{one_verdict}
 use Rattle.robots_needless.proofs.TogetherLemmas.{denied_same, of_map, to_map, verdicts}
 use Rattle.robots_warnings.specs.Targets.{normal_target, written_target}
 use Rattle.audit_expect.specs.OtherReading.{AreOthers, IsNormalDecision, normal_rule}
-use Rattle.audit_expect.specs.declared.checks.Judgment.{Judgment, TheVariants.Decided, TheVariants.Rejected}
-use Rattle.audit_expect.specs.declared.checks.Judgment.{TheVariants.Everywhere, TheVariants.Rewritten}
+use Rattle.audit_expect.specs.declared.checks.Judgment.{Judgment, TheVariants.Decided}
+use Rattle.audit_expect.specs.declared.checks.Judgment.{TheVariants.Everywhere}
 use Rattle.audit_expect.specs.{Expect.ExpectationValue}
 use Rattle.audit_expect.specs.Expectations.{IsJudgmentOn, fails_at, fails_here, is_unexpected}
 use Rattle.audit_expect.proofs.laws.no_opposite_expectations_hold.Goals as goal
