@@ -1,7 +1,7 @@
 -- Pairs of adjacent bytes show where no user-agent line can begin, so that the code may skip those bytes.
 use Rattle.std.proofs.Common.{◌≡◌, ◌⊎◌, ℕ, zero, suc, ◌+◌, ◌<◌, ◌≤◌, Bool, true, false, List, [], ◌∷◌, length}
 use Rattle.std.proofs.Common.{map}
-use Rattle.std.proofs.Common.{slice_index, take, drop, sym, refl, ap, ◌∙◌, arith, Some, ◌==◌, ◌||◌, inl, inr}
+use Rattle.std.proofs.Common.{slice_index, take, drop, sym, refl, ◌∙◌, arith, Some, ◌==◌, ◌||◌, inl, inr}
 use Rattle.std.specs.{List.list_any, Char.to_ascii_lowercase}
 use Rattle.std.proofs.lemmas.{Grind.common_steps, Bool.eqb-true, Bool.ne_eqb}
 use Rattle.texting_robots.specs.Cut.{Pair, cr, lf}
@@ -110,8 +110,10 @@ pub other_first : (name : List ℕ) (n : Bool) (text : List ℕ) → 1 ≤ lengt
     → is_named_later name n text ≡ list_any (is_agent_named name) (lines_of (read_as n text))
 other_first name n [] some other = absurd (omega (arith, some))
 other_first name n (b ∷ text) some other =
-    cc (first_or_later name n (b ∷ text) (omega arith),
-    names_none name _ (front_other (body_len (read_as n (b ∷ text))) b text other))
+    cc (
+      first_or_later name n (b ∷ text) (omega arith),
+      names_none name _ (front_other (body_len (read_as n (b ∷ text))) b text other),
+    )
 
 pub advances : (n : Bool) (rest : List ℕ) → 0 < length rest
     → (let k = body_len (read_as n rest) in 0 < k + end_len (read_as n (drop k rest)))

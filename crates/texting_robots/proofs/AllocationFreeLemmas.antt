@@ -4,9 +4,9 @@ use Rattle.std.proofs.Common.{◌≡◌, ℕ, ◌<◌, ◌&&◌, ◌||◌, ◌==
 use Rattle.std.proofs.Common.{IfSome, None, Ok, Option, Some, codes, decimal, drop, get_or, length, sym, refl}
 use Rattle.std.proofs.Common.{ap, ◌∙◌, subst, inl, inr, ⊎_elim, arith, append_assoc, append-nil, ◌-◌}
 use Rattle.std.proofs.Common.{◌≢◌, length-append, take-append-drop, take_at, drop_at, is_some, nat_lt, ◌+◌}
-use Rattle.std.proofs.Common.{option_map, slice_index, unwrap_or, ◌≤◌, Err, take, suc}
+use Rattle.std.proofs.Common.{option_map, slice_index, unwrap_or, ◌≤◌, Err, take}
 use Rattle.std.specs.List.{list_all, prefix_len, suffix_len}
-use Rattle.std.specs.Char.{is_ascii_digit, is_ascii_lowercase, is_digit, to_ascii_lowercase}
+use Rattle.std.specs.Char.{is_ascii_digit, is_ascii_lowercase, to_ascii_lowercase}
 use Rattle.std.proofs.lemmas.Bool.{agree_below, cases_Bool, cond-false, cond-true, eqb-true, false≢true}
 use Rattle.std.proofs.lemmas.Bool.{Decides.nat_tests, cond_both}
 use Rattle.std.proofs.lemmas.List.{take_all, Sums.suffix_len_is, length-reverse, reverse-append}
@@ -18,7 +18,7 @@ use Rattle.url.specs.{declared.host.Host.TheVariants.Domain, Host.IsDomainOf, He
 use Rattle.url.specs.{declared.scheme.SchemeType.TheVariants.SpecialNotFile, Parser.parse_url}
 use Rattle.url.specs.{declared.error.ParseError.TheVariants.RelativeUrlWithoutBase}
 use Rattle.url.specs.Input.{is_empty, rsplit_once, split_once, when, is_c0_control_or_space}
-use Rattle.url.specs.Input.{is_tab_or_new_line, strip_tabs_and_new_lines, trim_c0_control_and_space}
+use Rattle.url.specs.Input.{strip_tabs_and_new_lines, trim_c0_control_and_space}
 use Rattle.url.specs.Scheme.{IsScheme, default_port, scheme_len, scheme_type, is_file, is_slash, is_special}
 use Rattle.url.proofs.{ParsedCanonical.before_special, PathLemmas.root_only, InputLemmas.All-take-prefix_len}
 use Rattle.url.proofs.{Theorems.parse_url-serialize_special}
@@ -27,7 +27,7 @@ use Rattle.url.specs.Ipv4.{ends_in_a_number, is_number, last_label_of, parse_num
 use Rattle.url.specs.Path.{IsSegmentList, dot_count, parse_path_start, parse_segments, push_segment}
 use Rattle.url.specs.Parts.{IsPortOf, IsValid, Parts, serialize, text_before, kind_of, text_between}
 use Rattle.url.specs.Parser.{after_double_slash, parse_authority, parse_by_scheme, split_scheme, skip_slashes}
-use Rattle.url.specs.Parser.{and_then, parse_body, before_tail, parse_parts, with_path, with_tail, Parsed}
+use Rattle.url.specs.Parser.{and_then, parse_body, parse_parts, with_path, Parsed}
 use Rattle.url.specs.declared.slicing.Position.TheVariants.{AfterPath, AfterPort, BeforePath, BeforeUsername}
 use Rattle.url.proofs.TextLemmas.{All_body, authority_bytes, is_authority_byte}
 use Rattle.url.proofs.InputLemmas.{All_from_list_all, IsNot, Passes, StopsAt, filter_all, is_empty_nonempty}
@@ -288,8 +288,11 @@ module _ (target : List ℕ) (is : IsTarget target) where
   unfolding is_kept should_percent_encode
   tail_left =
       let (stop, stay) = stops is.is_fragment.0 is.is_fragment.1 in
-      cc (labeled_left 63 QUERY.now SPECIAL_QUERY refl is.query is.fragment is.is_query stop stay,
-      append-nil is.fragment, labeled_left 35 TAIL.now FRAGMENT refl is.fragment [] is.is_fragment tt refl)
+      cc (
+        labeled_left 63 QUERY.now SPECIAL_QUERY refl is.query is.fragment is.is_query stop stay,
+        append-nil is.fragment,
+        labeled_left 35 TAIL.now FRAGMENT refl is.fragment [] is.is_fragment tt refl,
+      )
     where
       stops : (part : Option (List ℕ)) → is.fragment ≡ with_delimiter (codes "#") part
           → StopsAt (is_kept QUERY.now) is.fragment

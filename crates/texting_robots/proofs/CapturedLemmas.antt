@@ -225,9 +225,11 @@ captured_left : {X : Type 0} (given : ℕ × LineValue → Option X) (name : Lis
 captured_left given name all tracker position [] splits left = refl
 captured_left given name all tracker position (line ∷ lines) splits left =
     let (at, next) = at_front all position line lines left in
-    rw splits.captured (cc (kept_next tracker.captured given (position, line) _,
-    captured_left given name all (step name tracker line) (position + 1) lines
-    (occurs_next name all position tracker line at splits) next))
+    rw splits.captured (cc (
+      kept_next tracker.captured given (position, line) _,
+      captured_left given name all (step name tracker line) (position + 1) lines
+          (occurs_next name all position tracker line at splits) next,
+    ))
 
 pub captured_walked : {X : Type 0} (given : ℕ × LineValue → Option X) (name : List ℕ)
     (lines : List LineValue)

@@ -1,6 +1,6 @@
 -- The line contents of a text, computed byte by byte from its end. CR LF and LF end a line in the same way.
 use Rattle.std.proofs.Common.{◌≡◌, ℕ, false, ◌==◌, ◌&&◌, inl, inr, List, [], ◌∷◌, if◌then◌else◌, map, arith}
-use Rattle.std.proofs.Common.{slice_index, sym, refl, ap, ◌∙◌, ◌↔◌}
+use Rattle.std.proofs.Common.{slice_index, refl, ap, ◌∙◌, ◌↔◌}
 use Rattle.std.proofs.lemmas.Bool.{cases_Bool, cond-false, and_parts, eqb-true, ne_eqb}
 use Rattle.texting_robots.specs.{Cut.Pair, Cut.cr, Cut.lf, Executable.parsed, Laws.crlf_to_lf}
 use Rattle.texting_robots.specs.Internal.Cut.{before_body, before_byte, before_end, bodies_of, cut}

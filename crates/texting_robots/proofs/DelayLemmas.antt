@@ -1,8 +1,8 @@
 -- `delay_of` gives the delay of a text, and it is the only one.
-use Rattle.std.specs.Prelude.{◌==◌, ◌||◌, Decides, MatchBool, slice_index}
-use Rattle.std.proofs.Common.{◌≡◌, inl, inr, ℕ, ◌*◌, ◌/◌, ◌^◌, ◌<◌, ◌≤◌, Bool, true, false, ltb, []}
+use Rattle.std.specs.Prelude.{◌==◌, Decides, MatchBool, slice_index}
+use Rattle.std.proofs.Common.{◌≡◌, inl, inr, ℕ, ◌*◌, ◌^◌, ◌<◌, Bool, true, false, ltb, []}
 use Rattle.std.proofs.Common.{List, ◌∷◌, ◌++◌, All, Option, Some, None, codes, length, map, refl, sym}
-use Rattle.std.proofs.Common.{ap, subst, ◌∙◌, arith, ◌↔◌}
+use Rattle.std.proofs.Common.{subst, arith, ◌↔◌}
 use Rattle.std.specs.Char.{IsAsciiDigit, is_ascii_digit, to_ascii_lowercase}
 use Rattle.std.specs.{Cmp.Lexicographic.bytes_decides, List.list_all, List.prefix_len, Option.option_and_then}
 use Rattle.std.specs.{Option.option_map, Str.byte, Str.str_eq_ignore_ascii_case, Str.str_to_ascii_lowercase}
@@ -16,8 +16,8 @@ use Rattle.std.proofs.lemmas.Bool.Decides.{Decides-and, Decides-by_and, Decides-
 use Rattle.std.proofs.lemmas.List.{drop_at, get_or-take, length-append, length-take, take-append-drop}
 use Rattle.std.proofs.lemmas.List.{take_at, Sums.prefix_len_passes}
 use Rattle.std.proofs.lemmas.List.Elements.{All-head, All-nil, All-tail}
-use Rattle.texting_robots.specs.Delay.{AtMost, Decimal, IsDelay, IsInfinite, IsNumeral, IsPoint, IsTail}
-use Rattle.texting_robots.specs.Delay.{NamesZero, NamesSeconds, Rounds, Writes, greatest_delay}
+use Rattle.texting_robots.specs.Delay.{Decimal, IsDelay, IsInfinite, IsNumeral, IsPoint, IsTail}
+use Rattle.texting_robots.specs.Delay.{NamesZero, NamesSeconds, Rounds, Writes}
 use Rattle.texting_robots.specs.Delay.{negative_exponent, positive_exponent}
 use Rattle.texting_robots.specs.Internal.Delay.{HasDigits, after_fraction, digits_in_front, fraction_in_front}
 use Rattle.texting_robots.specs.Internal.Delay.{after_digits, delay_after, delay_of, exponent_of, is_infinite}
@@ -178,9 +178,12 @@ named true text delay (n, writes, zeros, none) =
     cc (number_read text n writes, cond-true _ _ _ ((zero_decides n).1 zeros))
 named false text delay (inl (infinite, greatest)) = grind (arith, cond-true, infinite_decides)
 named false text delay (inr (n, writes, rounds)) =
-    cc (cond-false _ _ _ (false_from_ne_true (is_infinite text) (λ is. finite
-    ((infinite_decides text).0 is))), number_read text n writes,
-    rounds_same n (rounded n) delay (rounded_rounds n) rounds)
+    cc (
+      cond-false _ _ _ (false_from_ne_true (is_infinite text) (λ is. finite
+          ((infinite_decides text).0 is))),
+      number_read text n writes,
+      rounds_same n (rounded n) delay (rounded_rounds n) rounds,
+    )
   where
     finite : IsInfinite text → ⊥
     finite (inl e) = cc (number_read text n writes, infinite_number text (codes "nf") e)

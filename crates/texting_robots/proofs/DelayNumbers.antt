@@ -153,5 +153,8 @@ micros_rounded n p has position =
     omega (arith, length-append n.whole n.fraction, has.short) in
     let parts : take p n.whole ++ (take left n.fraction ++ missing) ≡ take p (ds ++ zeros 20) =
     grind (arith, append_assoc, take_parts) in
-    cc (joined (take p n.whole) (take left n.fraction) missing, twenty ds (places n) room,
-    at_position n (All-append IsAsciiDigit n.whole n.fraction has.whole has.fraction))
+    cc (
+      joined (take p n.whole) (take left n.fraction) missing,
+      twenty ds (places n) room,
+      at_position n (All-append IsAsciiDigit n.whole n.fraction has.whole has.fraction),
+    )

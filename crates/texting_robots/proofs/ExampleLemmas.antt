@@ -1,9 +1,7 @@
 -- Lemmas by which computation proves the worked examples.
-use Rattle.std.proofs.Common.{arith}
-use Rattle.std.proofs.Common.{◌≡◌, ◌==◌, ℕ, nat_lt, ◌&&◌, Bool, true, false, List, length, Some, get_or, refl}
-use Rattle.std.proofs.Common.{subst}
+use Rattle.std.proofs.Common.{◌≡◌, ◌==◌, ℕ, nat_lt, ◌&&◌, Bool, true, false, List, length, Some, arith}
 use Rattle.std.specs.{Bool.Decides, List.Any, List.list_any}
-use Rattle.std.proofs.lemmas.Bool.Decides.{Decides-and, Decides-ltb, Decides-eqb, not_from_Decides}
+use Rattle.std.proofs.lemmas.Bool.Decides.{Decides-eqb, not_from_Decides}
 use Rattle.std.proofs.lemmas.List.Folds.{Any-from_list_any, list_any-from_Any}
 use Rattle.texting_robots.specs.Examples.{Answers, GivesDelay, GivesRules}
 use Rattle.texting_robots.specs.Executable.{delay_for, file_lines, placed_rules}

@@ -2,7 +2,7 @@
 use Rattle.std.proofs.Common.{◌≡◌, ℕ, ◌+◌, ◌-◌, ◌≤◌, Bool, false, ◌||◌, List, length, get_or, arith, take, ap}
 use Rattle.std.proofs.Common.{drop, sym, ◌∙◌, Option, Some, None, is_some, true, not, inl, inr, [], ◌∷◌, cond}
 use Rattle.std.proofs.Common.{slice_get, map, refl, ◌⊎◌, zero, suc, ◌<◌, ◌↔◌, ◌&&◌, length-drop}
-use Rattle.std.proofs.Common.{slice_index_or, subst}
+use Rattle.std.proofs.Common.{slice_index_or}
 use Rattle.std.specs.List.{AllZip, list_any, position_or_len, before_first, enumerate_from, filter_map}
 use Rattle.std.proofs.lemmas.Bool.{false_from_ne_true, or_parts, cases_Bool, cases_lt}
 use Rattle.std.proofs.lemmas.Bool.{cases_order, Decides.Decides-at, Decides.Decides-like}

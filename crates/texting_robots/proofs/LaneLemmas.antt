@@ -1,7 +1,7 @@
 -- The index of the first byte that passes a test, as vectors find it.
 use Rattle.std.proofs.Common.{◌≡◌, ℕ, zero, suc, ◌+◌, ◌-◌, ◌*◌, ◌%◌, ◌^◌, ◌<◌, ◌≤◌, ◌==◌, ◌||◌, Bool, true}
 use Rattle.std.proofs.Common.{false, not, List, [], ◌∷◌, length, take, drop, map, sym, refl, ap, ◌∙◌, arith}
-use Rattle.std.proofs.Common.{cond, if◌then◌else◌, bit_or, inl, inr, Option}
+use Rattle.std.proofs.Common.{cond, if◌then◌else◌, bit_or, Option}
 use Rattle.std.specs.List.{list_all, list_any, position_or_len, prefix_len}
 use Rattle.std.specs.Int.{trailing_zeros, w64}
 use Rattle.std.proofs.lemmas.Bool.{cases_Bool, cases_eq, cases_lt, cond-true, cond-false, eq-eqb, ne_eqb}
@@ -42,8 +42,13 @@ module _ (test : ℕ → Bool) (text : List ℕ) where
       let most = prefix_len-le-length (λ b. not (test b)) front in
       let seen : position_or_len test text ≡ cond (here == k) (k + position_or_len test back) here =
       ap (position_or_len test) (sym (take-append-drop k text))
-      ∙ prefix_len-append (λ b. not (test b)) front back ∙ rw long refl in grind (arith, cond-false,
-      cond-true, eq-eqb, ne_eqb)
+      ∙ prefix_len-append (λ b. not (test b)) front back ∙ rw long refl in grind (
+        arith,
+        cond-false,
+        cond-true,
+        eq-eqb,
+        ne_eqb,
+      )
 
   -- the last `k` bytes, if the first and the last `k` cover the text
   pub last_seen : (k : ℕ) → k ≤ length text → length text ≤ k + k

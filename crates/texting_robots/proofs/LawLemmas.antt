@@ -1,16 +1,16 @@
 -- Which changes of the lines have no effect.
-use Rattle.std.proofs.Common.{◌≡◌, ◌↔◌, inl, inr, ℕ, suc, ◌+◌, Bool, false, not, ◌||◌, List, [], ◌∷◌, ◌++◌}
+use Rattle.std.proofs.Common.{◌≡◌, ◌↔◌, ℕ, ◌+◌, Bool, false, not, ◌||◌, List, [], ◌∷◌, ◌++◌}
 use Rattle.std.proofs.Common.{Option, None, length, drop, filter, cond, codes, zero-add, add-zero, arith, sym}
 use Rattle.std.proofs.Common.{refl, ap, ◌∙◌, subst}
-use Rattle.std.specs.{List.Any, List.cons_option, List.filter_map, List.list_any, Str.str_to_ascii_lowercase}
+use Rattle.std.specs.{List.filter_map, List.list_any, Str.str_to_ascii_lowercase}
 use Rattle.std.proofs.lemmas.Bool.{cases_Bool, false_from_ne_true}
 use Rattle.std.proofs.{lemmas.List.Elements.filter_map-append, lemmas.List.Folds.list_any-append}
-use Rattle.texting_robots.specs.{declared.groups.GroupTracker.GroupTracker, Rules.Rule, Pattern.IsOverlong}
-use Rattle.texting_robots.specs.{Verdict.IsVerdict, Laws.IsSameKind, Laws.Same, Laws.SameButSitemaps}
+use Rattle.texting_robots.specs.{declared.groups.GroupTracker.GroupTracker}
+use Rattle.texting_robots.specs.{Laws.IsSameKind, Laws.Same, Laws.SameButSitemaps}
 use Rattle.texting_robots.specs.Line.{LineValue, delay_in, is_raw}
 use Rattle.texting_robots.specs.Line.{is_sitemap}
 use Rattle.texting_robots.specs.Group.{group_name, is_agent, is_agent_named, is_group, IsCaptured}
-use Rattle.texting_robots.specs.Executable.{delay_for, rule_in, rules_for, sitemap_in, sitemaps_in}
+use Rattle.texting_robots.specs.Executable.{delay_for, rule_in, rules_for, sitemap_in}
 use Rattle.texting_robots.specs.Internal.Group.{start_of, step}
 use Rattle.texting_robots.proofs.{CapturedLemmas.IsWalkAt, MainTheoremLemmas.rejection_is_computed}
 use Rattle.texting_robots.proofs.CapturedLemmas.{at_front, cond_same, delays_are, given_captured, only_agents}
@@ -117,8 +117,15 @@ module _ (keep : LineValue → Bool)
 
   pub same_filtered : (agent : List ℕ) (lines : List LineValue)
       → SameButSitemaps agent lines agent (filter keep lines)
-  same_filtered agent lines = same_alike agent lines (filter keep lines) (grind (arith, any_kept,
-      before_kept, captured_kept, no_delay, no_rule, only_agents))
+  same_filtered agent lines = same_alike agent lines (filter keep lines) (grind (
+    arith,
+    any_kept,
+    before_kept,
+    captured_kept,
+    no_delay,
+    no_rule,
+    only_agents,
+  ))
 
   same_kept : (agent : List ℕ) (lines others : List LineValue) → filter keep lines ≡ filter keep others
       → SameButSitemaps agent lines agent others

@@ -1,5 +1,5 @@
 -- The computed lines are those of the text, and their values are ranges of it.
-use Rattle.std.proofs.Common.{◌≡◌, ◌⊎◌, ℕ, false, true, inl, inr, List, [], ◌∷◌, ◌++◌, map, sym, refl, ap}
+use Rattle.std.proofs.Common.{◌≡◌, ◌⊎◌, ℕ, false, true, inl, inr, List, [], ◌∷◌, ◌++◌, map, sym, refl}
 use Rattle.std.proofs.Common.{◌∙◌, ◌≢◌}
 use Rattle.std.proofs.Common.{bytes_eq, append_assoc, append-nil, Option, Some, None, ◌==◌, arith, subst, ◌↔◌}
 use Rattle.std.specs.{List.AllZip, Str.str_to_ascii_lowercase}
@@ -14,7 +14,7 @@ use Rattle.texting_robots.specs.Internal.Statement.{kind_by, skip_blanks, statem
 use Rattle.texting_robots.specs.Line.{AreFileBodiesOf, AreLinesOf, HoldRangesOf, HoldsRangeOf, IsLineOf, Raw}
 use Rattle.texting_robots.specs.Line.{IsLineWith, IsRangeOf, LineValue, CrawlDelay, Sitemap, UserAgent}
 use Rattle.texting_robots.specs.Line.{delay_in, is_raw, is_sitemap, nul_as_lf, without, without_front}
-use Rattle.texting_robots.specs.Internal.Line.{delay_or_raw, line_by, line_of, line_with}
+use Rattle.texting_robots.specs.Internal.Line.{delay_or_raw, line_of, line_with}
 use Rattle.texting_robots.proofs.DelayLemmas.{delay_of_is, is_delay_of}
 use Rattle.texting_robots.proofs.CutLemmas.{is_cut, only_cut}
 use Rattle.texting_robots.proofs.StatementLemmas.{statement_found, found_statement, unstated}

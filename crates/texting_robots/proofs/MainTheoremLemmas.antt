@@ -1,8 +1,7 @@
 -- The rules that lines hold, and what follows from them.
-use Rattle.std.proofs.Common.{rules}
 use Rattle.std.proofs.Common.{◌≡◌, ◌≢◌, ◌⊎◌, inl, inr, ℕ, suc, ◌+◌, ◌<◌, Bool, cond, List, [], ◌∷◌, Option}
 use Rattle.std.proofs.Common.{Some, None, AllPairs, IsPermutation, get_or, length, refl, sym, ap, subst, ◌∙◌}
-use Rattle.std.proofs.Common.{◌↔◌, arith, swap, ◌*◌, true, Result, Ok, Err, map, take}
+use Rattle.std.proofs.Common.{◌↔◌, arith, swap, true, Result, Ok, Err, map, take, rules}
 use Rattle.std.specs.{List.All, List.Any, List.Contains, List.cons_option, Result.IfErr, Result.IsErrAnd}
 use Rattle.std.proofs.{lemmas.Bool.cases_eq, lemmas.List.Kept.AllPairs-cons, lemmas.List.nil_from_length}
 use Rattle.std.proofs.{lemmas.List.Elements.Contains-get_or}
@@ -27,7 +26,7 @@ use Rattle.texting_robots.proofs.RulesLemmas.{any_unplaced, rejected_wider, some
 use Rattle.texting_robots.proofs.BestLemmas.{placed_of, none_denies, verdict_by}
 use Rattle.texting_robots.proofs.VerdictLemmas.{after_first, same_elements, longest_permuted, same_lines}
 use Rattle.texting_robots.proofs.VerdictLemmas.{same_verdicts}
-use Rattle.texting_robots.specs.Decision.{IsDecidingLine, IsDecidingRule, LooksForRules, as_long_as}
+use Rattle.texting_robots.specs.Decision.{IsDecidingLine, IsDecidingRule, LooksForRules}
 
 -- ---- The rules that lines hold are the computed ones, in any order.
 

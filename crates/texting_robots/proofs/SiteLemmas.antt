@@ -1,7 +1,7 @@
 -- The groups of a file and the runs of a site: what is captured for a name.
 use Rattle.std.specs.Prelude.{filter}
 use Rattle.std.proofs.Common.{◌≡◌, ◌≢◌, ℕ, ◌+◌, ◌<◌, ◌≤◌, Bool, true, false, not, ◌&&◌, ◌||◌, List, [], ◌∷◌}
-use Rattle.std.proofs.Common.{◌++◌, Option, Some, None, cond, refl, ap, sym, ◌∙◌, arith, append_assoc, ◌↔◌}
+use Rattle.std.proofs.Common.{◌++◌, Option, Some, None, cond, refl, sym, ◌∙◌, arith, append_assoc, ◌↔◌}
 use Rattle.std.proofs.Common.{IsTrue, slice_get, bytes_eq}
 use Rattle.std.specs.List.{cons_option, filter_map, list_any, Contains}
 use Rattle.std.specs.{Option.option_to_list, Str.str_to_ascii_lowercase}

@@ -1,8 +1,8 @@
 -- The names in a file, and how a site finds them.
 use Rattle.std.proofs.Common.{◌≡◌, ◌≢◌, inl, inr, ℕ, zero, suc, ◌+◌, ◌<◌, ◌≤◌, Bool, true, false, List, []}
 use Rattle.std.proofs.Common.{◌∷◌, Some, length, drop, refl, ap, sym, ◌∙◌, arith, add-one, drop-cons, get_or}
-use Rattle.std.proofs.Common.{ltb, map, option_map, replicate, set, slice_get, ◌||◌, ◌==◌, not, cond, ◌++◌}
-use Rattle.std.proofs.Common.{None, bytes_eq, filter, ◌&&◌, take}
+use Rattle.std.proofs.Common.{ltb, map, replicate, set, slice_get, ◌||◌, ◌==◌, not, cond, ◌++◌}
+use Rattle.std.proofs.Common.{None, filter, ◌&&◌, take}
 use Rattle.std.specs.List.{list_any, position_or_len, cons_option, filter_map}
 use Rattle.std.specs.Str.{str_to_ascii_lowercase, is_utf8}
 use Rattle.std.proofs.lemmas.Bool.{cases_Bool, eq-eqb, eqb-true, le-ltb, lt-ltb, ltb-false, ltb-true, ne_eqb}
@@ -205,8 +205,12 @@ kept_at : (text : List ℕ) (lines : List KeptLine) (at : ℕ) (line : KeptLine)
     ≡ get_or lines at line
     → drop at (map (tag_at text) lines) ≡ tag_at text line ∷ drop (at + 1) (map (tag_at text) lines)
 kept_at text lines at line within is =
-    drop_is (map (tag_at text) lines) at (tag_at text line) (grind (arith, slice_get-map, slice_get_read,
-    within))
+    drop_is (map (tag_at text) lines) at (tag_at text line) (grind (
+      arith,
+      slice_get-map,
+      slice_get_read,
+      within,
+    ))
 
 pub front_line : (text : List ℕ) (lines : List KeptLine) (at run : ℕ) (line : KeptLine) → at < length lines
     → line ≡ get_or lines at line → line.run ≡ run
@@ -296,8 +300,10 @@ once_next : (names : List (List ℕ)) (position : ℕ) (name : List ℕ) → sli
     (name ∷ each_once (take (position + 1) names) (drop (position + 1) names))
 once_next names position name at =
     let more : take (position + 1) names ≡ take position names ++ name ∷ [] =
-    cc (take_more names position name (slice_get_within names position name at),
-    get_or_from_slice_get names position name name at) in
+    cc (
+      take_more names position name (slice_get_within names position name at),
+      get_or_from_slice_get names position name name at,
+    ) in
     grind (arith, drop_is)
 
 value_at : (names : List Named) (position : ℕ) (n : Named) → slice_get names position ≡ Some n
@@ -310,8 +316,10 @@ pub left_again : (names : List Named) (position : ℕ) (n : Named) → slice_get
 left_again names position n at other =
     let isnt : not (is_among n.name (take position (map name_of names))) ≡ false =
     sym (among names position n at) ∙ ne_eqb _ position other in
-    cc (once_next (map name_of names) position n.name (value_at names position n at),
-    dropped (is_among n.name (take position (map name_of names))) _ _ isnt)
+    cc (
+      once_next (map name_of names) position n.name (value_at names position n at),
+      dropped (is_among n.name (take position (map name_of names))) _ _ isnt,
+    )
   where
     dropped : {X : Type 0} (b : Bool) (xs ys : List X) → not b ≡ false → cond b xs ys ≡ xs
     dropped true xs ys isnt = refl
@@ -323,8 +331,11 @@ pub left_first : (names : List Named) (position : ℕ) (n : Named) → slice_get
 left_first names position n at same =
     let is : not (is_among n.name (take position (map name_of names))) ≡ true =
     sym (among names position n at) ∙ eq-eqb _ position same in
-    cc (once_next (map name_of names) position n.name (value_at names position n at),
-    kept (is_among n.name (take position (map name_of names))) _ _ is, if_text (is_utf8 n.name) n.name _)
+    cc (
+      once_next (map name_of names) position n.name (value_at names position n at),
+      kept (is_among n.name (take position (map name_of names))) _ _ is,
+      if_text (is_utf8 n.name) n.name _,
+    )
   where
     kept : {X : Type 0} (b : Bool) (xs ys : List X) → not b ≡ true → cond b xs ys ≡ ys
     kept false xs ys is = refl

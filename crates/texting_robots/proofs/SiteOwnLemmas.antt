@@ -1,28 +1,28 @@
 -- Iterating over the lines of a name: what this gives, and where it starts.
 use Rattle.std.specs.Prelude.{filter}
 use Rattle.std.proofs.Common.{◌≡◌, inl, inr, ℕ, zero, suc, ◌+◌, ◌<◌, ◌≤◌, ◌==◌, Bool, true, false, ◌||◌}
-use Rattle.std.proofs.Common.{◌&&◌, List, [], ◌∷◌, ◌++◌, Option, Some, None, length, drop, refl, ap, sym, ◌∙◌}
+use Rattle.std.proofs.Common.{◌&&◌, List, [], ◌∷◌, ◌++◌, Option, Some, None, length, drop, refl, ap, sym}
 use Rattle.std.proofs.Common.{arith, cond, get_or, slice_get, take, IsPermutation, subst, ltb}
-use Rattle.std.specs.List.{All, Any, cons_option, filter_map, list_any}
-use Rattle.std.specs.Option.{option_or, option_to_list}
+use Rattle.std.specs.List.{All, cons_option, filter_map, list_any}
+use Rattle.std.specs.Option.{option_to_list}
 use Rattle.std.proofs.lemmas.Bool.{eq-eqb, ne_eqb, cases_Bool, le-ltb, lt-ltb, ltb-false, ltb-true}
 use Rattle.std.proofs.{lemmas.Bool.Decides.eqb_tells, Math.Bool.and-false}
 use Rattle.std.proofs.lemmas.List.{Elements.filter_agree, take_more, append-nil, drop-drop}
-use Rattle.texting_robots.specs.Rules.{IsFirstOverlong, IsRejected, PlacedRule, Rule, unplaced}
+use Rattle.texting_robots.specs.Rules.{IsFirstOverlong, PlacedRule}
 use Rattle.texting_robots.specs.{declared.error.Error.Error, Error.IsMemoryErrorOr, Executable.IsRejectionOf}
 use Rattle.texting_robots.specs.declared.error.Error.TheVariants as error
 use Rattle.texting_robots.specs.Group.{group_name, is_agent, is_group}
 use Rattle.texting_robots.specs.{Pattern.IsOverlong, Internal.Group.from_captured}
 use Rattle.texting_robots.specs.{declared.site.lines.Span.Span, declared.site.own.Position.Position}
-use Rattle.texting_robots.specs.Robot.{IsFileRejected, IsRobotOf, RobotValue}
-use Rattle.texting_robots.specs.Executable.{captured_delays, captured_lines, file_lines, placed_in, delay_for}
-use Rattle.texting_robots.specs.Executable.{placed_rules, delay_before_agents}
+use Rattle.texting_robots.specs.Robot.{IsRobotOf, RobotValue}
+use Rattle.texting_robots.specs.Executable.{captured_delays, captured_lines, file_lines, delay_for}
+use Rattle.texting_robots.specs.Executable.{placed_rules}
 use Rattle.texting_robots.proofs.{CapturedLemmas.captured_walked, GivenLemmas.delay_is_computed}
-use Rattle.texting_robots.proofs.{RulesLemmas.any_unplaced, SiteNameLemmas.drop_is}
-use Rattle.texting_robots.proofs.MainTheoremLemmas.{has_lines, rejected_of, rejection_is_computed}
+use Rattle.texting_robots.proofs.{SiteNameLemmas.drop_is}
+use Rattle.texting_robots.proofs.MainTheoremLemmas.{rejected_of, rejection_is_computed}
 use Rattle.texting_robots.proofs.MainTheoremLemmas.{rules_are_computed}
 use Rattle.texting_robots.proofs.SiteLemmas.{delay_of_group, given_push, rule_of_group, none_later}
-use Rattle.texting_robots.specs.Line.{LineValue, UserAgent, delay_in}
+use Rattle.texting_robots.specs.Line.{LineValue, UserAgent}
 use Rattle.texting_robots.specs.Internal.Site.{Named, Tagged, delay_of, in_front, is_run_of, named, listed}
 use Rattle.texting_robots.specs.Internal.Site.{own_tagged, rejection_at, rule_of, tagged, tagged_from}
 use Rattle.texting_robots.specs.Internal.Site.{first_named, own_at}
@@ -74,15 +74,19 @@ runs_after : (name : List ℕ) (names : List Named) (name_index next r : ℕ)
     → next ≡ name_index + 1 + first_named name (drop (name_index + 1) names)
     → is_run_of name (drop next names) r ≡ is_run_of name (drop (name_index + 1) names) r
 runs_after name names name_index next r are =
-    cc (drop-drop (first_named name (drop (name_index + 1) names)) (name_index + 1) names,
-    runs_from_first name (drop (name_index + 1) names) r)
+    cc (
+      drop-drop (first_named name (drop (name_index + 1) names)) (name_index + 1) names,
+      runs_from_first name (drop (name_index + 1) names) r,
+    )
 
 pub first_kept : (name : List ℕ) (name_index next : ℕ) (names : List Named)
     → next ≡ name_index + 1 + first_named name (drop (name_index + 1) names)
     → first_named name (drop next names) ≡ 0
 first_kept name name_index next names are =
-    cc (drop-drop (first_named name (drop (name_index + 1) names)) (name_index + 1) names,
-    first_here (has_name name) (drop (name_index + 1) names))
+    cc (
+      drop-drop (first_named name (drop (name_index + 1) names)) (name_index + 1) names,
+      first_here (has_name name) (drop (name_index + 1) names),
+    )
 
 pub next_run : (name : List ℕ) (run name_index next : ℕ) (names : List Named) (tags rest : List Tagged)
     (n : Named)
@@ -108,9 +112,12 @@ next_run name run name_index next names tags rest n at first (lines, named_is, t
     let later = λ (t : Tagged). later_next name run n after t.run has above none in
     let passed : (q : ℕ) → q ≤ n.run → is_later name n.run after q ≡ false =
     λ q least. rw (le-ltb n.run q least) refl in
-    cc (filter_agree _ _ (λ (t : Tagged). ap (λ b. ltb n.run t.run && b)
-    (runs_after name names name_index next t.run are)) tags,
-    run_first (is_later name n.run after) n.run tags passed ascends, filter_agree _ _ later tags)
+    cc (
+      filter_agree _ _ (λ (t : Tagged). ap (λ b. ltb n.run t.run && b)
+          (runs_after name names name_index next t.run are)) tags,
+      run_first (is_later name n.run after) n.run tags passed ascends,
+      filter_agree _ _ later tags,
+    )
 
 pub same_run : (name : List ℕ) (run name_index next : ℕ) (names : List Named) (tags rest : List Tagged)
     (n : Named)

@@ -1,7 +1,7 @@
 -- Where the lines of a run begin, and what one more run gives.
 use Rattle.std.specs.Prelude.{filter}
 use Rattle.std.proofs.Common.{◌≡◌, ◌≢◌, ℕ, zero, suc, ◌+◌, ◌<◌, ◌≤◌, ◌==◌, Bool, true, false}
-use Rattle.std.proofs.Common.{List, [], ◌∷◌, Some, length, drop, refl, sym, ◌∙◌, arith, cond}
+use Rattle.std.proofs.Common.{List, [], ◌∷◌, Some, length, drop, refl, sym, arith, cond}
 use Rattle.std.proofs.Common.{not, None, slice_get, subst, ◌&&◌}
 use Rattle.std.specs.{List.cons_option, List.list_any}
 use Rattle.std.proofs.lemmas.Bool.{and_parts, ne_eqb, Decides.eqb_tells}

@@ -1,7 +1,7 @@
 -- Verdicts, and the order of patterns and of entries.
 use Rattle.std.specs.Prelude.{if◌then◌else◌}
 use Rattle.std.proofs.Common.{◌≡◌, ◌≢◌, ◌<◌, ◌↔◌, ◌⊎◌, inl, inr, ℕ, zero, suc, Bool, true, false, List, []}
-use Rattle.std.proofs.Common.{◌∷◌, ◌++◌, length, Option, Some, None, IsPermutation, ap, sym, refl, ◌∙◌}
+use Rattle.std.proofs.Common.{◌∷◌, ◌++◌, length, Option, Some, None, IsPermutation, sym, refl}
 use Rattle.std.proofs.Common.{arith, slice_index, take, Less, Equal, Greater, ◌≤◌, AllPairs, Result}
 use Rattle.std.specs.Cmp.{IsTotalOrder, nat_cmp_is, Lexicographic.slice_cmp, IsStrictWeakOrder}
 use Rattle.std.specs.{List.Contains, declared.cmp.Ordering.Ordering, Result.is_ok, List.Sorted.IsSortedBy}
@@ -12,7 +12,7 @@ use Rattle.texting_robots.specs.Decision.{IsBetter, IsDecidingLine, IsLongestMat
 use Rattle.texting_robots.specs.{Pattern.Matches, Order.IsBefore, Order.pattern_cmp, Rules.PlacedRule}
 use Rattle.texting_robots.specs.{declared.rules.Entry.Entry, Rules.Rule, Rules.unplaced}
 use Rattle.texting_robots.specs.Verdict.{IsDenied, IsVerdict, robots_file}
-use Rattle.std.specs.Ordering.{MatchOrdering, nat_cmp, ordering_reverse, ordering_then, is_lt}
+use Rattle.std.specs.Ordering.{MatchOrdering, nat_cmp, ordering_then, is_lt}
 use Rattle.std.proofs.lemmas.Cmp.{back_total, by_ranked, nat_cmp_total, nat_list_cmp_total, on_total, ranked}
 use Rattle.std.proofs.lemmas.Cmp.{then_total, tied_itself}
 use Rattle.texting_robots.specs.Internal.Segments.{GoesBefore, entry_cmp, line_in, rank_in}

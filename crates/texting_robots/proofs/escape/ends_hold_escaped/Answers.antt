@@ -1,5 +1,4 @@
-use Rattle.std.proofs.Common.{◌∙◌, sym, arith}
-use Rattle.texting_robots.specs.Escape.{is_escaped}
+use Rattle.std.proofs.Common.{arith}
 use Rattle.texting_robots.proofs.LabelLemmas.{either_end, front_tells}
 use Rattle.texting_robots.proofs.escape.ends_hold_escaped.Goals as goal
 

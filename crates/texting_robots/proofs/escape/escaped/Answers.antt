@@ -1,6 +1,4 @@
 use Rattle.std.proofs.Common.{arith}
-use Rattle.std.proofs.Common.{◌∙◌, Err, Ok, refl, sym}
-use Rattle.std.specs.{Prelude.IsOk, Prelude.IsOkAnd, Cow.IsBorrowedStr}
 use Rattle.texting_robots.proofs.NormalizedLemmas.{plain_stays, same_escape, same_test}
 use Rattle.texting_robots.proofs.escape.escaped.Goals as goal
 

@@ -1,5 +1,4 @@
 use Rattle.std.proofs.Common.{arith}
-use Rattle.std.proofs.Common.{rules}
 use Rattle.percent_encoding.specs.Percent.{percent_encode_byte}
 use Rattle.texting_robots.proofs.escape.push_byte.Goals as goal
 

@@ -1,5 +1,4 @@
 use Rattle.std.proofs.Common.{arith}
-use Rattle.std.proofs.Common.{rules, sym, ◌∙◌}
 use Rattle.texting_robots.proofs.NormalizedLemmas.{plain_stays}
 use Rattle.texting_robots.proofs.escape.push_escaped.Goals as goal
 

@@ -1,5 +1,5 @@
 use Rattle.std.proofs.Common.{arith}
-use Rattle.std.proofs.{Common.◌++◌, Common.ap, Common.string_bytes, Common.◌∙◌, lemmas.Result.on_ok_weaker}
+use Rattle.std.proofs.{lemmas.Result.on_ok_weaker}
 use Rattle.texting_robots.proofs.{NormalizedLemmas.same_escape}
 use Rattle.texting_robots.proofs.escape.push_escaped_bytes.Goals as goal
 

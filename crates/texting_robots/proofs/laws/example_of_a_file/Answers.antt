@@ -1,8 +1,9 @@
+use Rattle.std.proofs.Common.{arith}
 use Rattle.std.proofs.{Common.Some, Common.codes, Common.refl, lemmas.Bool.Decides.not_from_Decides}
 use Rattle.std.specs.Str.{chars, is_utf8}
 use Rattle.bstr.specs.{Trim.kept_end, Trim.kept_start, Utf8.pieces_from, Utf8.spans_from}
-use Rattle.texting_robots.specs.Examples.{ferris_lines, ferris_robot, ferris_rules}
-use Rattle.texting_robots.specs.{Pattern.collapsed, Rules.unplaced}
+use Rattle.texting_robots.specs.Examples.{ferris_lines, ferris_robot}
+use Rattle.texting_robots.specs.{Pattern.collapsed}
 use Rattle.texting_robots.specs.Internal.{Cut.cut, Delay.delay_of, Line.line_of, Statement.statement_of}
 use Rattle.texting_robots.proofs.ExampleLemmas.{answers, any_overlong_decides}
 use Rattle.texting_robots.proofs.GivenLemmas.{delay_is_computed, sitemaps_are_computed}
@@ -20,8 +21,7 @@ returns c = record {
     delay = (delay_is_computed (codes "FerrisCrawler") ferris_lines (Some 10000000)).1 refl;
     sitemaps = (sitemaps_are_computed ferris_lines ferris_robot.sitemaps).1 refl;
     rules = computed_are _ _;
-    accepted = λ rejected. not_from_Decides _ (any_overlong_decides (unplaced ferris_rules)) refl
-        ((rejection_is_computed (codes "FerrisCrawler") ferris_lines).0 rejected);
+    accepted = grind (arith, any_overlong_decides, not_from_Decides, rejection_is_computed);
   };
   answers = (answers _ _, answers _ _, answers _ _);
 }

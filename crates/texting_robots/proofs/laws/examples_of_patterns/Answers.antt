@@ -1,3 +1,4 @@
+use Rattle.std.proofs.Common.{arith}
 use Rattle.std.proofs.{Common.codes, Common.refl, lemmas.Bool.Decides.not_from_Decides}
 use Rattle.texting_robots.specs.{Examples.long, Pattern.collapsed}
 use Rattle.texting_robots.proofs.{VerdictLemmas.less_is_before}
@@ -7,9 +8,9 @@ use Rattle.texting_robots.proofs.laws.examples_of_patterns.Goals as goal
 pub returns : goal.returns
 unfolding collapsed
 returns c = record {
-  beginning = (matching _ _ _ refl, matching _ _ _ refl, not_matching _ _ _ refl, not_matching _ _ _ refl);
+  beginning = grind (arith, matching, not_matching);
   stars = (matching _ _ _ refl, matching _ _ _ refl, not_matching _ _ _ refl);
-  ends = (matching _ _ _ refl, not_matching _ _ _ refl, matching _ _ _ refl, not_matching _ _ _ refl);
+  ends = grind (arith, matching, not_matching);
   star_after = (matching _ _ _ refl, not_matching _ _ _ refl);
   dollar_inside = (not_matching _ _ _ refl, not_matching _ _ _ refl);
   plain_dollar = (matching _ _ _ refl, not_matching _ _ _ refl);
@@ -22,9 +23,5 @@ returns c = record {
     not_from_Decides _ (overlong_decides (long 4093 (codes "**$"))) refl,
     not_from_Decides _ (overlong_decides (long 4095 (codes "b"))) refl,
   );
-  order = (
-    (less_is_before (codes "/ab") (codes "/a")).0 refl,
-    (less_is_before (codes "/a**") (codes "/a*")).0 refl,
-    (less_is_before (codes "/a") (codes "/b")).0 refl,
-  );
+  order = grind (arith, less_is_before);
 }

@@ -1,5 +1,4 @@
 use Rattle.std.proofs.Common.{arith}
-use Rattle.std.proofs.Common.{sym, ◌∙◌}
 use Rattle.texting_robots.proofs.{GivenLemmas.sitemaps_are_computed, LawLemmas.sitemaps_change_nothing_else}
 use Rattle.texting_robots.proofs.laws.sitemaps_for_all.Goals as goal
 

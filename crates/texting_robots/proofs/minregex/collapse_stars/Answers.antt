@@ -1,4 +1,4 @@
-use Rattle.std.proofs.Common.{Some, None, string_bytes, ◌∙◌, arith, rules}
+use Rattle.std.proofs.Common.{Some, None, string_bytes, arith}
 use Rattle.std.proofs.lemmas.Bool.{iff_false}
 use Rattle.std.proofs.lemmas.Str.{encode_ascii, Pattern.split_parts, Pattern.starts_char}
 use Rattle.texting_robots.specs.Pattern.{star}
@@ -17,11 +17,7 @@ loop-before-preserved-in_ok-push c =
     let other = iff_false next c.if-not-starts_with.true in
     let stays =
     star_stays (string_bytes c.loop-before.text) c.in-Some.before.now after rest split plain other in
-    let bytes = c.in_ok-push_str.ensures.bytes in
-    record {
-      text = rw (c.in_ok-push.ensures.bytes, encode_ascii star (omega arith), bytes) (stays ∙ i.text);
-      utf8 = search rules;
-    }
+    grind (arith, encode_ascii, c.in_ok-push_str.ensures.bytes)
 
 pub loop-before-preserved : goal.loop-before-preserved
 loop-before-preserved c =
@@ -34,10 +30,10 @@ loop-before-preserved c =
     let next = starts_char star after c.starts_with.result cases (omega arith) (omega arith) in
     let two = next.0 c.if-not-starts_with.false in
     let goes = star_goes (string_bytes c.loop-before.text) c.in-Some.before.now after rest split plain two in
-    record { text = rw c.in_ok-push_str.ensures.bytes (goes ∙ i.text); utf8 = search rules }
+    grind arith
 
 pub returns : goal.returns
 returns c =
     let rest = c.loop-before.rest.now in
     let plain = split_parts star rest None c.in_default.ensures.cases (omega arith) in
-    rw (c.in_ok-push_str-2.ensures.bytes, ← collapse_end rest plain) c.loop-before.invariant.text
+    grind (arith, collapse_end)

@@ -1,5 +1,5 @@
 use Rattle.std.proofs.Common.{arith}
-use Rattle.std.proofs.{Common.◌∙◌, Common.sym, lemmas.Bool.false≢true, lemmas.Option.IfSome_then}
+use Rattle.std.proofs.{Common.◌∙◌, Common.sym, lemmas.Bool.false≢true}
 use Rattle.texting_robots.proofs.NormalizedLemmas.{authority_left, authority_read}
 use Rattle.texting_robots.proofs.normalized.after_authority.Goals as goal
 

@@ -1,10 +1,10 @@
-use Rattle.std.proofs.Common.{◌≢◌, ◌∙◌, ◌-◌, ap, arith, drop, get_or, inl, inr, length, sym, take}
+use Rattle.std.proofs.Common.{◌≢◌, ◌∙◌, ◌-◌, ap, arith, drop, inl, inr, length, sym, take}
 use Rattle.std.proofs.lemmas.Bool.{cases_eq, cond-false, false≢true, ne_eqb}
 use Rattle.std.proofs.lemmas.List.{take_rest, get_or_past}
 use Rattle.url.specs.Path.{dot_count}
 use Rattle.texting_robots.specs.Internal.Normalized.{past_path}
 use Rattle.texting_robots.proofs.NormalizedLemmas.{past_dots, past_more, two_dots, undotted}
-use Rattle.texting_robots.proofs.normalized.after_path.Goals.{in_default, in_default-2}
+use Rattle.texting_robots.proofs.normalized.after_path.Goals.{in_default-2}
 use Rattle.texting_robots.proofs.normalized.after_path.Goals as goal
 
 pub returns-in-46 : goal.returns-in-46

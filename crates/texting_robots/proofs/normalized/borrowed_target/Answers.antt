@@ -1,6 +1,5 @@
-use Rattle.std.proofs.Common.{◌≡◌, ◌-◌, ◌++◌, ◌∙◌, ap, arith, drop, drop_at, length, length-append, refl, sym}
+use Rattle.std.proofs.Common.{◌≡◌, ◌-◌, ◌∙◌, ap, arith, drop, drop_at, length, length-append, refl, sym}
 use Rattle.std.proofs.{Common.append-nil, lemmas.List.nil_from_length}
-use Rattle.texting_robots.specs.{Prepared.prepared}
 use Rattle.texting_robots.proofs.AllocationFreeLemmas.{path_some, prepared_alone, prepared_plain}
 use Rattle.texting_robots.proofs.normalized.borrowed_target.Goals as goal
 

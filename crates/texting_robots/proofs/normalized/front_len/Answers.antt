@@ -1,8 +1,5 @@
-use Rattle.std.proofs.Common.{◌∙◌, ◌++◌, ap, arith, drop, length, replicate}
-use Rattle.std.specs.{List.prefix_len}
-use Rattle.std.proofs.lemmas.Bool.{Decides.nat_tests}
+use Rattle.std.proofs.Common.{arith}
 use Rattle.std.proofs.lemmas.List.{Folds.prefix_len-append, Sums.prefix_len-le-length}
-use Rattle.texting_robots.specs.Internal.{Normalized.is_kept}
 use Rattle.texting_robots.proofs.normalized.front_len.Goals as goal
 
 pub returns-clause-value : goal.returns-clause-value

@@ -1,7 +1,7 @@
-use Rattle.std.proofs.Common.{◌≡◌, ◌==◌, ◌∙◌, Ok, ap, arith, not, sym}
-use Rattle.std.proofs.lemmas.Bool.{and_parts, false≢true, ne_eqb, Decides.nat_tests}
+use Rattle.std.proofs.Common.{◌≡◌, ◌∙◌, Ok, arith}
+use Rattle.std.proofs.lemmas.Bool.{and_parts, false≢true, ne_eqb}
 use Rattle.std.proofs.lemmas.{Fmt.IsAscii-decimal, Fmt.parse-decimal, Str.IsUtf8-from_ascii}
-use Rattle.texting_robots.specs.Internal.Normalized.{IsOther, begins_plainly}
+use Rattle.texting_robots.specs.Internal.Normalized.{IsOther}
 use Rattle.texting_robots.proofs.normalized.is_port.{Goals.After-from_str_radix}
 use Rattle.texting_robots.proofs.NormalizedLemmas.{decimal_plain, decimal_read}
 use Rattle.texting_robots.proofs.normalized.is_port.Goals as goal
@@ -23,21 +23,10 @@ parses c (port, digits, small, other) =
 pub returns-in-Ok-from_str_radix : goal.returns-in-Ok-from_str_radix
 returns-in-Ok-from_str_radix c =
     let port = c.in-Ok-from_str_radix.port in (
-      λ both.
-          let (own, plain) = and_parts (not (port == c.args.own)) c.begins_plainly.result both in
-          let text = c.in-Ok.ensures.cases.0 in
-          let read = c.in-Ok-from_str_radix.ensures.value in
-          let begins = ap begins_plainly text ∙ sym c.begins_plainly.ensures ∙ plain in (
-            port,
-            sym text ∙ decimal_read c.in-Ok.text.now port begins read,
-            omega (arith, read),
-            λ same. absurd (grind (arith, nat_tests)),
-          ),
+      grind (arith, and_parts, decimal_read, c.in-Ok.ensures.cases.0, c.in-Ok-from_str_radix.ensures.value),
       λ other.
           let read = parses (goal.at.returns-in-Ok-from_str_radix c).After-from_str_radix other in
-          let same : port ≡ other.0 = cc (read, c.in-Ok-from_str_radix.is) in
-          rw (ne_eqb port c.args.own (λ own. other.3 (sym same ∙ own)))
-          (c.begins_plainly.ensures ∙ ap begins_plainly other.1 ∙ decimal_plain other.0 other.2),
+          grind (arith, decimal_plain, ne_eqb, other.3),
     )
 
 pub returns-in-Err : goal.returns-in-Err

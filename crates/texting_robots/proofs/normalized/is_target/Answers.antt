@@ -1,5 +1,5 @@
 use Rattle.std.proofs.Common.{[], ◌∙◌, ap, arith, length, rules, sym}
-use Rattle.std.proofs.lemmas.{Bool.false≢true, List.nil_from_length, Option.none-some, Option.same_Some}
+use Rattle.std.proofs.lemmas.{List.nil_from_length, Option.none-some, Option.same_Some}
 use Rattle.texting_robots.specs.Internal.{Normalized.after_delimited}
 use Rattle.texting_robots.specs.declared.normalized.TheConstants.{FRAGMENT, QUERY}
 use Rattle.texting_robots.proofs.AllocationFreeLemmas.{tail_left, target_past, target_read}

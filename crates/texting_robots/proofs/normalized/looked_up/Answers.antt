@@ -1,4 +1,4 @@
-use Rattle.std.proofs.Common.{◌≡◌, ◌∙◌, ◌+◌, ◌*◌, ◌/◌, ◌<◌, ap, arith, get_or}
+use Rattle.std.proofs.Common.{◌≡◌, ◌∙◌, ◌+◌, ◌*◌, ◌/◌, ◌<◌, arith, get_or}
 use Rattle.std.proofs.Common.{length, refl, slice_index, sym, w8}
 use Rattle.std.proofs.lemmas.List.{ext_get_or, get_or-map, length-map}
 use Rattle.std.proofs.lemmas.Simd.{Each1-get_or, SwzOk-from_below, get_or-swz_l_below, length-swz_l}
@@ -16,6 +16,8 @@ returns c =
     let within : i < length places = omega (arith, length-swz_l w8 16 table 0 places) in
     let position = get_or places i 0 in
     let same : 16 * ((0 + i) / 16) + position ≡ position = omega (arith, c.fits-places.0) in
-    get_or-swz_l_below w8 16 table 0 places i within
-    (Each1-get_or (λ k. k < 16) places i 0 within c.requires)
-    ∙ ap (slice_index table) same ∙ sym (get_or-map (slice_index table) places i 0 0 within))
+    cc (
+      get_or-swz_l_below w8 16 table 0 places i within (Each1-get_or
+          (λ k. k < 16) places i 0 within c.requires),
+      get_or-map (slice_index table) places i 0 0 within,
+    ))

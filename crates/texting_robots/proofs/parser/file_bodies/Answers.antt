@@ -1,5 +1,4 @@
-use Rattle.std.proofs.Common.{arith}
-use Rattle.std.proofs.Common.{◌≤◌, length, rules, subst, sym}
+use Rattle.std.proofs.Common.{rules, arith}
 use Rattle.texting_robots.proofs.CountLemmas.{file_bodies_within}
 use Rattle.texting_robots.proofs.parser.file_bodies.Goals as goal
 

@@ -1,6 +1,4 @@
 use Rattle.std.proofs.Common.{arith}
-use Rattle.std.proofs.Common.{◌≤◌, ◌∙◌, ap, length, subst, sym}
-use Rattle.texting_robots.specs.Internal.{Line.lines_of}
 use Rattle.texting_robots.proofs.{CountLemmas.lines_within, CutFromFront.read_as_is}
 use Rattle.texting_robots.proofs.LineLemmas.{lines_are, lines_range}
 use Rattle.texting_robots.proofs.parser.lines.Goals as goal

@@ -1,5 +1,5 @@
 use Rattle.std.proofs.Common.{arith}
-use Rattle.std.proofs.{Common.sym, Common.◌∙◌, Common.lit<, lemmas.Str.Pattern.starts_char}
+use Rattle.std.proofs.{lemmas.Str.Pattern.starts_char}
 use Rattle.texting_robots.proofs.AllocationFreeLemmas.{slash_prepared}
 use Rattle.texting_robots.proofs.prepared.prepare.Goals as goal
 

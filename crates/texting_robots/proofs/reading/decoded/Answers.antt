@@ -1,6 +1,6 @@
 use Rattle.std.proofs.Common.{arith}
-use Rattle.std.proofs.{Common.◌∙◌, Common.sym, lemmas.Bool.false_from_ne_true}
-use Rattle.std.proofs.lemmas.Str.{IsUtf8-from_ascii, IsUtf8-from_is_utf8, is_utf8-from_IsUtf8}
+use Rattle.std.proofs.{lemmas.Bool.false_from_ne_true}
+use Rattle.std.proofs.lemmas.Str.{IsUtf8-from_is_utf8, is_utf8-from_IsUtf8}
 use Rattle.texting_robots.proofs.{NormalizedLemmas.plain_ascii}
 use Rattle.texting_robots.proofs.reading.decoded.Goals as goal
 

@@ -1,5 +1,5 @@
 use Rattle.std.proofs.Common.{ℕ, List, IsPermutation, ap, arith, refl, slice_get, subst, sym, ◌∙◌}
-use Rattle.std.{specs.Option.option_or, proofs.lemmas.List.append-nil, proofs.lemmas.Bool.false≢true}
+use Rattle.std.{specs.Option.option_or, proofs.lemmas.List.append-nil}
 use Rattle.texting_robots.specs.Executable.{delay_before_agents, file_lines, placed_in, rule_in}
 use Rattle.texting_robots.specs.{Group.group_name, Line.delay_in, Pattern.IsOverlong}
 use Rattle.texting_robots.{specs.Rules.PlacedRule, specs.Rules.Rule, proofs.CapturedLemmas.captured_walked}

@@ -1,7 +1,5 @@
 use Rattle.std.proofs.Common.{arith}
-use Rattle.std.proofs.Common.{◌≡◌, ◌∷◌, [], Some, sym, subst, ◌∙◌}
-use Rattle.std.proofs.{lemmas.Bool.Decides.Decides-eqb, lemmas.Slice.Eq.strip_prefix_is}
-use Rattle.texting_robots.specs.Pattern.{dollar, Matches}
+use Rattle.std.proofs.{lemmas.Slice.Eq.strip_prefix_is}
 use Rattle.texting_robots.proofs.{SegmentLemmas.only_wildcards_match}
 use Rattle.texting_robots.proofs.segments.closes.Goals as goal
 

@@ -2,7 +2,6 @@ use Rattle.std.proofs.Common.{◌+◌, arith}
 use Rattle.texting_robots.proofs.SearchLemmas.{IsFirstOpen, adds_entry, adds_more, longest_border, open_back}
 use Rattle.texting_robots.proofs.SearchLemmas.{open_farther, open_more, open_next}
 use Rattle.texting_robots.proofs.segments.push_borders.Goals.{then-segment-position}
-use Rattle.texting_robots.proofs.segments.push_borders.Goals.{else-segment-position+else-matched-gt0}
 use Rattle.texting_robots.proofs.segments.push_borders.Goals as goal
 
 pub loop-position-smaller-then-matched-gt0 : goal.loop-position-smaller-then-matched-gt0
@@ -34,12 +33,7 @@ loop-position-preserved c =
     let position = c.loop-position.position in
     let is_first = IsFirstOpen segment segment 1 (position + 1) (position + 1) in
     let first : is_first c.if-segment-position.matched =
-    elim c.if-segment-position.branch [
-      | then-segment-position w ↦ rw w.matched-is (open_more i.first w.if-segment-position.true)
-      | else-segment-position+else-matched-gt0 w ↦
-          rw w.matched-is (open_next i.first (omega arith) (omega arith) w.if-segment-position.false
-          (omega arith))
-    ] in
+    grind (arith, open_more, open_next, then-segment-position) in
     record {
       table = i.table;
       within = omega arith;

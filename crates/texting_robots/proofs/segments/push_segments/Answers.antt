@@ -1,7 +1,6 @@
-use Rattle.std.proofs.Common.{◌≡◌, ◌∷◌, [], Some, None, drop, length, arith, sym, ap, ◌∙◌}
-use Rattle.std.proofs.lemmas.Bool.{eqb-true, false≢true, iff_false, Decides.Decides-eqb}
+use Rattle.std.proofs.Common.{◌≡◌, length, arith, sym}
+use Rattle.std.proofs.lemmas.Bool.{eqb-true, iff_false}
 use Rattle.std.proofs.lemmas.{List.take_all, Slice.Eq.strip_prefix_is}
-use Rattle.texting_robots.specs.{Pattern.star}
 use Rattle.texting_robots.proofs.SegmentLemmas.{cut_closed, cut_first, cut_last, cut_more, cut_never}
 use Rattle.texting_robots.proofs.SegmentLemmas.{cut_open, IsFromStar}
 use Rattle.texting_robots.proofs.segments.push_segments.Goals as goal
@@ -15,8 +14,8 @@ returns-then-closes c =
     let following = c.in-Some.following in
     let is : IsFromStar left _ _ _ = record {
       following = following.now;
-      star_first = strip_prefix_is Decides-eqb left (star ∷ []) (Some following) c.in-Some.ensures.cases;
-      skips = c.split_at.ensures.back ∙ ap (λ n. drop n following.now) c.stars_len.ensures.value;
+      star_first = grind (arith, strip_prefix_is);
+      skips = cc;
       cut = c.cut_at_wildcard-in-Some.ensures;
     } in
     rw c.in_ok-span.ensures (cut_last c.loop-following.invariant is (c.closes.ensures.0 c.if-closes.true))
@@ -26,12 +25,7 @@ loop-following-preserved c =
     let i = c.loop-following.invariant in
     let left = c.loop-following.left.now in
     let following = c.in-Some.following in
-    let is : IsFromStar left _ _ _ = record {
-      following = following.now;
-      star_first = strip_prefix_is Decides-eqb left (star ∷ []) (Some following) c.in-Some.ensures.cases;
-      skips = c.split_at.ensures.back ∙ ap (λ n. drop n following.now) c.stars_len.ensures.value;
-      cut = c.cut_at_wildcard-in-Some.ensures;
-    } in
+    let is : IsFromStar left _ _ _ = grind (arith, strip_prefix_is) in
     let (table, put, is_table) = c.in_ok-push_borders.ensures in
     let at : c.in_ok-table.table ≡ length c.loop-following.borders.items
     = omega (arith, c.in_ok-table.ensures) in
@@ -41,7 +35,7 @@ loop-following-preserved c =
 pub returns-then-is_empty : goal.returns-then-is_empty
 returns-then-is_empty c =
     let left = c.loop-following.left.now in
-    let none : length left ≡ 0 = eqb-true (length left) 0 (sym c.if-is_empty.ensures) in
+    let none : length left ≡ 0 = eqb-true (length left) 0 (cc) in
     cut_open c.loop-following.invariant (sym (take_all 0 left (omega arith)))
 
 pub returns-then-closes-2 : goal.returns-then-closes-2
@@ -51,7 +45,4 @@ returns-then-closes-2 c =
 pub returns-else-closes-2 : goal.returns-else-closes-2
 returns-else-closes-2 c =
     let left = c.loop-following.left.now in
-    let some = λ (none : left ≡ []). false≢true (rw none at c.if-is_empty.ensures) in
-    let no_star = strip_prefix_is Decides-eqb left (star ∷ []) None c.in_default.ensures.cases in
-    let other = iff_false c.closes-else-is_empty.ensures c.if-closes-2.false in
-    cut_never c.loop-following.invariant some no_star other
+    grind (arith, cut_never, iff_false, strip_prefix_is)

@@ -1,5 +1,4 @@
-use Rattle.std.proofs.Common.{◌-◌, ◌+◌, length, take, drop, ◌∙◌, arith, ap, sym}
-use Rattle.texting_robots.specs.Internal.Segments.{is_wildcard}
+use Rattle.std.proofs.Common.{◌-◌, arith}
 use Rattle.texting_robots.proofs.LaneLemmas.{first_seen, last_seen, within_front}
 use Rattle.texting_robots.proofs.segments.wildcard_by_ends.Goals as goal
 

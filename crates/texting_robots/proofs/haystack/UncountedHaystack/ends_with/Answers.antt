@@ -1,4 +1,4 @@
-use Rattle.std.proofs.Common.{length, take, ◌-◌}
+use Rattle.std.proofs.Common.{◌-◌, arith}
 use Rattle.std.proofs.lemmas.{Bool.Decides.Decides-eqb, Slice.Eq.ends_is}
 use Rattle.texting_robots.proofs.haystack.UncountedHaystack.ends_with.Goals as goal
 
@@ -7,4 +7,4 @@ returns-clause-answer c =
     let rest = c.args.rest.now in
     let segment = c.args.segment.now in
     let h = ends_is Decides-eqb rest segment c.ends_with.result c.ends_with.ensures.value in
-    (λ yes. (take (length rest - length segment) rest, h.0 yes), λ (front, e). h.1 front e)
+    grind (arith, h.0, h.1)

@@ -1,6 +1,5 @@
-use Rattle.std.proofs.Common.{◌≡◌, ◌+◌, ◌-◌, drop, length, subst, ◌∙◌, arith}
+use Rattle.std.proofs.Common.{◌≡◌, ◌+◌, ◌-◌, arith}
 use Rattle.std.proofs.lemmas.Bool.{iff_false}
-use Rattle.texting_robots.specs.Internal.Segments.{IsRestAfterFirst}
 use Rattle.texting_robots.proofs.SearchLemmas.{open_back, open_found, open_none, after_found, found_nowhere}
 use Rattle.texting_robots.proofs.haystack.ViewHaystack.find.Goals as goal
 
@@ -16,7 +15,7 @@ loop-matched-preserved c =
     let differs = rw i.text at (iff_false c.same.ensures.answer c.if-same.false) in
     let longest = c.requires.table.borders c.loop-matched.matched (omega arith) (omega arith) in
     record {
-      text = c.same.ensures.text ∙ i.text;
+      text = cc;
       within = omega arith;
       matched = omega arith;
       first = open_back i.first (omega arith) c.loop-matched-test.true differs longest;
@@ -31,6 +30,4 @@ returns-clause-some c =
     let segment = c.args.segment.now in
     let position = c.loop-matched.position in
     let found = open_found i.first (omega arith) (omega arith) in
-    let end : position - length segment + length segment ≡ position = omega arith in
-    let first = after_found text segment c.args.rest c.requires.rest (position - length segment) found in
-    (omega arith, subst (λ n. IsRestAfterFirst segment (drop c.args.rest text) (drop n text)) end first)
+    grind (arith, after_found)

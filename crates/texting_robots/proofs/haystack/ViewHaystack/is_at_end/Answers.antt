@@ -1,4 +1,4 @@
-use Rattle.std.proofs.Common.{length, ap, eq-eqb, arith, length-drop}
+use Rattle.std.proofs.Common.{arith, length-drop}
 use Rattle.std.proofs.lemmas.{Bool.eqb-true, List.drop_all}
 use Rattle.texting_robots.proofs.haystack.ViewHaystack.is_at_end.Goals as goal
 
@@ -6,7 +6,4 @@ pub returns : goal.returns
 returns c =
     let text = c.args.self.now.text in
     let position = c.args.rest in
-    let left = length-drop position text in (
-      λ h. drop_all position text (let e = eqb-true position c.len.result h in omega arith),
-      λ h. eq-eqb position c.len.result (let none = ap length h in omega arith),
-    )
+    let left = length-drop position text in grind (arith, drop_all, eqb-true)

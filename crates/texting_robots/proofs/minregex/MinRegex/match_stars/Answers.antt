@@ -1,5 +1,4 @@
-use Rattle.std.proofs.Common.{arith}
-use Rattle.std.proofs.Common.{false, None, Some, refl, sym, ◌∙◌}
+use Rattle.std.proofs.Common.{None, Some, arith}
 use Rattle.std.proofs.lemmas.Bool.{Decides.Decides-eqb}
 use Rattle.std.proofs.lemmas.{List.Prefix.front_rest, Slice.Eq.strip_prefix_is}
 use Rattle.texting_robots.proofs.SegmentLemmas.{end_matches}
@@ -20,10 +19,7 @@ loop-left-init c =
     let rest = c.in-Some.rest.now in
     let (to, from) = stars_in_front text c.cut_at_star.ensures in
     let split = strip_prefix_is Decides-eqb text first (Some c.in-Some.rest) c.in-Some.ensures.cases in
-    let here = sym (front_rest text first rest split) in (
-      λ m. let (after, e, more) = to m in rw (here ∙ front_rest text first after e) more,
-      λ more. from (rest, split, more),
-    )
+    grind (arith, front_rest, to, from)
 
 pub loop-left-preserved : goal.loop-left-preserved
 loop-left-preserved c = grind (arith, stars_here, c.loop-left.invariant, c.in-Some-left.is)

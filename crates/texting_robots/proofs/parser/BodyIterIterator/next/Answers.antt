@@ -1,6 +1,5 @@
-use Rattle.std.proofs.Common.{◌∙◌, sym, ap, arith}
-use Rattle.std.proofs.lemmas.{Bool.Decides.nat_tests, List.nil_from_length}
-use Rattle.texting_robots.specs.Internal.Cut.{bodies_of, read_as}
+use Rattle.std.proofs.Common.{arith}
+use Rattle.std.proofs.lemmas.{List.nil_from_length}
 use Rattle.texting_robots.proofs.CutFromFront.{bodies_nil}
 use Rattle.texting_robots.proofs.parser.BodyIterIterator.next.Goals as goal
 

@@ -1,5 +1,5 @@
-use Rattle.std.proofs.Common.{◌∙◌, drop, length-drop, arith}
-use Rattle.texting_robots.specs.Internal.Cut.{body_len, end_len, read_as}
+use Rattle.std.proofs.Common.{◌∙◌, length-drop, arith}
+use Rattle.texting_robots.specs.Internal.Cut.{body_len}
 use Rattle.texting_robots.proofs.AgentLemmas.{advances, later_lines, passed_over}
 use Rattle.texting_robots.proofs.parser.agents.after_others.Goals as goal
 

@@ -12,8 +12,4 @@ pub loop-rest-preserved : goal.loop-rest-preserved
 loop-rest-preserved c =
     let seen =
     front_seen c.args.nul_ends c.loop-rest.rest.now 32 _ (omega arith) c.body_len_in-len.ensures in
-    let short = length-drop 32 c.loop-rest.rest.now in
-    rw c.split_at.ensures.back (record {
-      within = omega (arith, short, c.loop-rest.invariant.within);
-      passed = omega (arith, short, c.loop-rest.invariant.passed, seen.1 (omega arith));
-    })
+    grind (arith, length-drop, seen.1)

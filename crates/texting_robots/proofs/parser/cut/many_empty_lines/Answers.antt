@@ -8,16 +8,7 @@ loop-rest-preserved c =
     let rest = c.loop-rest.rest.now in
     let all = sym c.all_feed.ensures ∙ c.if-all_feed.true in
     let seen = all_seen (is_feed c.args.nul_ends) 32 rest (omega arith) all in
-    rw c.split_at.ensures.back (record {
-      within = omega (arith, length-drop 32 rest, c.loop-rest.invariant.within);
-      same = omega (
-        arith,
-        seen,
-        length-drop 32 rest,
-        c.loop-rest.invariant.within,
-        c.loop-rest.invariant.same,
-      );
-    })
+    grind (arith, length-drop)
 
 pub returns-clause-value : goal.returns-clause-value
 returns-clause-value c =

@@ -7,4 +7,4 @@ loop-rest-preserved c =
     let rest = c.loop-rest.rest.now in
     let all = sym c.all_are.ensures ∙ c.if-all_are.true in
     rw c.split_at.ensures.back
-    (past_returns c.args.nul_ends 32 rest all (omega arith) ∙ c.loop-rest.invariant)
+    (cc (past_returns c.args.nul_ends 32 rest all (omega arith)))

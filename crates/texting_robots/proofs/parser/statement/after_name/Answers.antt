@@ -1,6 +1,5 @@
 use Rattle.std.proofs.Common.{arith}
-use Rattle.std.proofs.Common.{◌∙◌, ap, map, sym, drop}
-use Rattle.std.{specs.Char.to_ascii_lowercase, proofs.lemmas.Bool.true≢false, proofs.lemmas.List.length-map}
+use Rattle.std.{proofs.lemmas.List.length-map}
 use Rattle.texting_robots.proofs.StatementLemmas.{written_same, written_other}
 use Rattle.texting_robots.proofs.parser.statement.after_name.Goals as goal
 

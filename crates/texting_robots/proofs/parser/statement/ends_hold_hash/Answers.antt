@@ -1,5 +1,4 @@
-use Rattle.std.proofs.Common.{◌∙◌, ◌==◌, sym, arith}
-use Rattle.texting_robots.specs.Internal.Statement.{hash}
+use Rattle.std.proofs.Common.{arith}
 use Rattle.texting_robots.proofs.LabelLemmas.{either_end, front_tells}
 use Rattle.texting_robots.proofs.parser.statement.ends_hold_hash.Goals as goal
 

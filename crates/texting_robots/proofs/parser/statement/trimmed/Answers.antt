@@ -1,5 +1,4 @@
 use Rattle.std.proofs.Common.{arith}
-use Rattle.std.proofs.Common.{sym}
 use Rattle.texting_robots.proofs.TrimLemmas.{graphic_ends}
 use Rattle.texting_robots.proofs.parser.statement.trimmed.Goals as goal
 

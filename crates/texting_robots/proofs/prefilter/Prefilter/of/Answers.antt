@@ -1,4 +1,4 @@
-use Rattle.std.proofs.Common.{refl}
+use Rattle.std.proofs.Common.{arith}
 use Rattle.std.specs.Int.{Bits.or_self, Bits.or_zero_l}
 use Rattle.std.proofs.lemmas.List.{drop_all, drop_more}
 use Rattle.texting_robots.specs.Internal.Segments.{AreWithin, no_segment}
@@ -13,8 +13,7 @@ loop-segment-preserved c =
     let next =
     drop_more c.pattern.inside.segments.now c.loop-segment.segment-index no_segment
     c.loop-segment-test.true in
-    rw c.and-pairs.ensures (within_moved c.loop-segment.pairs.bits _ _ _ _
-    (rw c.part.ensures at c.end_pairs.ensures) (rw next at c.loop-segment.invariant))
+    grind (arith, within_moved)
 
 pub returns : goal.returns
 returns c =
@@ -23,5 +22,5 @@ returns c =
     let ending = c.pattern.inside.ends.ending in
     let none = drop_all c.loop-segment.segment-index segments c.loop-segment-test.false in
     let all : AreWithin c.and.result.bits (segment_pairs pattern ending segments) =
-    rw (c.and.ensures, c.ending_pairs.ensures) (rw none at c.loop-segment.invariant) in
+    grind arith in
     rw (← c.pattern.view_is) (are_prefilter _ c.pattern.invariant c.of-head.ensures all)

@@ -1,11 +1,10 @@
-use Rattle.std.proofs.Common.{arith}
-use Rattle.std.proofs.Common.{◌≡◌, ℕ, List, ap, length, min, take, ◌∙◌}
+use Rattle.std.proofs.Common.{◌≡◌, ℕ, List, length, min, take, arith}
 use Rattle.std.proofs.lemmas.{Bool.false≢true, List.take_min}
 use Rattle.texting_robots.proofs.MainTheoremLemmas.{if_err, nothing_of, robot_of}
 use Rattle.texting_robots.proofs.robot.Robot.with_limit.Goals as goal
 
 read : (limit n : ℕ) (txt : List ℕ) → n ≡ min limit (length txt) → take n txt ≡ take limit txt
-read limit n txt is = ap (λ n. take n txt) is ∙ take_min _ _
+read limit n txt is = cc (take_min _ _)
 
 pub returns-clause-robot : goal.returns-clause-robot
 returns-clause-robot c = grind (arith, read, robot_of)

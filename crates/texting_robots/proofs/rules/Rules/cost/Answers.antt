@@ -1,4 +1,4 @@
-use Rattle.std.proofs.Common.{◌≡◌, ◌+◌, ◌<◌, ap, arith, get_or, length}
+use Rattle.std.proofs.Common.{◌≡◌, ◌<◌, ap, arith, get_or, length}
 use Rattle.std.proofs.lemmas.{List.get_or_default}
 use Rattle.texting_robots.specs.{Cost.looks_of, View.seen_of}
 use Rattle.texting_robots.specs.Internal.Segments.{no_entry, pattern_of}
@@ -16,13 +16,4 @@ loop-entry-preserved c =
     let pattern = rw items at c.pattern.ensures in
     let most : c.most_looks-looks.result ≡ seen_of (looks_of (pattern_of all entry) n) =
     rw pattern at c.most_looks-looks.ensures in
-    let more = cost_more all n at entry below (get_or_default all.entries.items at no_entry entry below) in
-    let is : c.saturating_add-cost.result ≡ seen_of (cost_upto all n (at + 1)) =
-    omega (
-      arith,
-      c.loop-entry.invariant,
-      most,
-      more,
-      c.saturating_add.ensures,
-      c.saturating_add-cost.ensures,
-    ) in is
+    grind (arith, cost_more, cost_upto, get_or_default)

@@ -1,5 +1,6 @@
-use Rattle.std.proofs.{Common.ap, Common.sym, lemmas.List.get_or_read}
-use Rattle.texting_robots.specs.{declared.rules.Entry.Entry, Internal.Segments.no_entry}
+use Rattle.std.proofs.Common.{arith}
+use Rattle.std.proofs.{lemmas.List.get_or_read}
+use Rattle.texting_robots.specs.{Internal.Segments.no_entry}
 use Rattle.texting_robots.proofs.FirstLemmas.{first_decides, first_line}
 use Rattle.texting_robots.proofs.rules.Unsorted.decision_at.Goals as goal
 
@@ -10,10 +11,5 @@ returns c = λ text differs found.
     let is = get_or_read all.entries.items c.args.at _ found.0 c.index-entry.ensures no_entry in
     record {
       verdict = rw is (first_decides all c.requires.known.known sorted text c.args.at found differs);
-      deciding = (
-        differs,
-        _,
-        first_line all c.requires.known.known sorted text c.args.at found,
-        ap (λ (e : Entry). e.line) (sym is),
-      );
+      deciding = grind (arith, first_line);
     }

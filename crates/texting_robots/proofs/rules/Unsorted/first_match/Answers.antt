@@ -44,5 +44,4 @@ returns-then-is_match-clause-cost g c =
     let all = c.args.self.now in
     let n = length (g.A.Haystack.seen c.args.haystack.now).text in
     let more = cost_more all n c.loop-at.at c.index.result.now (omega arith) c.index.ensures in
-    let whole = cost_within all n (c.loop-at.at + 1) in
-    omega (arith, i.tried.spent, rw i.tried.text at c.is_match.ensures.cost, more, whole)
+    grind (arith, cost_within)

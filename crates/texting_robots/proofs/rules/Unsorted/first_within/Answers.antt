@@ -17,8 +17,7 @@ returns-then-left-most_looks-clause-costly c =
     let n = length c.args.view.now.text in
     let most = rw (c.pattern-pattern.ensures, c.len-len.ensures) at c.most_looks.ensures in
     let more = cost_more all n c.loop-at.at c.index.result.now (omega arith) c.index.ensures in
-    let whole = cost_within all n (c.loop-at.at + 1) in
-    omega (arith, c.loop-at.invariant.tried.spent, c.seen.ensures, most, more, whole)
+    grind (arith, cost_within)
 
 pub loop-at-preserved-then-at-near : goal.loop-at-preserved-then-at-near
 loop-at-preserved-then-at-near c =
@@ -28,13 +27,7 @@ loop-at-preserved-then-at-near c =
     let near = c.near-near.result in
     let looks = c.count.ensures.looks in
     let counts = cost_counts all (length c.args.view.now.text) at near (omega arith) (omega arith) in
-    record {
-      at = omega arith;
-      tried = tried_to all _ _ _ at near (c.near-near.ensures.apart _ c.requires.pairs)
-          c.count.ensures.text (omega (arith, looks)) (omega (arith, looks, counts)) i.tried;
-      visits = omega (arith, i.visits, looks);
-      within = omega (arith, looks, c.seen.ensures);
-    }
+    grind (arith, tried_to, c.near-near.ensures.apart)
 
 pub loop-at-preserved : goal.loop-at-preserved
 loop-at-preserved c =
@@ -47,7 +40,7 @@ loop-at-preserved c =
     record {
       at = omega arith;
       tried = tried_more all _ _ _ c.loop-at.at c.index.result.now (omega arith) c.index.ensures
-          (iff_false is.answer c.if-matches.false) (c.matches.ensures.looks.text ∙ counted.text)
+          (iff_false is.answer c.if-matches.false) (cc)
           (omega (arith, one, is.looks.looks)) (omega (arith, one, is.cost)) i.tried;
       visits = omega (arith, i.visits, one, is.looks.looks);
       within = omega (arith, one, is.cost, most, c.seen.ensures);

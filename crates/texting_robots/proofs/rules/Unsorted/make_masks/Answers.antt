@@ -1,5 +1,4 @@
-use Rattle.std.proofs.Common.{arith, refl}
-use Rattle.std.specs.Vec.{vec_len}
+use Rattle.std.proofs.Common.{arith}
 use Rattle.texting_robots.proofs.VerdictLemmas.{at_most}
 use Rattle.texting_robots.proofs.rules.Unsorted.make_masks.Goals as goal
 

@@ -12,7 +12,7 @@ returns-clause-apart c = λ text known k above below matches.
     let bits = rw c.in-Some.is at known in
     elim (cases_lt at k) [
       | inl later ↦ none_apart all text (at + 1) c.first_near.result c.requires.known c.requires.masked
-          (rw (c.deref-2.ensures.value, bits) at c.first_near.ensures.apart) k (omega arith) below matches
+          (grind arith) k (omega arith) below matches
       | inr early ↦
           let same : k ≡ at = omega arith in
           let here = subst (λ n. MatchesAt all n text) same matches in
@@ -26,10 +26,7 @@ returns-clause-apart c = λ text known k above below matches.
                   c.requires.masked at low,
                 ) (mask_within all _ is text here)
             | in-None w ↦
-                let entry = w.index.result.now in
-                let found = w.index.ensures in
-                let read = get_or_read all.entries.items at entry c.requires.within found no_entry in
-                rw (w.mask-is, read) (is.needed text here).pairs
+                grind (arith, get_or_read, w.index.result.now, w.index.ensures, is.needed)
           ] in
           iff_false c.are_within.ensures c.if-are_within.false (rw bits within)
     ]

@@ -1,6 +1,4 @@
-use Rattle.std.proofs.Common.{arith}
-use Rattle.std.proofs.Common.{◌++◌, ap, map, sym, ◌∙◌}
-use Rattle.texting_robots.specs.Executable.{file_lines}
+use Rattle.std.proofs.Common.{◌++◌, ap, map, sym, ◌∙◌, arith}
 use Rattle.texting_robots.proofs.RulesLemmas.{given_more}
 use Rattle.texting_robots.proofs.SiteNameLemmas.{all_left, left_again, left_at, left_first, agent_at}
 use Rattle.texting_robots.proofs.site.Site.agents.Goals as goal

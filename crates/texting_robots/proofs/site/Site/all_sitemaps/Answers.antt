@@ -1,6 +1,4 @@
 use Rattle.std.proofs.Common.{arith}
-use Rattle.std.proofs.{Common.ap, Common.sym, Common.◌∙◌, lemmas.Bool.false≢true}
-use Rattle.texting_robots.specs.{Executable.sitemap_in, Internal.Site.listed}
 use Rattle.texting_robots.proofs.SiteOwnLemmas.{listed_more, none_at}
 use Rattle.texting_robots.proofs.site.Site.all_sitemaps.Goals as goal
 

@@ -1,7 +1,5 @@
 use Rattle.std.proofs.Common.{arith}
-use Rattle.std.proofs.Common.{◌==◌, ap, length, not, sym, ◌∙◌}
 use Rattle.std.proofs.lemmas.List.{length-map}
-use Rattle.texting_robots.specs.{Executable.file_lines, Internal.Site.named_of}
 use Rattle.texting_robots.proofs.SiteRunLemmas.{has_names}
 use Rattle.texting_robots.proofs.site.Site.has_agents.Goals as goal
 

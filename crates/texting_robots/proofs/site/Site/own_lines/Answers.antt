@@ -1,4 +1,4 @@
-use Rattle.std.proofs.Common.{◌≡◌, ℕ, List, map, subst, sym, ◌∙◌}
+use Rattle.std.proofs.Common.{◌≡◌, ℕ, List, map, subst}
 use Rattle.texting_robots.specs.Executable.{file_lines}
 use Rattle.texting_robots.specs.Internal.Site.{delay_of, rule_of, tag_at, tagged}
 use Rattle.texting_robots.proofs.SiteLemmas.{delays_of_runs, rules_of_runs}
@@ -12,7 +12,7 @@ returns c =
     let named_is = rw c.self.view_is at c.self.invariant.names_are in
     let kept = rw (← c.deref-2.ensures.value, c.self.view_is) at c.self.invariant.groups_are in
     let tagged_is = subst (λ (text : List ℕ). map (tag_at text) c.deref-2.result.now ≡ tagged lines)
-    (sym (c.deref.ensures.value ∙ c.self.view_is)) kept in
+    (cc) kept in
     record {
       rules = given_whole rule_of _ _ _ _ _ lines named_is tagged_is c.new.ensures (rules_of_all agent lines)
           (λ some. rw c.group_name.ensures (rules_of_runs agent lines some));

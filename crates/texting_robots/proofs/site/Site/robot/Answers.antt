@@ -1,5 +1,4 @@
-use Rattle.std.proofs.Common.{arith}
-use Rattle.std.proofs.Common.{List, subst, sym, ◌∙◌, ℕ}
+use Rattle.std.proofs.Common.{List, subst, sym, ◌∙◌, ℕ, arith}
 use Rattle.std.proofs.lemmas.Bool.{false≢true}
 use Rattle.texting_robots.specs.Robot.{IsRobotOfFile}
 use Rattle.texting_robots.proofs.MainTheoremLemmas.{nothing_of, sitemaps_of}

@@ -1,4 +1,4 @@
-use Rattle.std.proofs.Common.{ap, arith, map, sym, ◌∙◌}
+use Rattle.std.proofs.Common.{ap, arith, map, ◌∙◌}
 use Rattle.std.proofs.lemmas.List.{take_all}
 use Rattle.std.specs.List.{filter_map}
 use Rattle.texting_robots.specs.{Executable.file_lines, Internal.Site.listed, Rules.AreSitemapsOf}

@@ -10,8 +10,7 @@ returns-in-Some c = grind (arith, front_line, c.in-Some.ensures.lookup)
 pub returns-in_default : goal.returns-in_default
 returns-in_default c = elim c.in_default.branch [
   | in_default-via-in-Some+else-line-run w ↦
-      let (_, is, _, (within, _), _) = w.in-Some.ensures.lookup in
-      front_other c.args.text.now c.args.lines.now c.args.at c.args.run _ within is w.if-line-run.false
+      grind (arith, front_other, w.in-Some.ensures.lookup)
   | in_default-via-in_default w ↦
       let (_, _, _, past, _) = w.in_default.ensures.lookup in
       front_past c.args.text.now c.args.lines.now c.args.at c.args.run past

@@ -1,7 +1,7 @@
-use Rattle.std.proofs.Common.{◌++◌, ap, arith, drop, length, map, refl, sym, ◌∙◌}
+use Rattle.std.proofs.Common.{ap, arith, drop, length, map, sym, ◌∙◌}
 use Rattle.std.proofs.lemmas.{List.length-map, Option.slice_get_past}
-use Rattle.std.specs.{Prelude.filter, Str.str_to_ascii_lowercase}
-use Rattle.texting_robots.specs.Internal.Site.{is_later, Tagged, named_of, tag_at}
+use Rattle.std.specs.{Str.str_to_ascii_lowercase}
+use Rattle.texting_robots.specs.Internal.Site.{named_of, tag_at}
 use Rattle.texting_robots.proofs.SiteNameLemmas.{agent_at}
 use Rattle.texting_robots.proofs.SiteOwnLemmas.{at_end, first_kept, next_run, same_run}
 use Rattle.texting_robots.proofs.site.own.next_line.Goals as goal

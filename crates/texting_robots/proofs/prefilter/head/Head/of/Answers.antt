@@ -1,4 +1,4 @@
-use Rattle.std.proofs.Common.{◌≡◌, drop, length, take, take-append-drop}
+use Rattle.std.proofs.Common.{◌≡◌, drop, length, take, take-append-drop, arith}
 use Rattle.std.proofs.lemmas.List.{length-take-le}
 use Rattle.texting_robots.proofs.FirstLemmas.{same_masked}
 use Rattle.texting_robots.proofs.prefilter.head.Head.of.Goals as goal
@@ -10,7 +10,4 @@ returns c =
     let long : length (take len pattern) ≡ len = length-take-le len pattern c.requires in
     let masked =
     rw (take-append-drop len pattern, long) at (same_masked (take len pattern) (drop len pattern)) in
-    record {
-      mask = rw long c.mask_of-mask.ensures;
-      bytes = rw (c.front.ensures, c.mask_of-mask.ensures) masked;
-    }
+    grind arith

@@ -1,4 +1,4 @@
-use Rattle.std.proofs.Common.{◌<◌, ◌-◌, arith, length, sym, ◌∙◌}
+use Rattle.std.proofs.Common.{◌-◌, arith, sym, ◌∙◌}
 use Rattle.std.proofs.lemmas.Option.{slice_get_within}
 use Rattle.std.specs.Str.{str_to_ascii_lowercase}
 use Rattle.texting_robots.proofs.NameLemmas.{tested_names}
@@ -19,8 +19,7 @@ loop-position-preserved c =
     linked at
     c.index-position.ensures c.loop-position.invariant.here in record {
       here = next.here;
-      rest = next.rest ∙ passed name c.args.self.now c.loop-position.position _ at isnt
-          ∙ c.loop-position.invariant.rest;
+      rest = cc (passed name c.args.self.now c.loop-position.position _ at isnt);
     }
 
 pub returns-then-eq_ignore_ascii_case : goal.returns-then-eq_ignore_ascii_case
@@ -41,8 +40,4 @@ loop-position-smaller c =
     let at = agent_at c.self.inside.lines.items c.args.self.now c.loop-position.position c.index.result.now
     c.self.view_is
     (omega arith) c.index.ensures in
-    let more = further c.args.self.now _ _ c.loop-position.position c.index-position.result.now _ linked at
-    c.index-position.ensures in
-    let less : length c.args.self.now - c.index-position.result.now < length c.args.self.now -
-    c.loop-position.position =
-    omega (arith, more, slice_get_within c.args.self.now c.loop-position.position _ at) in less
+    grind (arith, further, slice_get_within)

@@ -1,7 +1,4 @@
 use Rattle.std.proofs.Common.{arith}
-use Rattle.std.proofs.Common.{ap, drop, length, refl, ◌∙◌, ◌+◌}
-use Rattle.std.specs.{List.position_or_len, Str.str_to_ascii_lowercase}
-use Rattle.texting_robots.specs.Internal.Site.{bucket_of, first_named, is_in}
 use Rattle.texting_robots.proofs.SiteNameLemmas.{first_here, from_bucket, head_is}
 use Rattle.texting_robots.proofs.site.names.Names.first.Goals as goal
 

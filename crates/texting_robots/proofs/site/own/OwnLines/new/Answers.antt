@@ -1,7 +1,7 @@
-use Rattle.std.proofs.Common.{ap, drop, map, refl, ◌∙◌, arith}
+use Rattle.std.proofs.Common.{map, refl, arith}
 use Rattle.std.specs.Str.{str_to_ascii_lowercase}
 use Rattle.std.proofs.lemmas.List.{length-map}
-use Rattle.texting_robots.specs.Internal.Site.{first_named, has_name, tag_at}
+use Rattle.texting_robots.specs.Internal.Site.{tag_at}
 use Rattle.texting_robots.proofs.{SiteNameLemmas.first_here, SiteOwnLemmas.whole_walk}
 use Rattle.texting_robots.proofs.site.own.OwnLines.new.Goals as goal
 
