@@ -189,17 +189,21 @@ vendor_warnings everywhere agents lines number (row ∷ rows) =
 abbrev pub sitemap_warning : List Label → Label → List WarningValue
 sitemap_warning labels label = warned_beside RepeatedSitemap label.number (line_before labels label)
 
--- about the rules of a group or of a crawler as a whole, and about all sitemaps
+-- about rules that are repeated in their group, and sitemaps in the file
+abbrev pub repeated_warnings : Bool → List Label → List WarningValue
+repeated_warnings everywhere labels =
+    warned_at RepeatedRule None (repeated everywhere labels) ++ flat_map (sitemap_warning labels) labels
+
+-- about the rules of a group or of a crawler as a whole, and about sitemaps
 abbrev pub group_warnings : Bool → List (List ℕ) → List LineValue → List Label → List WarningValue
 group_warnings everywhere agents lines labels =
     warned_at NonstandardEscape None (unpaired Standard everywhere labels)
     ++ (warned_at EscapedDelimiter None (unpaired Plain everywhere labels)
     ++ (crawler_warnings (is_empty_at labels) agents lines labels
     ++ (warned_at ReplacesStar (Some (Rules (star_count lines))) (replacing agents lines labels)
-    ++ (warned_at RepeatedRule None (repeated everywhere labels)
-    ++ (flat_map (sitemap_warning labels) labels
+    ++ (repeated_warnings everywhere labels
     ++ ((name_warnings labels ++ agent_warnings lines agents)
-    ++ vendor_warnings everywhere agents lines 0 crawlers))))))
+    ++ vendor_warnings everywhere agents lines 0 crawlers)))))
 
 abbrev pub general_warnings : FileFacts → (agents urls : List (List ℕ)) → List LineValue → List Label
     → List WarningValue

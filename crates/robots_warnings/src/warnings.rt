@@ -8,8 +8,8 @@ ghost use Rattle.robots_warnings.specs.{Checks.rule_checks, Checks.value_checks,
 ghost use Rattle.robots_warnings.specs.Internal.{Adds, Rules.warnings_at};
 ghost use Rattle.robots_warnings.specs.Warnings.{file_lines_warnings, general_warnings, group_warnings};
 ghost use Rattle.robots_warnings.specs.Warnings.{line_warnings, past_limit_warnings, position_warnings};
-ghost use Rattle.robots_warnings.specs.Warnings.{sitemap_warning, url_warnings, warned, warned_at};
-ghost use Rattle.robots_warnings.specs.Warnings.{warned_beside, warnings};
+ghost use Rattle.robots_warnings.specs.Warnings.{repeated_warnings, sitemap_warning, url_warnings, warned};
+ghost use Rattle.robots_warnings.specs.Warnings.{warned_at, warned_beside, warnings};
 
 use crate::checks::{
     Check, content_checks, field_checks, file_checks, form_checks, is_in_scope_of, plural_checks,
@@ -396,6 +396,20 @@ fn warn_of_sitemaps(
     Ok(())
 }
 
+fn warn_of_repeated(
+    alloc: Global,
+    found: &mut Found<'_>,
+    everywhere: bool,
+    labels: &[LabeledLine<'_>],
+) -> Result<(), AllocError>
+    ensures { OnOk result (Adds found.old.items found.new.items
+        (repeated_warnings everywhere (map label_by_value labels.now))) }
+{
+    let numbers = repeated(alloc, everywhere, labels)?;
+    warn_at(found, Cause::RepeatedRule, None, &numbers)?;
+    warn_of_sitemaps(alloc, found, labels)
+}
+
 fn warn_of_groups<'a>(
     alloc: Global,
     found: &mut Found<'a>,
@@ -417,9 +431,7 @@ fn warn_of_groups<'a>(
     let replacing = replacing(alloc, site, &star, agents, labels)?;
     let detail = Some(Detail::Rules(disallow_count(&star)));
     warn_at(found, Cause::ReplacesStar, detail, &replacing)?;
-    let repeated = repeated(alloc, everywhere, labels)?;
-    warn_at(found, Cause::RepeatedRule, None, &repeated)?;
-    warn_of_sitemaps(alloc, found, labels)?;
+    warn_of_repeated(alloc, found, everywhere, labels)?;
     warn_of_all_names(alloc, found, site, agents, labels)?;
     warn_of_vendors(found, everywhere, site, agents, crawlers())
 }
