@@ -59,7 +59,7 @@ def reached(path):
     return seen
 
 
-@pytest.mark.parametrize("module", ["lib", "one_agent", "robot", "decision", "address", "error", "escape"])
+@pytest.mark.parametrize("module", ["lib", "in_file", "robot", "decision", "address", "error", "escape"])
 def test_public_contracts_rest_on_specifications(module):
     assert not [name for name in reached(LIBRARY / f"src/{module}.rt") if re.match(r"(Executable|Internal)\b", name)]
 

@@ -83,10 +83,10 @@ def test_numbers_of_explanations(name, words, none, some):
 
 
 def test_theorems_are_named():
-    """The theorems that explanations name are those of `warnings_laws`."""
-    laws = set(re.findall(r"pub fn (\w+)", (CRATES / "warnings_laws/src/laws.rt").read_text()))
+    """The theorems that explanations name are those of `warning_theorems`."""
+    theorems = set(re.findall(r"pub fn (\w+)", (CRATES / "warning_theorems/src/theorems.rt").read_text()))
     named = {theorem for name in WARNINGS for line in explained(name)[1] for theorem in re.findall(r"\(theorem (\w+)\)$", line)}
-    assert named <= laws and len(named) > 10
+    assert named <= theorems and len(named) > 10
 
 
 @pytest.mark.parametrize("option", [["--list-warnings"], ["--explain", "missing-slash"]], ids=["list", "explain"])

@@ -13,7 +13,7 @@ FAILED = r"(?:\b(?:\w+::)*(?:AllocError|AllocFailed|OutOfMemory|Overflow|Memory|
 
 # Where else the sources construct such an error, and why.
 CONSTRUCTED = {
-    ("audit_core/src/fault.rt", "Fault::Memory"): "`write!` into a report fails only if an allocation does",
+    ("audit_core/src/error.rt", "Error::Memory"): "`write!` into a report fails only if an allocation does",
     ("texting_robots/src/segments.rt", "AllocError"): "an index has more than 32 bits, as none has in a file of at most `FILE_LIMIT` bytes",
     ("robots_examples/src/tests.rt", "CacheError::Memory"): "an error whose message is printed",
     ("texting_robots_tests/src/files.rt", "-2"): "a verdict by line 2",
@@ -81,7 +81,7 @@ def test_allocation_errors_come_from_calls_that_allocate():
         "Err(_) => Err(Error::Memory),",
         "Err(Error::Memory | Error::InvalidRule) => Err(AllocError),",
         "Pair { left, right } => Err(Error::Memory),",
-        "Err(error) if is_memory(&error) => Err(Fault::Memory),",
+        "Err(error) if is_memory(&error) => Err(Error::Memory),",
         "_ => { return Err(AllocError); }",
         "_ => checked.ok_or(Error::Memory)?,",
         '_ => say("a \\\n b", Error::Memory),',

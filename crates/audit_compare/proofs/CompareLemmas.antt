@@ -12,7 +12,7 @@ use Rattle.texting_robots.specs.Callers.{IsDenied, IsVerdict, LineValue, PlacedR
 use Rattle.texting_robots.specs.Callers.{rules_for, unplaced}
 use Rattle.texting_robots.specs.{Decision.IsDecisionOn, declared.decision.Decision.Decision}
 use Rattle.texting_robots.proofs.Shared.{one_verdict}
-use Rattle.audit_core.specs.{Asked.asked_target}
+use Rattle.audit_core.specs.{Target.asked_target}
 use Rattle.audit_core.specs.Audit.{IsRuling, IsVerdictOn, VerdictValue}
 use Rattle.audit_core.proofs.{AuditLemmas.none_of}
 use Rattle.audit_compare.specs.Compare.{ComparedValue, IsCompared, has_rule, has_same_rules, is_same_decision}

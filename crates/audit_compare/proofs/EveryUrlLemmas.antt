@@ -3,8 +3,9 @@ use Rattle.std.proofs.Common.{ℕ, List, [], ◌∷◌, Err, IfOk, None, Ok, Opt
 use Rattle.std.specs.Option.{IfSome}
 use Rattle.texting_robots.specs.Callers.{RobotValue, lines_read, placed_rules}
 use Rattle.texting_robots.specs.{Decision.IsDecisionOn, declared.decision.Decision.Decision}
-use Rattle.audit_core.specs.{Asked.asked_target, Internal.IsReading, declared.audit.Reading.TheVariants.Accepted}
-use Rattle.audit_core.specs.declared.fault.Fault.{Fault}
+use Rattle.audit_core.specs.{Target.asked_target, Internal.IsReading}
+use Rattle.audit_core.specs.{declared.audit.Reading.TheVariants.Accepted}
+use Rattle.audit_core.specs.declared.error.Error.{Error}
 use Rattle.audit_core.proofs.{AuditLemmas.ruling_made}
 use Rattle.audit_compare.specs.declared.every_url.{Example.Example}
 use Rattle.audit_compare.specs.EveryUrl.{IsExample}
@@ -16,12 +17,12 @@ decided agent file url robot decision of by =
     (ruling_made (url ∷ []) file agent robot (record { url = url; decision = decision } ∷ []) of
     (record { url_is = refl; decided = by }, tt)).1.0.decided
 
-pub example_read : (agent older newer : List ℕ) (was is : RobotValue) (result : Result (Option Example) Fault)
+pub example_read : (agent older newer : List ℕ) (was is : RobotValue) (result : Result (Option Example) Error)
     → IsReading agent older (Accepted was) → IsReading agent newer (Accepted is)
     → IfOk result (λ found. IfSome found (IsExample was.rules is.rules))
     → IfOk result (λ found. IfSome found
     (IsExample (placed_rules agent (lines_read older)) (placed_rules agent (lines_read newer))))
-example_read agent older newer was is (Err fault) old new found = tt
+example_read agent older newer was is (Err error) old new found = tt
 example_read agent older newer was is (Ok None) old new found = tt
 example_read agent older newer was is (Ok (Some example)) old new found = record {
   was = decided agent older (string_bytes example.path) was example.older old found.was;

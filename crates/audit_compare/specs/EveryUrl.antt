@@ -3,7 +3,7 @@ use Rattle.std.specs.Prelude.{◌≢◌, Bool, true, false, List, codes, string_
 use Rattle.texting_robots.specs.Callers.{PlacedRule, unplaced}
 use Rattle.texting_robots.specs.{Decision.IsDecisionOn}
 use Rattle.robots_same.specs.Same.{HaveSameVerdicts}
-use Rattle.audit_core.specs.{Asked.asked_target}
+use Rattle.audit_core.specs.{Target.asked_target}
 use Rattle.audit_compare.specs.declared.every_url.{Example.Example, Verdicts.Verdicts}
 use Rattle.audit_compare.specs.declared.every_url.Verdicts.TheVariants.{Other, Same, Undecided}
 

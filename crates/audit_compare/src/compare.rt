@@ -12,7 +12,7 @@ use crate::differences::{all_unchanged, is_rejected};
 use crate::every_url::is_same;
 use crate::sitemaps::sitemaps_only_in;
 use audit_core::agents::agents_requested;
-use audit_core::fault::Fault;
+use audit_core::error::Error;
 use robots_warnings::facts::LineKinds;
 use robots_warnings::read::FileRead;
 use std::alloc::{AllocError, Global};
@@ -106,13 +106,13 @@ fn crawlers_of<'a>(
     older: &FileRead<'_>,
     newer: &FileRead<'_>,
     urls: &[&'a str],
-) -> Result<Vec<Compared<'a>>, Fault>
+) -> Result<Vec<Compared<'a>>, Error>
     requires older { IsRead older.now }
     requires newer { IsRead newer.now }
     ensures ok { IfOk result (λ crawlers. AllZip (IsCompared (map (λ url. url.now) urls.now)
         (lines_read older.now.bytes.now) (lines_read newer.now.bytes.now))
         (map (λ agent. agent.now) agents.now) crawlers.items) }
-    ensures fault { IfErr result (λ fault. fault ≡ Fault.Memory) }
+    ensures error { IfErr result (λ error. error ≡ Error.Memory) }
 {
     let budget = BUDGET / agents.len().max(1);
     let mut crawlers = Vec::with_capacity(alloc, agents.len())?;
@@ -131,10 +131,10 @@ pub fn compare<'a>(
     urls: &[&'a str],
     older: NamedFile<'a>,
     newer: NamedFile<'a>,
-) -> Result<Comparison<'a>, Fault>
+) -> Result<Comparison<'a>, Error>
     ensures ok { IfOk result (IsComparison (map (λ agent. agent.now) agents.now) (map (λ url. url.now) urls.now)
         older.entry.name.now older.entry.bytes.now newer.entry.name.now newer.entry.bytes.now) }
-    ensures fault { IfErr result (λ fault. fault ≡ Fault.Memory) }
+    ensures error { IfErr result (λ error. error ≡ Error.Memory) }
 {
     let old = FileRead::new(alloc, "*", older.bytes)?;
     let new = FileRead::new(alloc, "*", newer.bytes)?;

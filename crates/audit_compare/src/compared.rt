@@ -9,7 +9,7 @@ ghost use Rattle.robots_warnings.specs.Read.{IsRead};
 use crate::every_url::{Verdicts, verdicts_for};
 use crate::rule_sets::{RuleSet, rules_lacked};
 use audit_core::audit::{AgentAudit, Verdict, audit_for};
-use audit_core::fault::Fault;
+use audit_core::error::Error;
 use robots_same::rule::{Rule, rules_of};
 use robots_warnings::read::FileRead;
 use std::alloc::{AllocError, Global};
@@ -160,7 +160,7 @@ fn verdicts_of(
     newer: &FileRead<'_>,
     rules: &RuleChanges,
     budget: usize,
-) -> Result<Verdicts, Fault>
+) -> Result<Verdicts, Error>
     requires older { IsRead older.now }
     requires newer { IsRead newer.now }
     requires removed { rules.now.removed.items
@@ -169,7 +169,7 @@ fn verdicts_of(
         ≡ rules_only_in (file_lines newer.now.site) (file_lines older.now.site) agent.now }
     ensures ok { IfOk result (AreVerdicts (placed_rules agent.now (lines_read older.now.bytes.now))
         (placed_rules agent.now (lines_read newer.now.bytes.now))) }
-    ensures fault { IfErr result (λ fault. fault ≡ Fault.Memory) }
+    ensures error { IfErr result (λ error. error ≡ Error.Memory) }
 {
     if are_none(rules) {
         return Ok(Verdicts::Same);
@@ -186,12 +186,12 @@ pub(crate) fn compared_for<'a>(
     newer: &FileRead<'_>,
     urls: &[&'a str],
     budget: usize,
-) -> Result<Compared<'a>, Fault>
+) -> Result<Compared<'a>, Error>
     requires older { IsRead older.now }
     requires newer { IsRead newer.now }
     ensures ok { IfOk result (IsCompared (map (λ url. url.now) urls.now)
         (lines_read older.now.bytes.now) (lines_read newer.now.bytes.now) agent.now) }
-    ensures fault { IfErr result (λ fault. fault ≡ Fault.Memory) }
+    ensures error { IfErr result (λ error. error ≡ Error.Memory) }
 {
     let older_audit = audit_for(alloc, agent, older, urls, budget / 8)?;
     let newer_audit = audit_for(alloc, agent, newer, urls, budget / 8)?;

@@ -5,9 +5,9 @@ ghost use Rattle.texting_robots.specs.Callers.{lines_read, placed_rules, unplace
 ghost use Rattle.audit_compare.specs.EveryUrl.{AreVerdicts, IsExample, is_same};
 ghost use Rattle.robots_warnings.specs.Read.{IsRead};
 
-use audit_core::asked::decision_on;
 use audit_core::audit::{Reading, read_for};
-use audit_core::fault::Fault;
+use audit_core::error::Error;
+use audit_core::target::decision_on;
 use robots_same::compare::{Comparison, compare};
 use robots_same::rule::rules_of;
 use robots_warnings::read::FileRead;
@@ -45,9 +45,9 @@ fn example_on(
     older: &Robot,
     newer: &Robot,
     path: &str,
-) -> Result<Option<Example>, Fault>
+) -> Result<Option<Example>, Error>
     ensures ok { IfOk result (λ found. IfSome found (IsExample older.now.rules newer.now.rules)) }
-    ensures fault { IfErr result (λ fault. fault ≡ Fault.Memory) }
+    ensures error { IfErr result (λ error. error ≡ Error.Memory) }
 {
     let was = decision_on(alloc, older, path)?;
     let is = decision_on(alloc, newer, path)?;
@@ -67,9 +67,9 @@ fn example_among(
     older: &Robot,
     newer: &Robot,
     text: &[u8],
-) -> Result<Option<Example>, Fault>
+) -> Result<Option<Example>, Error>
     ensures ok { IfOk result (λ found. IfSome found (IsExample older.now.rules newer.now.rules)) }
-    ensures fault { IfErr result (λ fault. fault ≡ Fault.Memory) }
+    ensures error { IfErr result (λ error. error ≡ Error.Memory) }
 {
     if let Some(home) = example_on(alloc, older, newer, "/")? {
         return Ok(Some(home));
@@ -87,13 +87,13 @@ fn example_for(
     older: &FileRead<'_>,
     newer: &FileRead<'_>,
     text: &[u8],
-) -> Result<Option<Example>, Fault>
+) -> Result<Option<Example>, Error>
     requires older { IsRead older.now }
     requires newer { IsRead newer.now }
     ensures ok { IfOk result (λ found. IfSome found
         (IsExample (placed_rules agent.now (lines_read older.now.bytes.now))
         (placed_rules agent.now (lines_read newer.now.bytes.now)))) }
-    ensures fault { IfErr result (λ fault. fault ≡ Fault.Memory) }
+    ensures error { IfErr result (λ error. error ≡ Error.Memory) }
 {
     let Reading::Accepted(was) = read_for(alloc, agent, older)? else {
         return Ok(None);
@@ -112,12 +112,12 @@ pub(crate) fn verdicts_for(
     older: &FileRead<'_>,
     newer: &FileRead<'_>,
     budget: usize,
-) -> Result<Verdicts, Fault>
+) -> Result<Verdicts, Error>
     requires older { IsRead older.now }
     requires newer { IsRead newer.now }
     ensures ok { IfOk result (AreVerdicts (placed_rules agent.now (lines_read older.now.bytes.now))
         (placed_rules agent.now (lines_read newer.now.bytes.now))) }
-    ensures fault { IfErr result (λ fault. fault ≡ Fault.Memory) }
+    ensures error { IfErr result (λ error. error ≡ Error.Memory) }
 {
     let old_rules = rules_of(alloc, &older.site, agent)?;
     let new_rules = rules_of(alloc, &newer.site, agent)?;

@@ -5,7 +5,7 @@ pub mod compare;
 pub mod compared;
 mod differences;
 pub mod every_url;
-pub mod laws;
 pub mod report;
 mod rule_sets;
 mod sitemaps;
+pub mod theorems;

@@ -27,7 +27,7 @@ use Rattle.audit_core.specs.Internal.{AddsSitemaps, warnings_of}
 use Rattle.robots_warnings.specs.{Message.WarningValue}
 use Rattle.texting_robots.proofs.Shared.{delay_is_computed, answers_computed, lines_are_read, of_lines}
 use Rattle.texting_robots.proofs.Shared.{read_robot}
-use Rattle.audit_core.specs.{Asked.asked_target}
+use Rattle.audit_core.specs.{Target.asked_target}
 
 absorbed : (names : List (List ℕ)) (name key : List ℕ) → is_among name names ≡ true
     → (has_lowered key names || bytes_eq (str_to_ascii_lowercase name) key) ≡ has_lowered key names
@@ -95,7 +95,8 @@ zips_joined R [] (y ∷ ys) more others are too = absurd are
 zips_joined R (x ∷ xs) [] more others are too = absurd are
 zips_joined R (x ∷ xs) (y ∷ ys) more others are too = (are.0, zips_joined R xs ys more others are.1 too)
 
-warnings_joined : (rules : List PlacedRule) (one two : List (ℕ × List ℕ)) (verdicts others : List VerdictValue)
+warnings_joined : (rules : List PlacedRule) (one two : List (ℕ × List ℕ))
+    (verdicts others : List VerdictValue)
     → AllZip (IsVerdictOn rules) (map (λ sitemap. sitemap.1) one) verdicts
     → warnings_of (one ++ two) (verdicts ++ others) ≡ warnings_of one verdicts ++ warnings_of two others
 warnings_joined rules [] two [] others are = refl

@@ -3,10 +3,10 @@
 use Rattle.std.specs.Prelude.{◌≡◌, ℕ, true, false, List, [], Option, Result, Ok, Err, IfErr, IfOk}
 use Rattle.std.specs.Prelude.{string_bytes}
 use Rattle.std.specs.Io.KnownBytes.{Appends, Keeps}
-use Rattle.robots_io.specs.{Streams.AppendsBeginning, declared.streams.WriteFault.WriteFault}
+use Rattle.robots_io.specs.{Streams.AppendsBeginning, declared.streams.WriteError.WriteError}
 use Rattle.printable_text.specs.{Text.IsReport}
 use Rattle.audit_core.specs.declared.answer.{Answer.Answer, Outcome.Outcome}
-use Rattle.audit_core.specs.{declared.fault.Fault.Fault, Fault.fault_of_write}
+use Rattle.audit_core.specs.{declared.error.Error.Error, Error.error_of_write}
 
 -- a report as text; there are no warnings, and the exit status is 0
 pub record IsText (answer : Answer) : Type 0 where
@@ -17,13 +17,13 @@ pub record IsText (answer : Answer) : Type 0 where
   pub quiet : string_bytes answer.outcome.warnings ≡ []
 
 -- the report is written, or if the write fails a prefix of it
-pub record WritesReport (answer : Answer) (old new : Option (List ℕ)) (result : Result Outcome Fault)
+pub record WritesReport (answer : Answer) (old new : Option (List ℕ)) (result : Result Outcome Error)
     : Type 0 where
   pub ok : IfOk result (λ outcome. (outcome ≡ answer.outcome) × Appends old new answer.report.items)
-  pub fault : IfErr result (λ fault. (cause : WriteFault) × (fault ≡ fault_of_write cause))
+  pub error : IfErr result (λ error. (cause : WriteError) × (error ≡ error_of_write cause))
   pub beginning : AppendsBeginning old new answer.report.items
 
 -- after an error nothing is written
-abbrev pub Writes : Result Answer Fault → (old new : Option (List ℕ)) → Result Outcome Fault → Type 0
+abbrev pub Writes : Result Answer Error → (old new : Option (List ℕ)) → Result Outcome Error → Type 0
 Writes (Ok answer) old new result = WritesReport answer old new result
-Writes (Err fault) old new result = (result ≡ Err fault) × Keeps old new
+Writes (Err error) old new result = (result ≡ Err error) × Keeps old new

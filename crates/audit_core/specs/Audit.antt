@@ -1,6 +1,7 @@
 -- The audit of a file: its lines, what applies to each requested crawler, and the warnings.
 use Rattle.std.specs.Prelude.{◌≡◌, ◌⊎◌, ◌==◌, ℕ, Bool, false, true, List, [], ◌∷◌, ◌++◌, Option, Some, None}
-use Rattle.std.specs.Prelude.{bytes_eq, codes, count_by, filter, flat_map, if◌then◌else◌, is_none, is_some, length, map}
+use Rattle.std.specs.Prelude.{bytes_eq, codes, count_by, filter, flat_map, if◌then◌else◌, is_none, is_some}
+use Rattle.std.specs.Prelude.{length, map}
 use Rattle.std.specs.Prelude.{not, option_map, sum_by, take, zip}
 use Rattle.std.specs.{List.AllZip, List.list_all, List.list_any, List.position_from, Str.is_utf8}
 use Rattle.texting_robots.specs.Callers.{IsFirstOverlong, IsRejected, Label, LineValue, PlacedRule, Sitemap}
@@ -8,9 +9,10 @@ use Rattle.texting_robots.specs.Callers.{UserAgent, delay_for, file_limit, group
 use Rattle.texting_robots.specs.Callers.{is_named, lines_read, placed_rules}
 use Rattle.texting_robots.specs.{Agents.is_among, Group.is_agent, Decision.IsDecisionOn}
 use Rattle.texting_robots.specs.{declared.decision.Decision.Decision}
-use Rattle.audit_core.specs.{declared.group.Group.Group, declared.group.AtVendor.AtVendor, Request.RequestValue}
-use Rattle.audit_core.specs.{Needless.needless_warnings, Asked.asked_target, Chosen.chosen}
-use Rattle.rfc9309_laws.specs.{Conformance.conformance_of, declared.conformance.Conformance.Conformance}
+use Rattle.audit_core.specs.{declared.group.Group.Group, declared.group.AtVendor.AtVendor}
+use Rattle.audit_core.specs.{Request.RequestValue}
+use Rattle.audit_core.specs.{Needless.needless_warnings, Target.asked_target, Chosen.chosen}
+use Rattle.rfc9309.specs.{Conformance.conformance_of, declared.conformance.Conformance.Conformance}
 use Rattle.audit_core.specs.declared.group.AtVendor.TheVariants.{NoGroup, OtherGroup, Same}
 use Rattle.audit_core.specs.declared.group.Group.TheVariants.{Everyone, Named, Nobody, Star}
 use Rattle.robots_needless.specs.{Blocks.AreFoundIn, Needless.NeedlessValue, Needless.nothing}

@@ -2,12 +2,12 @@ pub mod Request
 pub mod Answer
 pub mod Texts
 pub mod Reach
-pub mod Fault
+pub mod Error
 pub mod Rows
-pub mod Asked
+pub mod Target
 pub mod Audit
 pub mod Chosen
-pub mod Content
+pub mod NotRobots
 pub mod Counts
 pub mod Needless
 pub mod Findings

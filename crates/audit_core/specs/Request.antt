@@ -5,12 +5,12 @@ use Rattle.std.specs.Prelude.{◌||◌, Contains, ◌∷◌, is_some, map, optio
 use Rattle.std.specs.{Global.Global, List.list_all, List.list_any, Char.is_ascii_digit, Str.byte}
 use Rattle.std.specs.declared.env.VarError.{VarError, TheVariants.NotPresent}
 use Rattle.robots_warnings.specs.{Rules.has, Crawlers.has_space_around, Crawlers.is_name_byte}
-use Rattle.audit_core.specs.declared.fault.Fault.{Fault, TheVariants.Memory}
-use Rattle.audit_core.specs.{declared.fault.Flaw.Flaw, Fault.IsArgument, declared.request.Request.Request}
+use Rattle.audit_core.specs.declared.error.Error.{Error, TheVariants.Memory}
+use Rattle.audit_core.specs.{declared.error.Flaw.Flaw, Error.IsArgument, declared.request.Request.Request}
 use Rattle.audit_core.specs.declared.request.Format.{Format}
 use Rattle.audit_core.specs.declared.request.Format.TheVariants.{Github, Html, Json, Sarif, Text}
 use Rattle.printable_text.specs.declared.level.{Level.Level}
-use Rattle.audit_core.specs.declared.fault.Flaw.TheVariants as flaw
+use Rattle.audit_core.specs.declared.error.Flaw.TheVariants as flaw
 
 -- `by_default` is what no value and `auto` mean
 abbrev pub requested_colors : Option (List ℕ) → (by_default : Bool) → Bool
@@ -52,11 +52,11 @@ abbrev pub name_flaw : List ℕ → Flaw
 name_flaw name = if has (byte ",") name then flaw.Names else flaw.Agent
 
 -- the error shows a name that no crawler has, or an allocation failed
-abbrev pub IsNoCrawlerIn : List (List ℕ) → Fault → Type 0
-IsNoCrawlerIn names fault =
-    (fault ≡ Memory)
+abbrev pub IsNoCrawlerIn : List (List ℕ) → Error → Type 0
+IsNoCrawlerIn names error =
+    (error ≡ Memory)
     ⊎ ((name : List ℕ) × Contains names name × (is_crawler_name name ≡ false)
-    × IsArgument name (name_flaw name) fault)
+    × IsArgument name (name_flaw name) error)
 
 abbrev pub single : List (List ℕ) → Option (List ℕ)
 single (agent ∷ []) = Some agent

@@ -1,7 +1,7 @@
 //! What a run answers: a report for standard output, an outcome for the exit status, and warnings.
 ghost use Rattle.audit_core.specs.Answer.{IsText, Writes};
 
-use crate::fault::Fault;
+use crate::error::Error;
 use printable_text::report::Report;
 use robots_io::streams::write_out;
 use std::alloc::Global;
@@ -46,12 +46,12 @@ pub fn text_answer(alloc: Global, report: Report) -> Answer
 ///
 /// # Errors
 ///
-/// `Fault::Closed` if the reader of the output has closed it, and `Fault::Write` if a write or a flush fails
+/// `Error::Closed` if the reader of the output has closed it, and `Error::Write` if a write or a flush fails
 /// in another way, or a write accepts no bytes.
 pub fn write_answer<W: Write>(
-    answer: Result<Answer, Fault>,
+    answer: Result<Answer, Error>,
     writer: &mut W,
-) -> Result<Outcome, Fault>
+) -> Result<Outcome, Error>
     ensures { Writes answer (W.contents writer.old) (W.contents writer.new) result }
 {
     let answer = answer?;

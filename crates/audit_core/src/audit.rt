@@ -11,15 +11,15 @@ ghost use Rattle.audit_core.specs.Reach.{IsReach};
 ghost use Rattle.robots_warnings.specs.{Message.WarningValue, Read.IsRead, Warnings.warnings};
 
 use crate::agents::agents_requested;
-use crate::asked::decision_on;
 use crate::chosen::choose;
-use crate::fault::Fault;
+use crate::error::Error;
 use crate::group::{AtVendor, Group, at_vendor, group_of, ignored_by, naming_line};
 use crate::needless::{add_needless, needless_rules};
 use crate::reach::{BUDGET, Reach, reach_of};
 use crate::request::Request;
 use crate::sitemaps::warn_of_sitemaps;
-use rfc9309_laws::conformance::{Conformance, conformance_of};
+use crate::target::decision_on;
+use rfc9309::conformance::{Conformance, conformance_of};
 use robots_needless::lines::Needless;
 use robots_same::rule::{Rule, rules_of};
 use robots_warnings::read::FileRead;
@@ -29,7 +29,7 @@ use std::alloc::{AllocError, Global};
 use std::marker::Model;
 use texting_robots::labels::LabeledLine;
 use texting_robots::robot::Decision;
-use texting_robots::{Rejection, Robot};
+use texting_robots::{Robot, RobotError};
 
 #[derive(Drop)]
 pub struct Verdict<'a> {
@@ -105,15 +105,15 @@ pub enum Reading {
 }
 
 /// How the file is read for the crawler.
-pub fn read_for(alloc: Global, agent: &str, read: &FileRead<'_>) -> Result<Reading, Fault>
+pub fn read_for(alloc: Global, agent: &str, read: &FileRead<'_>) -> Result<Reading, Error>
     requires { IsRead read.now }
     ensures ok { IfOk result (IsReading agent.now read.now.bytes.now) }
-    ensures fault { IfErr result (λ fault. fault ≡ Fault.Memory) }
+    ensures error { IfErr result (λ error. error ≡ Error.Memory) }
 {
     match read.site.robot_without_sitemaps(alloc, agent) {
         Ok(robot) => Ok(Reading::Accepted(robot)),
-        Err(Rejection::Overlong(line)) => Ok(Reading::Rejected(line)),
-        Err(Rejection::Memory) => Err(Fault::Memory),
+        Err(RobotError::Overlong(line)) => Ok(Reading::Rejected(line)),
+        Err(RobotError::Memory) => Err(Error::Memory),
     }
 }
 
@@ -121,10 +121,10 @@ fn verdicts_on<'a>(
     alloc: Global,
     robot: &Robot,
     urls: &[&'a str],
-) -> Result<Vec<Verdict<'a>>, Fault>
+) -> Result<Vec<Verdict<'a>>, Error>
     ensures ok { IfOk result (λ verdicts. AllZip (IsVerdictOn robot.now.rules) (map (λ url. url.now) urls.now)
         verdicts.items) }
-    ensures fault { IfErr result (λ fault. fault ≡ Fault.Memory) }
+    ensures error { IfErr result (λ error. error ≡ Error.Memory) }
 {
     let mut verdicts = Vec::with_capacity(alloc, urls.len())?;
     for url in urls {
@@ -138,10 +138,10 @@ pub(crate) fn ruling<'a>(
     alloc: Global,
     reading: &Reading,
     urls: &[&'a str],
-) -> Result<(Option<usize>, Vec<Verdict<'a>>), Fault>
+) -> Result<(Option<usize>, Vec<Verdict<'a>>), Error>
     ensures ok { IfOk result (λ ruling. (agent file : List ℕ) → IsReading agent file reading.now
         → IsRuling (map (λ url. url.now) urls.now) (lines_read file) agent ruling.0 ruling.1.items) }
-    ensures fault { IfErr result (λ fault. fault ≡ Fault.Memory) }
+    ensures error { IfErr result (λ error. error ≡ Error.Memory) }
 {
     match reading {
         Reading::Accepted(robot) => Ok((None, verdicts_on(alloc, robot, urls)?)),
@@ -183,12 +183,12 @@ fn agent_audit<'a>(
     read: &FileRead<'_>,
     urls: &[&'a str],
     budget: usize,
-) -> Result<AgentAudit<'a>, Fault>
+) -> Result<AgentAudit<'a>, Error>
     requires read { IsRead read.now }
     requires reading { IsReading agent.now read.now.bytes.now reading.now }
     ensures ok { IfOk result (λ audit. IsAgentAudit (map (λ url. url.now) urls.now)
         (lines_read read.now.bytes.now) agent.now audit) }
-    ensures fault { IfErr result (λ fault. fault ≡ Fault.Memory) }
+    ensures error { IfErr result (λ error. error ≡ Error.Memory) }
 {
     let rules = rules_of(alloc, &read.site, agent)?;
     let vendor = at_vendor(agent, &read.site);
@@ -216,11 +216,11 @@ pub fn audit_for<'a>(
     read: &FileRead<'_>,
     urls: &[&'a str],
     budget: usize,
-) -> Result<AgentAudit<'a>, Fault>
+) -> Result<AgentAudit<'a>, Error>
     requires { IsRead read.now }
     ensures ok { IfOk result (λ audit. IsAgentAudit (map (λ url. url.now) urls.now)
         (lines_read read.now.bytes.now) agent.now audit) }
-    ensures fault { IfErr result (λ fault. fault ≡ Fault.Memory) }
+    ensures error { IfErr result (λ error. error ≡ Error.Memory) }
 {
     let reading = read_for(alloc, agent, read)?;
     agent_audit(alloc, agent, &reading, read, urls, budget)
@@ -234,12 +234,12 @@ fn audit_beside<'a>(
     read: &FileRead<'_>,
     urls: &[&'a str],
     budget: usize,
-) -> Result<AgentAudit<'a>, Fault>
+) -> Result<AgentAudit<'a>, Error>
     requires read { IsRead read.now }
     requires star { IsReading (codes "*") read.now.bytes.now star.now }
     ensures ok { IfOk result (λ audit. IsAgentAudit (map (λ url. url.now) urls.now)
         (lines_read read.now.bytes.now) agent.now audit) }
-    ensures fault { IfErr result (λ fault. fault ≡ Fault.Memory) }
+    ensures error { IfErr result (λ error. error ≡ Error.Memory) }
 {
     if agent == "*" {
         return agent_audit(alloc, agent, star, read, urls, budget);
@@ -253,12 +253,12 @@ fn agent_audits<'a>(
     star: &Reading,
     read: &FileRead<'_>,
     urls: &[&'a str],
-) -> Result<Vec<AgentAudit<'a>>, Fault>
+) -> Result<Vec<AgentAudit<'a>>, Error>
     requires read { IsRead read.now }
     requires star { IsReading (codes "*") read.now.bytes.now star.now }
     ensures ok { IfOk result (λ audits. AllZip (IsAgentAudit (map (λ url. url.now) urls.now)
         (lines_read read.now.bytes.now)) (map (λ agent. agent.now) agents.now) audits.items) }
-    ensures fault { IfErr result (λ fault. fault ≡ Fault.Memory) }
+    ensures error { IfErr result (λ error. error ≡ Error.Memory) }
 {
     let budget = BUDGET / agents.len().max(1);
     let mut audits = Vec::with_capacity(alloc, agents.len())?;
@@ -287,7 +287,7 @@ fn all_warnings<'a>(
     star: &Reading,
     read: &FileRead<'_>,
     needless: &Needless,
-) -> Result<Vec<Warning<'a>>, Fault>
+) -> Result<Vec<Warning<'a>>, Error>
     requires read { IsRead read.now }
     requires star { IsReading (codes "*") read.now.bytes.now star.now }
     ensures ok { IfOk result (λ found. (sitemaps : List WarningValue)
@@ -296,7 +296,7 @@ fn all_warnings<'a>(
         (map (λ agent. agent.now) agents.now) (requested_by request.now).urls read.now.bytes.now read.now.facts
         (map label_by_value read.now.labels.items) (file_lines read.now.site)
         ++ needless_warnings needless.now) ++ sitemaps)) }
-    ensures fault { IfErr result (λ fault. fault ≡ Fault.Memory) }
+    ensures error { IfErr result (λ error. error ≡ Error.Memory) }
 {
     let everywhere = request.agent.is_none();
     let mut found = warnings(alloc, everywhere, agents, &request.urls, read)?;
@@ -310,11 +310,11 @@ fn audit_read<'a>(
     alloc: Global,
     request: &Request<'a>,
     read: FileRead<'a>,
-) -> Result<Audit<'a>, Fault>
+) -> Result<Audit<'a>, Error>
     requires read { IsRead read }
     requires labels { map label_by_value read.labels.items ≡ labels_requested (requested_by request.now) read.bytes.now }
     ensures ok { IfOk result (λ audit. IsAuditOf (requested_by request.now) read.entry.bytes.now audit) }
-    ensures fault { IfErr result (λ fault. fault ≡ Fault.Memory) }
+    ensures error { IfErr result (λ error. error ≡ Error.Memory) }
 {
     let names = agents_requested(alloc, &request.agents, &read.labels)?;
     let star = read_for(alloc, "*", &read)?;
@@ -341,9 +341,9 @@ pub fn audit_of<'a>(
     alloc: Global,
     request: &Request<'a>,
     file: &'a [u8],
-) -> Result<Audit<'a>, Fault>
+) -> Result<Audit<'a>, Error>
     ensures ok { IfOk result (λ audit. IsAuditOf (requested_by request.now) file.now audit) }
-    ensures fault { IfErr result (λ fault. fault ≡ Fault.Memory) }
+    ensures error { IfErr result (λ error. error ≡ Error.Memory) }
 {
     let read = FileRead::new(alloc, labeling_agent(request.agent), file)?;
     audit_read(alloc, request, read)

@@ -2,7 +2,7 @@
 ghost use Rattle.std.specs.Prelude.{◌≡◌, IfErr, OnOk, false, map};
 ghost use Rattle.audit_core.specs.Chosen.{IsInBoth, chosen, is_among_names, is_chosen, share_a_name};
 
-use crate::fault::{Fault, Flaw, argument};
+use crate::error::{Error, Flaw, argument};
 use robots_warnings::warning::Warning;
 use std::alloc::Global;
 
@@ -24,10 +24,10 @@ fn is_chosen(only: &[&str], ignored: &[&str], name: &str) -> bool
 }
 
 /// Fails with the first name in `only` that is in the other list, too.
-pub fn are_apart(alloc: Global, only: &[&str], ignored: &[&str]) -> Result<(), Fault>
+pub fn are_apart(alloc: Global, only: &[&str], ignored: &[&str]) -> Result<(), Error>
     ensures ok { OnOk result (share_a_name (map (λ name. name.now) only.now) (map (λ name. name.now) ignored.now)
         ≡ false) }
-    ensures fault { IfErr result (IsInBoth (map (λ name. name.now) only.now) (map (λ name. name.now) ignored.now)) }
+    ensures error { IfErr result (IsInBoth (map (λ name. name.now) only.now) (map (λ name. name.now) ignored.now)) }
 {
     for name in only {
         if is_among_names(ignored, name) {

@@ -4,7 +4,7 @@ ghost use Rattle.std.specs.{Char.is_ascii_digit, List.list_all, List.list_any};
 ghost use Rattle.audit_core.specs.Request.{single, IsNoCrawlerIn, has_version, is_crawler_name, is_own_name};
 ghost use Rattle.audit_core.specs.Request.{name_flaw};
 
-use crate::fault::{Fault, Flaw, argument};
+use crate::error::{Error, Flaw, argument};
 use robots_warnings::rules::has;
 use robots_warnings::tokens::{are_name_bytes, has_space_around};
 use std::alloc::Global;
@@ -56,9 +56,9 @@ pub fn single<'a>(agents: &[&'a str]) -> Option<&'a str>
 }
 
 /// Fails with the first of these names that no crawler has.
-pub fn are_crawlers(alloc: Global, names: &[&str]) -> Result<(), Fault>
+pub fn are_crawlers(alloc: Global, names: &[&str]) -> Result<(), Error>
     ensures ok { OnOk result (IsTrue (list_all is_crawler_name (map (λ name. name.now) names.now))) }
-    ensures fault { IfErr result (IsNoCrawlerIn (map (λ name. name.now) names.now)) }
+    ensures error { IfErr result (IsNoCrawlerIn (map (λ name. name.now) names.now)) }
 {
     for name in names {
         if !is_crawler_name(name) {

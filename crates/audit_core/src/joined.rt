@@ -11,7 +11,7 @@ use std::alloc::{AllocError, Global};
 use std::collections::BTreeSet;
 use std::fmt;
 
-type Numbers = BTreeSet<usize>;
+type LineNumbers = BTreeSet<usize>;
 
 fn has_shared_end(detail: Option<Detail>) -> bool
     ensures { result ≡ has_shared_end detail }
@@ -42,7 +42,7 @@ fn is_joined_as(number: usize, warning: &Warning<'_>) -> bool
 }
 
 /// None of the earlier warnings, whose reasons are `met`, has the line of this one. Its reason is inserted.
-fn is_first(met: &mut Numbers, warning: &Warning<'_>) -> Result<bool, AllocError>
+fn is_first(met: &mut LineNumbers, warning: &Warning<'_>) -> Result<bool, AllocError>
     ensures first { IfOk result (λ first. first
         ≡ not (is_joined warning.now && contains nat_cmp met.old (number_of warning.now.cause))) }
     ensures met { OnOk result ((number : ℕ) → contains nat_cmp met.new number

@@ -5,22 +5,22 @@
 
 pub mod agents;
 pub mod answer;
-pub mod asked;
 pub mod audit;
 pub mod chosen;
 pub mod color;
-pub mod content;
 pub mod counts;
 pub mod crawler;
-pub mod fault;
+pub mod error;
 pub mod findings;
 pub mod group;
 pub mod joined;
 mod needless;
+pub mod not_robots;
 pub mod reach;
 pub mod request;
 pub mod rows;
 pub mod sitemaps;
 pub mod syntax;
+pub mod target;
 pub mod texts;
 pub mod version;

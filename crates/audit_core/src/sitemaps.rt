@@ -6,9 +6,9 @@ ghost use Rattle.robots_warnings.specs.{File.lines_of, Internal.Adds, Message.Wa
 ghost use Rattle.audit_core.specs.Audit.{AreOfSitemaps, all_sitemaps, sitemap_at, sitemap_warning};
 ghost use Rattle.audit_core.specs.Internal.{AddsSitemaps, IsReading};
 
-use crate::asked::decision_on;
 use crate::audit::{Reading, Verdict};
-use crate::fault::Fault;
+use crate::error::Error;
+use crate::target::decision_on;
 use robots_warnings::closed::is_closed;
 use robots_warnings::read::FileRead;
 use robots_warnings::table::Cause;
@@ -93,10 +93,10 @@ fn warn_of_sitemap(
     found: &mut Vec<Warning<'_>>,
     robot: &Robot,
     labeled: &LabeledLine<'_>,
-) -> Result<(), Fault>
+) -> Result<(), Error>
     ensures ok { OnOk result (AddsSitemaps robot.now.rules
         (sitemap_at labeled.now.number (by_value labeled.now.line)) found.old.items found.new.items) }
-    ensures fault { IfErr result (λ fault. fault ≡ Fault.Memory) }
+    ensures error { IfErr result (λ error. error ≡ Error.Memory) }
 {
     let Some(url) = asked_about(alloc, labeled.line)? else {
         return Ok(());
@@ -111,10 +111,10 @@ fn warn_of_each(
     found: &mut Vec<Warning<'_>>,
     robot: &Robot,
     labels: &[LabeledLine<'_>],
-) -> Result<(), Fault>
+) -> Result<(), Error>
     ensures ok { OnOk result (AddsSitemaps robot.now.rules (all_sitemaps (map label_by_value labels.now))
         found.old.items found.new.items) }
-    ensures fault { IfErr result (λ fault. fault ≡ Fault.Memory) }
+    ensures error { IfErr result (λ error. error ≡ Error.Memory) }
 {
     for labeled in labels {
         warn_of_sitemap(alloc, found, robot, labeled)?;
@@ -129,13 +129,13 @@ pub(crate) fn warn_of_sitemaps(
     found: &mut Vec<Warning<'_>>,
     star: &Reading,
     read: &FileRead<'_>,
-) -> Result<(), Fault>
+) -> Result<(), Error>
     requires read { IsRead read.now }
     requires star { IsReading (codes "*") read.now.bytes.now star.now }
     ensures ok { OnOk result ((sitemaps : List WarningValue)
         × AreOfSitemaps (lines_read read.now.bytes.now) (map label_by_value read.now.labels.items) sitemaps
         × Adds found.old.items found.new.items sitemaps) }
-    ensures fault { IfErr result (λ fault. fault ≡ Fault.Memory) }
+    ensures error { IfErr result (λ error. error ≡ Error.Memory) }
 {
     let Reading::Accepted(robot) = star else {
         return Ok(());

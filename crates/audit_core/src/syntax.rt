@@ -1,13 +1,13 @@
 //! What a report says of a file by RFC 9309.
 
-use rfc9309_laws::conformance::Conformance;
+use rfc9309::conformance::Conformance;
 use std::fmt;
 use std::fmt::Write;
 use texting_robots::labels::LabeledLine;
 use texting_robots::parser::Line;
 
-/// If the file is in the grammar, and whether each verdict is the standard's; or the line at fault. Nothing is
-/// said of some files.
+/// If the file is in the grammar, and whether each verdict is the standard's; or the line that isn't. Nothing
+/// is said of some files.
 #[derive(Clone, Copy)]
 pub struct Standard(pub Conformance);
 

@@ -21,7 +21,7 @@ use Rattle.texting_robots.proofs.Shared.{any_unplaced, found_statement, statemen
 use Rattle.texting_robots.proofs.Shared.{rejection_is_computed}
 use Rattle.robots_needless.proofs.TogetherLemmas.{in_filter, to_filter}
 use Rattle.robots_warnings.specs.Conflicts.{IsEmptyDisallow, begins_with_d, is_empty_disallow}
-use Rattle.robots_warnings.specs.FieldNames.{without_front}
+use Rattle.robots_warnings.specs.FieldNames.{trim_blanks_start}
 use Rattle.robots_warnings.specs.{File.lines_of, Read.IsRead, declared.read.FileRead.FileRead}
 use Rattle.audit_expect.specs.OtherReading.{IsNormalDecision, normal_rule}
 use Rattle.audit_expect.specs.OtherReading.{AreOthers, IsOtherDecision}
@@ -35,17 +35,17 @@ is_disallow _ = false
 begins : (text : List ℕ) → begins_with_d text ≡ is_disallow (kind_by text)
 begins text = grind (arith, nat_tests)
 
-skipped : (body : List ℕ) → without_front body ≡ skip_blanks body
+skipped : (body : List ℕ) → trim_blanks_start body ≡ skip_blanks body
 skipped body = grind arith
 
 module _ (body : List ℕ) where
   selected : (kind : Kind) (value : List ℕ) → statement_of body ≡ Some (kind, value)
-      → begins_with_d (without_front body) ≡ is_disallow (Some kind)
+      → begins_with_d (trim_blanks_start body) ≡ is_disallow (Some kind)
   unfolding statement_of
   selected kind value stated = grind (arith, begins, option_and_then_some, same_Some, skipped)
 
   begins_so : (line : LineValue) → is_empty_disallow line body ≡ true
-      → begins_with_d (without_front body) ≡ true
+      → begins_with_d (trim_blanks_start body) ≡ true
   begins_so (Allow value) is = is
   begins_so _ is = cc
 

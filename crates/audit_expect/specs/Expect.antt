@@ -11,10 +11,10 @@ use Rattle.robots_warnings.specs.Crawlers.{is_wrong, meant}
 use Rattle.robots_warnings.specs.{Spellings.spelled, Targets.has_dot_segment}
 use Rattle.robots_warnings.specs.declared.spellings.Spelling.{TheVariants.Standard}
 use Rattle.robots_warnings.specs.{Facts.mark, Facts.without_start, Urls.is_absolute_url}
-use Rattle.audit_core.specs.declared.fault.{Entry.Entry, Fault.Fault, Flaw.Flaw}
-use Rattle.audit_core.specs.declared.fault.Fault.TheVariants.{Empty, Malformed, Memory}
-use Rattle.audit_core.specs.declared.fault.Flaw.TheVariants.{Agent, Form, Meant, NotUtf8, Path, Pattern, Url}
-use Rattle.audit_core.specs.{Request.is_crawler_name, Request.is_word, Fault.MalformedLine}
+use Rattle.audit_core.specs.declared.error.{EntryKind.EntryKind, Error.Error, Flaw.Flaw}
+use Rattle.audit_core.specs.declared.error.Error.TheVariants.{Empty, Malformed, Memory}
+use Rattle.audit_core.specs.declared.error.Flaw.TheVariants.{Agent, Form, Meant, NotUtf8, Path, Pattern, Url}
+use Rattle.audit_core.specs.{Request.is_crawler_name, Request.is_word, Error.MalformedLine}
 
 abbrev pub is_in : List ℕ → ℕ → Bool
 is_in separators byte = list_any (λ separator. separator == byte) separators
@@ -89,17 +89,17 @@ abbrev pub entries_of : {X : Type 0} → (ℕ → List ℕ → LineOf X) → Lis
 entries_of entry lines = unless_malformed (entries_from entry 1 lines) (malformed_from entry 1 lines)
 
 -- the error names all malformed lines of the file with this name, or an allocation failed
-abbrev pub IsLineFault : {X : Type 0} → List ℕ → Result (List X) (List MalformedLine) → Fault → Type 0
-IsLineFault name found (Malformed file malformed) =
+abbrev pub IsLineError : {X : Type 0} → List ℕ → Result (List X) (List MalformedLine) → Error → Type 0
+IsLineError name found (Malformed file malformed) =
     (string_bytes file ≡ name) × (found ≡ Err malformed.items)
-IsLineFault name found fault = fault ≡ Memory
+IsLineError name found error = error ≡ Memory
 
 -- the same, or the file has no such entries
-abbrev pub IsEntryFault : {X : Type 0} → List ℕ → Entry → Result (List X) (List MalformedLine) → Fault
+abbrev pub IsEntryError : {X : Type 0} → List ℕ → EntryKind → Result (List X) (List MalformedLine) → Error
     → Type 0
-IsEntryFault name entry found (Empty file other) =
+IsEntryError name entry found (Empty file other) =
     (string_bytes file ≡ name) × (found ≡ Ok []) × (other ≡ entry)
-IsEntryFault name entry found fault = IsLineFault name found fault
+IsEntryError name entry found error = IsLineError name found error
 
 -- the URL, or each path that the pattern matches, must be allowed to the crawler, or denied, by the line with
 -- this number

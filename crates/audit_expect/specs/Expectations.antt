@@ -12,7 +12,7 @@ use Rattle.audit_expect.specs.declared.checks.AtVendor.{AtVendor}
 use Rattle.audit_expect.specs.declared.checks.Judgment.{Judgment, TheVariants.Decided, TheVariants.Rejected}
 use Rattle.audit_expect.specs.declared.checks.Judgment.{TheVariants.Everywhere, TheVariants.Rewritten}
 use Rattle.audit_expect.specs.declared.checks.AtVendor.TheVariants.{Group, Nobody, Same}
-use Rattle.audit_core.specs.{Asked.asked_target, Audit.crawlers_in, Findings.Found}
+use Rattle.audit_core.specs.{Target.asked_target, Audit.crawlers_in, Findings.Found}
 use Rattle.audit_expect.specs.Expect.{ExpectationValue, expectations_in, is_any}
 use Rattle.audit_expect.specs.OtherReading.{IsNormalDecision, IsOtherDecision}
 use Rattle.audit_expect.specs.{Patterns.IsOnPaths, Patterns.holds}

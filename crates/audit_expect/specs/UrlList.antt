@@ -4,22 +4,22 @@ use Rattle.std.specs.Prelude.{◌&&◌, ◌||◌, Bool, Err, drop, if◌then◌e
 use Rattle.std.specs.{Char.is_ascii_whitespace, Str.byte, Str.is_utf8}
 use Rattle.std.specs.List.{find, prefix_len, suffix_len}
 use Rattle.audit_core.specs.Request.{is_crawler_name, is_word, RequestValue}
-use Rattle.audit_core.specs.{Fault.IsArgument, Fault.MalformedLine, declared.fault.Fault.Fault}
-use Rattle.audit_core.specs.{declared.fault.Flaw.Flaw, declared.fault.Fault.TheVariants.Memory}
+use Rattle.audit_core.specs.{Error.IsArgument, Error.MalformedLine, declared.error.Error.Error}
+use Rattle.audit_core.specs.{declared.error.Flaw.Flaw, declared.error.Error.TheVariants.Memory}
 use Rattle.audit_expect.specs.Expect.{LineOf, entries_of, is_comment, is_path_or_url, lines}
-use Rattle.audit_core.specs.declared.fault.Flaw.TheVariants.{Comma, Name, NotUtf8, Space, Tag, Url}
+use Rattle.audit_core.specs.declared.error.Flaw.TheVariants.{Comma, Name, NotUtf8, Space, Tag, Url}
 use Rattle.robots_warnings.specs.Facts.{mark, without_start}
 use Rattle.robots_warnings.specs.{Rules.has, Rules.somewhere, Urls.begins_as_url}
 
-abbrev pub without_front : List ℕ → List ℕ
-without_front line = drop (prefix_len is_ascii_whitespace line) line
+abbrev pub trim_ascii_start : List ℕ → List ℕ
+trim_ascii_start line = drop (prefix_len is_ascii_whitespace line) line
 
-abbrev pub without_back : List ℕ → List ℕ
-without_back line = take (length line - suffix_len is_ascii_whitespace line) line
+abbrev pub trim_ascii_end : List ℕ → List ℕ
+trim_ascii_end line = take (length line - suffix_len is_ascii_whitespace line) line
 
 -- without ASCII white space (space, tab, CR, form feed) at the start and end
 abbrev pub trimmed : List ℕ → List ℕ
-trimmed line = without_back (without_front line)
+trimmed line = trim_ascii_end (trim_ascii_start line)
 
 -- white space of ASCII, or a no-break space in UTF-8
 abbrev pub begins_space : List ℕ → Bool
@@ -76,8 +76,8 @@ abbrev pub first_malformed : List (List ℕ) → Option (List ℕ)
 first_malformed urls = find (λ url. is_some (argument_flaw url)) urls
 
 -- the error shows the first malformed one of these URLs, or an allocation failed
-abbrev pub IsUrlFault : List (List ℕ) → Fault → Type 0
-IsUrlFault urls fault =
-    (fault ≡ Memory)
+abbrev pub IsUrlError : List (List ℕ) → Error → Type 0
+IsUrlError urls error =
+    (error ≡ Memory)
     ⊎ ((url : List ℕ) × (which : Flaw) × (first_malformed urls ≡ Some url) × (argument_flaw url ≡ Some which)
-    × IsArgument url which fault)
+    × IsArgument url which error)

@@ -11,9 +11,9 @@ use crate::expect::Expectation;
 use crate::normal_form::written_form;
 use crate::other_reading::other_decisions;
 use crate::patterns::{OnPaths, holds, on_paths};
-use audit_core::asked::decision_on;
 use audit_core::audit::{Reading, read_for};
-use audit_core::fault::Fault;
+use audit_core::error::Error;
+use audit_core::target::decision_on;
 use robots_same::rule::rules_of;
 use robots_warnings::crawlers::other_group;
 use robots_warnings::read::FileRead;
@@ -76,11 +76,11 @@ fn decided_on(
     expectation: &Expectation<'_>,
     robot: &Robot,
     read: &FileRead<'_>,
-) -> Result<Judgment, Fault>
+) -> Result<Judgment, Error>
     requires read { IsRead read.now }
     requires robot { IsRobotWithoutSitemaps agent.now (take file_limit read.now.bytes.now) robot.now }
     ensures ok { IfOk result (IsJudgmentOn read.now.bytes.now agent.now (expectation_value expectation.now)) }
-    ensures fault { IfErr result (λ fault. fault ≡ Fault.Memory) }
+    ensures error { IfErr result (λ error. error ≡ Error.Memory) }
 {
     if expectation.is_pattern {
         return Ok(on_pattern(alloc, agent, expectation, read)?);
@@ -102,11 +102,11 @@ fn judgment_on(
     expectation: &Expectation<'_>,
     reading: &Reading,
     read: &FileRead<'_>,
-) -> Result<Judgment, Fault>
+) -> Result<Judgment, Error>
     requires read { IsRead read.now }
     requires reading { IsReading agent.now read.now.bytes.now reading.now }
     ensures ok { IfOk result (IsJudgmentOn read.now.bytes.now agent.now (expectation_value expectation.now)) }
-    ensures fault { IfErr result (λ fault. fault ≡ Fault.Memory) }
+    ensures error { IfErr result (λ error. error ≡ Error.Memory) }
 {
     match reading {
         Reading::Rejected(line) => Ok(Judgment::Rejected(*line)),
@@ -118,10 +118,10 @@ fn at_vendor<'a>(
     alloc: Global,
     expectation: &Expectation<'_>,
     read: &'a FileRead<'_>,
-) -> Result<AtVendor<'a>, Fault>
+) -> Result<AtVendor<'a>, Error>
     requires { IsRead read.now }
     ensures ok { IfOk result (IsAtVendor read.now.bytes.now (expectation_value expectation.now)) }
-    ensures fault { IfErr result (λ fault. fault ≡ Fault.Memory) }
+    ensures error { IfErr result (λ error. error ≡ Error.Memory) }
 {
     let Some(group) = other_group(&read.site, expectation.agent) else {
         return Ok(AtVendor::Same);
@@ -140,12 +140,12 @@ pub(crate) fn checked_on<'a>(
     expectation: &Expectation<'a>,
     reading: &Reading,
     read: &'a FileRead<'_>,
-) -> Result<Checked<'a>, Fault>
+) -> Result<Checked<'a>, Error>
     requires read { IsRead read.now }
     requires reading { IsReading expectation.now.agent.now read.now.bytes.now reading.now }
     ensures expectation { IfOk result (λ checked. checked.expectation ≡ expectation.now) }
     ensures checked { IfOk result (λ checked. IsChecked read.now.bytes.now (checked_value checked)) }
-    ensures fault { IfErr result (λ fault. fault ≡ Fault.Memory) }
+    ensures error { IfErr result (λ error. error ≡ Error.Memory) }
 {
     let judgment = judgment_on(alloc, expectation.agent, expectation, reading, read)?;
     let vendor = at_vendor(alloc, expectation, read)?;

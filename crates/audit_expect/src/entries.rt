@@ -2,7 +2,7 @@
 ghost use Rattle.std.specs.Prelude.{◌≡◌, [], IfErr, OnOk};
 ghost use Rattle.audit_expect.specs.Internal.Expectations.{AreMalformed, IsWithoutEntries};
 
-use audit_core::fault::{Entry, Fault, MalformedLine};
+use audit_core::error::{EntryKind, Error, MalformedLine};
 use std::alloc::{AllocError, Global};
 
 /// An entry, nothing, or something that is wrong.
@@ -12,25 +12,25 @@ pub(crate) fn check_lines(
     alloc: Global,
     name: &str,
     malformed: Vec<MalformedLine>,
-) -> Result<(), Fault>
+) -> Result<(), Error>
     ensures ok { OnOk result (malformed.items ≡ []) }
-    ensures fault { IfErr result (AreMalformed name.now malformed.items) }
+    ensures error { IfErr result (AreMalformed name.now malformed.items) }
 {
     if malformed.is_empty() {
         return Ok(());
     }
     match String::from_str(alloc, name) {
-        Ok(file) => Err(Fault::Malformed(file, malformed)),
-        Err(AllocError) => Err(Fault::Memory),
+        Ok(file) => Err(Error::Malformed(file, malformed)),
+        Err(AllocError) => Err(Error::Memory),
     }
 }
 
-/// `Fault::Memory` if an allocation fails.
-pub(crate) fn without_entries(alloc: Global, name: &str, entry: Entry) -> Fault
+/// `Error::Memory` if an allocation fails.
+pub(crate) fn without_entries(alloc: Global, name: &str, entry: EntryKind) -> Error
     ensures { IsWithoutEntries name.now entry result }
 {
     match String::from_str(alloc, name) {
-        Ok(file) => Fault::Empty(file, entry),
-        Err(AllocError) => Fault::Memory,
+        Ok(file) => Error::Empty(file, entry),
+        Err(AllocError) => Error::Memory,
     }
 }

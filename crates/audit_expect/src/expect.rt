@@ -1,7 +1,7 @@
 //! The expectations in the file of `--expect`, one per line, and how a text is cut into parts.
 ghost use Rattle.std.specs.Prelude.{◌≡◌, ◌≢◌, ◌<◌, ◌∷◌, ◌++◌, [], IfErr, IfOk, MatchOption, Ok, OnOk};
 ghost use Rattle.std.specs.Prelude.{if◌then◌else◌, length, map};
-ghost use Rattle.audit_expect.specs.Expect.{IsLineFault, asked, asked_flaw, demand_of, entries_at, entries_of, expectation_in};
+ghost use Rattle.audit_expect.specs.Expect.{IsLineError, asked, asked_flaw, demand_of, entries_at, entries_of, expectation_in};
 ghost use Rattle.audit_expect.specs.Expect.{expectations_in, expects, goes_on, is_any, is_asked_otherwise, is_comment, is_in};
 ghost use Rattle.audit_expect.specs.Expect.{is_path, is_path_or_url, is_pattern, name_flaw, lines, malformed_at, parts, words};
 ghost use Rattle.audit_expect.specs.Expect.{words_with_name};
@@ -12,9 +12,9 @@ ghost use Rattle.audit_expect.specs.Internal.Expectations.{line_by};
 use crate::entries::{Line, check_lines};
 use crate::patterns::escaped_text;
 use audit_core::crawler::is_crawler_name;
-use audit_core::fault::{Fault, Flaw, MalformedLine};
+use audit_core::error::{Error, Flaw, MalformedLine};
 use robots_warnings::crawlers::{is_wrong, meant};
-use robots_warnings::facts::without_mark;
+use robots_warnings::facts::without_utf8_bom;
 use robots_warnings::rules::{after_byte, before_byte, has};
 use robots_warnings::spellings::{Spelling, spelled};
 use robots_warnings::targets::has_dot_segment;
@@ -291,10 +291,10 @@ fn line_expectations<'a>(
     alloc: Global,
     name: &str,
     text: &'a [u8],
-) -> Result<Vec<Expectation<'a>>, Fault>
+) -> Result<Vec<Expectation<'a>>, Error>
     ensures ok { IfOk result (λ found. entries_of expectation_in (lines text.now)
         ≡ Ok (map expectation_value found.items)) }
-    ensures fault { IfErr result (IsLineFault name.now (entries_of expectation_in (lines text.now))) }
+    ensures error { IfErr result (IsLineError name.now (entries_of expectation_in (lines text.now))) }
 {
     let mut found = Vec::new(alloc);
     let mut malformed = Vec::new(alloc);
@@ -316,9 +316,9 @@ pub(crate) fn expectations_in<'a>(
     alloc: Global,
     name: &str,
     text: &'a [u8],
-) -> Result<Vec<Expectation<'a>>, Fault>
+) -> Result<Vec<Expectation<'a>>, Error>
     ensures ok { IfOk result (λ found. expectations_in text.now ≡ Ok (map expectation_value found.items)) }
-    ensures fault { IfErr result (IsLineFault name.now (expectations_in text.now)) }
+    ensures error { IfErr result (IsLineError name.now (expectations_in text.now)) }
 {
-    line_expectations(alloc, name, without_mark(text))
+    line_expectations(alloc, name, without_utf8_bom(text))
 }

@@ -1,9 +1,9 @@
 //! Expectations checked against a robots.txt file, and the report on those that fail.
 ghost use Rattle.std.specs.Prelude.{◌≡◌, ◌==◌, ◌∷◌, [], IfErr, IfOk, Ok, OnOk, false, length, map};
 ghost use Rattle.audit_core.specs.{Findings.Adds, Findings.found_of, Internal.IsReading};
-ghost use Rattle.audit_core.specs.declared.fault.Entry.TheVariants as entry;
+ghost use Rattle.audit_core.specs.declared.error.EntryKind.TheVariants as entry;
 ghost use Rattle.robots_warnings.specs.Read.{IsRead};
-ghost use Rattle.audit_expect.specs.Expect.{IsEntryFault, expectations_in as specified_in};
+ghost use Rattle.audit_expect.specs.Expect.{IsEntryError, expectations_in as specified_in};
 ghost use Rattle.audit_expect.specs.Expectations.{AreFailuresOf, AreFailuresOn, failures};
 ghost use Rattle.audit_expect.specs.Internal.Expectations.{IsReadFor, checked_value, expectation_value};
 
@@ -12,10 +12,10 @@ use crate::checks::{AtVendor, Checked, Judgment, checked_on, fails, fails_at, is
 use crate::entries::without_entries;
 use crate::expect::{Expectation, expectations_in, is_any};
 use crate::patterns::OnPaths;
-use audit_core::asked::asked_target;
 use audit_core::audit::{Reading, read_for};
-use audit_core::fault::{Entry, Fault};
+use audit_core::error::{EntryKind, Error};
 use audit_core::findings::{Findings, add};
+use audit_core::target::asked_target;
 use printable_text::level::Level;
 use printable_text::report::{Line, Report};
 use robots_warnings::crawlers::{meant, row_at};
@@ -38,11 +38,11 @@ fn reading_for<'a>(
     before: AgentReading<'a>,
     agent: &'a str,
     read: &FileRead<'_>,
-) -> Result<AgentReading<'a>, Fault>
+) -> Result<AgentReading<'a>, Error>
     requires read { IsRead read.now }
     requires before { IsReading before.agent.now read.now.bytes.now before.reading }
     ensures ok { IfOk result (IsReadFor agent.entry.now read.now.bytes.now) }
-    ensures fault { IfErr result (λ fault. fault ≡ Fault.Memory) }
+    ensures error { IfErr result (λ error. error ≡ Error.Memory) }
 {
     if before.agent == agent {
         return Ok(before);
@@ -121,8 +121,8 @@ fn write_reason(out: &mut Line, target: &str, checked: &Checked<'_>) -> fmt::Res
     }
 }
 
-fn message_of(alloc: Global, checked: &Checked<'_>) -> Result<Line, Fault>
-    ensures fault { IfErr result (λ fault. fault ≡ Fault.Memory) }
+fn message_of(alloc: Global, checked: &Checked<'_>) -> Result<Line, Error>
+    ensures error { IfErr result (λ error. error ≡ Error.Memory) }
 {
     let (agent, url) = (checked.expectation.agent, checked.expectation.url);
     let target = asked_target(alloc, url)?;
@@ -208,10 +208,10 @@ fn add_if_failing(
     report: &mut Failing<'_>,
     found: &mut Findings,
     checked: &Checked<'_>,
-) -> Result<(), Fault>
+) -> Result<(), Error>
     ensures ok { OnOk result (Adds found.old.items found.new.items
         (failures (checked_value checked.now ∷ []))) }
-    ensures fault { IfErr result (λ fault. fault ≡ Fault.Memory) }
+    ensures error { IfErr result (λ error. error ≡ Error.Memory) }
 {
     if !fails(checked) {
         return Ok(());
@@ -227,11 +227,11 @@ fn failures<'a>(
     report: &mut Failing<'_>,
     expectations: &[Expectation<'a>],
     read: &'a FileRead<'_>,
-) -> Result<Findings, Fault>
+) -> Result<Findings, Error>
     requires { IsRead read.now }
     ensures ok { IfOk result (λ found. AreFailuresOn read.now.bytes.now (map expectation_value expectations.now)
         (map found_of found.items)) }
-    ensures fault { IfErr result (λ fault. fault ≡ Fault.Memory) }
+    ensures error { IfErr result (λ error. error ≡ Error.Memory) }
 {
     let reading = read_for(alloc, "*", read)?;
     let mut latest = AgentReading {
@@ -305,14 +305,14 @@ fn report_on<'a>(
 }
 
 /// Fails if there are no expectations.
-fn parsed<'a>(alloc: Global, name: &str, text: &'a [u8]) -> Result<Vec<Expectation<'a>>, Fault>
+fn parsed<'a>(alloc: Global, name: &str, text: &'a [u8]) -> Result<Vec<Expectation<'a>>, Error>
     ensures ok { IfOk result (λ found. specified_in text.now ≡ Ok (map expectation_value found.items)) }
     ensures some { IfOk result (λ found. (length found.items == 0) ≡ false) }
-    ensures fault { IfErr result (IsEntryFault name.now entry.Expectation (specified_in text.now)) }
+    ensures error { IfErr result (IsEntryError name.now entry.Expectation (specified_in text.now)) }
 {
     let found = expectations_in(alloc, name, text)?;
     if found.is_empty() {
-        return Err(without_entries(alloc, name, Entry::Expectation));
+        return Err(without_entries(alloc, name, EntryKind::Expectation));
     }
     Ok(found)
 }
@@ -323,10 +323,10 @@ fn check_read<'a>(
     name: &str,
     text: &'a [u8],
     read: &'a FileRead<'_>,
-) -> Result<(Report, Findings), Fault>
+) -> Result<(Report, Findings), Error>
     requires { IsRead read.now }
     ensures ok { IfOk result (λ checked. AreFailuresOf text.now read.now.bytes.now (map found_of checked.1.items)) }
-    ensures fault { IfErr result (IsEntryFault name.now entry.Expectation (specified_in text.now)) }
+    ensures error { IfErr result (IsEntryError name.now entry.Expectation (specified_in text.now)) }
 {
     let expectations = parsed(alloc, name, text)?;
     let all = about_each(alloc, &expectations, read)?;
@@ -341,17 +341,17 @@ fn check_read<'a>(
 ///
 /// # Errors
 ///
-/// `Fault::Malformed` for all malformed lines of the text, `Fault::Empty` if there are no expectations in it,
-/// and `Fault::Memory` if an allocation failed or a URL is too long for `url`. An expectation fails if the
+/// `Error::Malformed` for all malformed lines of the text, `Error::Empty` if there are no expectations in it,
+/// and `Error::Memory` if an allocation failed or a URL is too long for `url`. An expectation fails if the
 /// file is rejected for its crawler, which isn't an error.
 pub fn check(
     alloc: Global,
     name: &str,
     text: &[u8],
     file: &[u8],
-) -> Result<(Report, Findings), Fault>
+) -> Result<(Report, Findings), Error>
     ensures ok { IfOk result (λ checked. AreFailuresOf text.now file.now (map found_of checked.1.items)) }
-    ensures fault { IfErr result (IsEntryFault name.now entry.Expectation (specified_in text.now)) }
+    ensures error { IfErr result (IsEntryError name.now entry.Expectation (specified_in text.now)) }
 {
     let read = FileRead::new(alloc, "*", file)?;
     check_read(alloc, name, text, &read)

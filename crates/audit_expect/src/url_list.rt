@@ -2,18 +2,18 @@
 ghost use Rattle.std.specs.Prelude.{◌≡◌, ◌==◌, ◌++◌, IfErr, IfOk, None, Ok, OnOk, false, length, map};
 ghost use Rattle.robots_warnings.specs.Rules.{somewhere};
 ghost use Rattle.audit_core.specs.Request.{requested_by};
-ghost use Rattle.audit_core.specs.declared.fault.Entry.TheVariants as entry;
-ghost use Rattle.audit_expect.specs.Expect.{IsEntryFault, IsLineFault, entries_at, entries_of, lines, malformed_at};
+ghost use Rattle.audit_core.specs.declared.error.EntryKind.TheVariants as entry;
+ghost use Rattle.audit_expect.specs.Expect.{IsEntryError, IsLineError, entries_at, entries_of, lines, malformed_at};
 ghost use Rattle.audit_expect.specs.Internal.Expectations.{line_by};
-ghost use Rattle.audit_expect.specs.UrlList.{HasUrlsIn, IsUrlFault, argument_flaw, begins_next_url, begins_space};
+ghost use Rattle.audit_expect.specs.UrlList.{HasUrlsIn, IsUrlError, argument_flaw, begins_next_url, begins_space};
 ghost use Rattle.audit_expect.specs.UrlList.{first_malformed, trimmed, url_flaw, url_in, urls_in};
 
 use crate::entries::{Line, check_lines, without_entries};
 use crate::expect::{cut, is_comment, is_path_or_url};
 use audit_core::crawler::is_crawler_name;
-use audit_core::fault::{Entry, Fault, Flaw, MalformedLine, argument};
+use audit_core::error::{EntryKind, Error, Flaw, MalformedLine, argument};
 use audit_core::request::Request;
-use robots_warnings::facts::without_mark;
+use robots_warnings::facts::without_utf8_bom;
 use robots_warnings::rules::{has, somewhere};
 use robots_warnings::urls::{as_text, begins_as_url};
 use std::alloc::{AllocError, Global};
@@ -110,9 +110,9 @@ fn push_url<'a>(
     }
 }
 
-fn line_urls<'a>(alloc: Global, name: &str, text: &'a [u8]) -> Result<Vec<&'a str>, Fault>
+fn line_urls<'a>(alloc: Global, name: &str, text: &'a [u8]) -> Result<Vec<&'a str>, Error>
     ensures ok { IfOk result (λ found. entries_of url_in (lines text.now) ≡ Ok (map (λ url. url.now) found.items)) }
-    ensures fault { IfErr result (IsLineFault name.now (entries_of url_in (lines text.now))) }
+    ensures error { IfErr result (IsLineError name.now (entries_of url_in (lines text.now))) }
 {
     let mut found = Vec::new(alloc);
     let mut malformed = Vec::new(alloc);
@@ -130,14 +130,14 @@ fn line_urls<'a>(alloc: Global, name: &str, text: &'a [u8]) -> Result<Vec<&'a st
 }
 
 /// Fails if there are no URLs.
-fn urls_in<'a>(alloc: Global, name: &str, text: &'a [u8]) -> Result<Vec<&'a str>, Fault>
+fn urls_in<'a>(alloc: Global, name: &str, text: &'a [u8]) -> Result<Vec<&'a str>, Error>
     ensures ok { IfOk result (λ found. urls_in text.now ≡ Ok (map (λ url. url.now) found.items)) }
     ensures some { IfOk result (λ found. (length found.items == 0) ≡ false) }
-    ensures fault { IfErr result (IsEntryFault name.now entry.Url (urls_in text.now)) }
+    ensures error { IfErr result (IsEntryError name.now entry.Url (urls_in text.now)) }
 {
-    let found = line_urls(alloc, name, without_mark(text))?;
+    let found = line_urls(alloc, name, without_utf8_bom(text))?;
     if found.is_empty() {
-        return Err(without_entries(alloc, name, Entry::Url));
+        return Err(without_entries(alloc, name, EntryKind::Url));
     }
     Ok(found)
 }
@@ -146,16 +146,16 @@ fn urls_in<'a>(alloc: Global, name: &str, text: &'a [u8]) -> Result<Vec<&'a str>
 ///
 /// # Errors
 ///
-/// `Fault::Malformed` for all lines that aren't UTF-8, are neither a path nor an http(s) URL that can be
-/// parsed, or have what URLs only have escaped, and `Fault::Empty` if there are no URLs in the text.
+/// `Error::Malformed` for all lines that aren't UTF-8, are neither a path nor an http(s) URL that can be
+/// parsed, or have what URLs only have escaped, and `Error::Empty` if there are no URLs in the text.
 pub fn with_urls<'a>(
     alloc: Global,
     request: Request<'a>,
     name: &str,
     text: &'a [u8],
-) -> Result<Request<'a>, Fault>
+) -> Result<Request<'a>, Error>
     ensures ok { IfOk result (λ extended. HasUrlsIn text.now (requested_by request.entry) (requested_by extended)) }
-    ensures fault { IfErr result (IsEntryFault name.now entry.Url (urls_in text.now)) }
+    ensures error { IfErr result (IsEntryError name.now entry.Url (urls_in text.now)) }
 {
     let mut extended = request;
     let urls = urls_in(alloc, name, text)?;
@@ -173,9 +173,9 @@ fn argument_flaw(alloc: Global, text: &str) -> Result<Option<Flaw>, AllocError>
 }
 
 /// Fails with the first of these arguments that isn't a URL or path, or has what URLs only have escaped.
-pub fn are_paths_or_urls(alloc: Global, urls: &[&str]) -> Result<(), Fault>
+pub fn are_paths_or_urls(alloc: Global, urls: &[&str]) -> Result<(), Error>
     ensures ok { OnOk result (first_malformed (map (λ url. url.now) urls.now) ≡ None) }
-    ensures fault { IfErr result (IsUrlFault (map (λ url. url.now) urls.now)) }
+    ensures error { IfErr result (IsUrlError (map (λ url. url.now) urls.now)) }
 {
     for url in urls {
         if let Some(flaw) = argument_flaw(alloc, url)? {

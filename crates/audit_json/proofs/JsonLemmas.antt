@@ -16,12 +16,12 @@ use Rattle.printable_text.specs.{Sanitize.sanitized, Text.IsReport}
 use Rattle.printable_text.proofs.{ReportLemmas.brace_plain}
 use Rattle.audit_core.specs.Audit.{AgentValue, AuditValue, VerdictValue}
 use Rattle.audit_core.specs.{Rows.comment_of, Texts.may_fetch, declared.findings.Finding.Finding}
-use Rattle.rfc9309_laws.specs.{Conformance.has_syntax, Conformance.has_verdicts}
-use Rattle.rfc9309_laws.specs.declared.conformance.Conformance.{Conformance}
-use Rattle.rfc9309_laws.specs.declared.conformance.Conformance.TheVariants.{OtherFile, OtherLine, Syntax}
-use Rattle.rfc9309_laws.specs.declared.conformance.Conformance.TheVariants.{Verdicts}
+use Rattle.rfc9309.specs.{Conformance.has_syntax, Conformance.has_verdicts}
+use Rattle.rfc9309.specs.declared.conformance.Conformance.{Conformance}
+use Rattle.rfc9309.specs.declared.conformance.Conformance.TheVariants.{OtherFile, OtherLine, Syntax}
+use Rattle.rfc9309.specs.declared.conformance.Conformance.TheVariants.{Verdicts}
 use Rattle.robots_warnings.specs.Table.{all_causes, level_of, name_of}
-use Rattle.audit_json.specs.Json.{agent_json, audit_json, fault_json, finding_json, findings_json}
+use Rattle.audit_json.specs.Json.{agent_json, audit_json, error_json, finding_json, findings_json}
 use Rattle.audit_json.specs.Json.{findings_text, json_line, known_json, line_json, list_json, number_json}
 use Rattle.audit_json.specs.Json.{rows_json, sanitized_json, text_json, value_json, verdict_json}
 use Rattle.audit_json.specs.Json.{word_json}
@@ -82,11 +82,11 @@ known_whole : (is_known : Bool) → has_float (known_json is_known) ≡ false
 known_whole true = refl
 known_whole false = refl
 
-fault_whole : (syntax : Conformance) → has_float (fault_json syntax) ≡ false
-fault_whole OtherFile = refl
-fault_whole (OtherLine line) = refl
-fault_whole (Syntax line) = refl
-fault_whole Verdicts = refl
+error_whole : (syntax : Conformance) → has_float (error_json syntax) ≡ false
+error_whole OtherFile = refl
+error_whole (OtherLine line) = refl
+error_whole (Syntax line) = refl
+error_whole Verdicts = refl
 
 value_whole : (line : LineValue) → has_float (value_json line) ≡ false
 value_whole (UserAgent value) = text_whole value
@@ -126,7 +126,7 @@ audit_whole has_rows audit found = rw (
   known_whole (has_syntax audit.syntax),
   known_whole (has_verdicts audit.syntax),
   rows_whole has_rows audit.labels,
-  fault_whole audit.syntax,
+  error_whole audit.syntax,
   list_whole sanitized_json (λ text. refl),
   findings_list_whole found,
 ) refl

@@ -8,9 +8,9 @@ use Rattle.texting_robots.specs.Callers.{UserAgent, sitemaps_in}
 use Rattle.printable_text.specs.{Lines.lf, Text.level_word, Sanitize.sanitized}
 use Rattle.audit_core.specs.{declared.group.Group.Group, Audit.AgentValue, Audit.AuditValue, Texts.may_fetch}
 use Rattle.audit_core.specs.{Audit.VerdictValue, declared.findings.Finding.Finding}
-use Rattle.rfc9309_laws.specs.{Conformance.has_syntax, Conformance.has_verdicts}
-use Rattle.rfc9309_laws.specs.declared.conformance.Conformance.{Conformance}
-use Rattle.rfc9309_laws.specs.declared.conformance.Conformance.TheVariants.{OtherLine, Syntax}
+use Rattle.rfc9309.specs.{Conformance.has_syntax, Conformance.has_verdicts}
+use Rattle.rfc9309.specs.declared.conformance.Conformance.{Conformance}
+use Rattle.rfc9309.specs.declared.conformance.Conformance.TheVariants.{OtherLine, Syntax}
 use Rattle.audit_core.specs.declared.group.AtVendor.{AtVendor, TheVariants.NoGroup, TheVariants.OtherGroup}
 use Rattle.audit_core.specs.declared.group.AtVendor.{TheVariants.Same}
 use Rattle.audit_core.specs.declared.group.Group.TheVariants.{Everyone, Named, Nobody, Star}
@@ -111,20 +111,20 @@ abbrev pub known_json : Bool → Data
 known_json is_known = if is_known then boolean true else null
 
 -- the line that keeps a file from the grammar, or else from verdicts that are the standard's
-abbrev pub fault_json : Conformance → Data
-fault_json (OtherLine line) = count_json line
-fault_json (Syntax line) = count_json line
-fault_json _ = null
+abbrev pub error_json : Conformance → Data
+error_json (OtherLine line) = count_json line
+error_json (Syntax line) = count_json line
+error_json _ = null
 
 -- what the file means for each crawler, its syntax and verdicts, the lines if there are rows, the line at
--- fault, the sitemaps, the warnings
+-- error, the sitemaps, the warnings
 abbrev pub audit_json : Bool → AuditValue → (warnings : List Finding) → Data
 audit_json has_rows audit warnings = object
     (member (codes "agents") (list_json agent_json audit.agents)
     (member (codes "has_rfc_9309_syntax") (known_json (has_syntax audit.syntax))
     (member (codes "has_rfc_9309_verdicts") (known_json (has_verdicts audit.syntax))
     (member (codes "lines") (rows_json has_rows audit.labels)
-    (member (codes "rfc_9309_line") (fault_json audit.syntax)
+    (member (codes "rfc_9309_line") (error_json audit.syntax)
     (member (codes "sitemaps") (list_json sanitized_json (sitemaps_in (lines_of audit.labels)))
     (member (codes "warnings") (list_json finding_json warnings) no_members)))))))
 

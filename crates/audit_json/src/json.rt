@@ -3,7 +3,7 @@ ghost use Rattle.std.specs.Prelude.{◌≡◌, false, IfOk, map, option_map, str
 ghost use Rattle.serde_json.specs.{View.view, Written.has_float};
 ghost use Rattle.texting_robots.specs.Callers.{by_value, label_by_value, sitemaps_in};
 ghost use Rattle.audit_core.specs.Texts.{may_fetch};
-ghost use Rattle.audit_json.specs.Json.{IsJson, agent_json, audit_json, fault_json, findings_json};
+ghost use Rattle.audit_json.specs.Json.{IsJson, agent_json, audit_json, error_json, findings_json};
 ghost use Rattle.audit_json.specs.Json.{findings_text, group_word, json_line, known_json, line_json};
 ghost use Rattle.audit_json.specs.Json.{list_json, number_json, rows_json, sanitized_json, text_json};
 ghost use Rattle.audit_json.specs.Json.{value_json, vendor_word, word_json};
@@ -16,7 +16,7 @@ use audit_core::rows::{comment_of, kind_text, membership_word};
 use audit_core::sitemaps::sitemaps_of;
 use audit_core::texts::may_fetch;
 use printable_text::sanitize::push_sanitized;
-use rfc9309_laws::conformance::Conformance;
+use rfc9309::conformance::Conformance;
 use serde_json::{Value, json};
 use std::alloc::{AllocError, Global};
 use std::fmt;
@@ -238,8 +238,8 @@ fn known_json(is_known: bool) -> Value
 }
 
 /// The line that keeps a file from the grammar, or else from verdicts that are the standard's.
-fn fault_json(syntax: Conformance) -> Value
-    ensures { view result ≡ fault_json syntax }
+fn error_json(syntax: Conformance) -> Value
+    ensures { view result ≡ error_json syntax }
 {
     match syntax {
         Conformance::OtherLine(line) | Conformance::Syntax(line) => line_number(Some(line)),
@@ -258,7 +258,7 @@ fn audit_json(
 {
     let syntax = known_json(audit.syntax.has_syntax());
     let verdicts = known_json(audit.syntax.has_verdicts());
-    let line = fault_json(audit.syntax);
+    let line = error_json(audit.syntax);
     json!(in alloc; {
         "agents": list_json(alloc, &audit.agents)?,
         "has_rfc_9309_syntax": syntax,

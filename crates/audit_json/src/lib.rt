@@ -2,5 +2,5 @@
 #![tactic(auto)]
 
 pub mod json;
-pub mod laws;
 pub mod sarif;
+pub mod theorems;

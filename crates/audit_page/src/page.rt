@@ -17,7 +17,7 @@ use audit_core::version::VERSION;
 use elements::Page;
 use file::{write_file_table, write_sitemap_entry};
 use printable_text::report::Named;
-use rfc9309_laws::conformance::Conformance;
+use rfc9309::conformance::Conformance;
 use robots_warnings::table::Cause;
 use std::alloc::Global;
 use std::fmt;

@@ -122,7 +122,7 @@ static CONDITIONS: [(&str, &str); 67] = [
         "with --needless: comparing a crawler's rules with and without this one would take too long; neither it nor those that are tried after it are reported as needless-rule"),
 ];
 
-/// What is proved about what warnings report, with the theorem of `warnings_laws`.
+/// What is proved about what warnings report, with the theorem of `warning_theorems`.
 #[rattlefmt::skip]
 static THEOREMS: [(&str, &str); 17] = [
     ("closes-everything",

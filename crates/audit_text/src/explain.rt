@@ -6,7 +6,7 @@ ghost use Rattle.audit_text.specs.Explain.{IsUnexplained};
 
 use crate::conditions::{Named, conditions, corrections, theorems};
 use audit_core::answer::{Answer, text_answer};
-use audit_core::fault::{Fault, unknown};
+use audit_core::error::{Error, unknown};
 use printable_text::report::Report;
 use robots_warnings::table::{Cause, causes, is_name};
 use std::alloc::Global;
@@ -67,7 +67,7 @@ fn write_explanation(alloc: Global, out: &mut Report, name: &str) -> fmt::Result
 }
 
 /// The list of all warnings as the answer.
-pub fn list_warnings(alloc: Global) -> Result<Answer, Fault>
+pub fn list_warnings(alloc: Global) -> Result<Answer, Error>
     ensures { IfOk result IsText }
 {
     let mut out = Report::new(alloc);
@@ -75,11 +75,11 @@ pub fn list_warnings(alloc: Global) -> Result<Answer, Fault>
     Ok(text_answer(alloc, out))
 }
 
-/// The explanation of the warning with this name as the answer. The error is `Fault::UnknownWarning` if there
+/// The explanation of the warning with this name as the answer. The error is `Error::UnknownWarning` if there
 /// is none.
-pub fn explain(alloc: Global, name: &str) -> Result<Answer, Fault>
+pub fn explain(alloc: Global, name: &str) -> Result<Answer, Error>
     ensures answer { IfOk result (λ answer. (is_name name.now ≡ true) × IsText answer) }
-    ensures fault { IfErr result (IsUnexplained name.now) }
+    ensures error { IfErr result (IsUnexplained name.now) }
 {
     if !is_name(name) {
         return Err(unknown(alloc, name)?);

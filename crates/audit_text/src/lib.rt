@@ -7,7 +7,7 @@ mod crawlers;
 pub mod denied;
 pub mod explain;
 pub mod github;
-pub mod laws;
 mod listed;
 pub mod report;
+pub mod theorems;
 mod verdicts;

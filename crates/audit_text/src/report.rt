@@ -14,7 +14,7 @@ use audit_core::syntax::{Standard, has_directive};
 use audit_core::texts::{Applied, Delayed, Elsewhere, Fetched, write_rejected};
 use printable_text::level::Level;
 use printable_text::report::Report;
-use rfc9309_laws::conformance::Conformance;
+use rfc9309::conformance::Conformance;
 use robots_warnings::warning::Warning;
 use std::alloc::Global;
 use std::fmt;

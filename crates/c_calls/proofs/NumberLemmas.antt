@@ -11,16 +11,16 @@ use Rattle.texting_robots.specs.Callers.{HasLines, IsDecidingLine, IsRobotWithou
 use Rattle.texting_robots.specs.Callers.{LineValue, PlacedRule, RobotValue, file_limit, file_lines, nul_as_lf}
 use Rattle.texting_robots.specs.Callers.{lines_read, unplaced, IsCaptured, IsRejected, IsRobotOf, group_name}
 use Rattle.texting_robots.specs.Callers.{IsRejectionOf, is_agent_named, is_named, prepared}
-use Rattle.texting_robots.specs.declared.error.Rejection.{Rejection}
-use Rattle.texting_robots.specs.declared.error.Rejection.TheVariants as rejection
+use Rattle.texting_robots.specs.declared.error.RobotError.{RobotError}
+use Rattle.texting_robots.specs.declared.error.RobotError.TheVariants as rejection
 use Rattle.texting_robots.proofs.Shared.{deciding_line_holds_its_rule, lines_within, each_text_has_its_lines}
 use Rattle.texting_robots.proofs.Shared.{same_robot, no_line_allows, of_lines, read_robot, has_lines}
 use Rattle.c_calls.specs.{File.IsRobotOfSomeFile, File.IsSiteOfSomeFile, Status.IsWhyNoResult, Results.IsRow}
-use Rattle.c_calls.specs.Status.{IsWhyNoRobot, fault_of}
+use Rattle.c_calls.specs.Status.{IsWhyNoRobot, error_of}
 use Rattle.c_calls.specs.Results.{IsResultOn, LinesFit, number_of, HasResult, AreRows, items_in, no_result}
 use Rattle.std.proofs.lemmas.List.Elements.{All-cons, All-head, All-tail}
 use Rattle.c_calls.specs.Batch.{Ascend, pieces}
-use Rattle.c_calls.specs.declared.fault.Fault.{Fault, TheVariants.Memory, TheVariants.NotUtf8}
+use Rattle.c_calls.specs.declared.error.Error.{Error, TheVariants.Memory, TheVariants.NotUtf8}
 
 -- ---- A number encodes a verdict and its deciding line, and it fits in an `i64`.
 
@@ -42,12 +42,12 @@ pub by_lines : (site : List ℕ) (P : List LineValue → Type 0) → HasLines si
 by_lines site P is =
     of_lines site P is (file_lines site) ((each_text_has_its_lines (map nul_as_lf site) _).1 refl)
 
-pub why_rejected : {X : Type 0} (r : Result X Fault) (agent site : List ℕ) (why : Rejection)
-    → IsErrAnd r (λ fault. fault ≡ fault_of why) → IsUtf8 agent → IsRejectionOf agent site why
+pub why_rejected : {X : Type 0} (r : Result X Error) (agent site : List ℕ) (why : RobotError)
+    → IsErrAnd r (λ error. error ≡ error_of why) → IsUtf8 agent → IsRejectionOf agent site why
     → IfErr r (IsWhyNoRobot agent site)
 why_rejected (Ok x) agent site why same utf8 is = absurd same
-why_rejected (Err fault) agent site (rejection.Overlong line) same utf8 is = rw same (utf8, is.1)
-why_rejected (Err fault) agent site rejection.Memory same utf8 is = rw same utf8
+why_rejected (Err error) agent site (rejection.Overlong line) same utf8 is = rw same (utf8, is.1)
+why_rejected (Err error) agent site rejection.Memory same utf8 is = rw same utf8
 
 lines_counted : (text : List ℕ) → length (file_lines text) ≤ length text
 lines_counted text = omega (arith, lines_within (map nul_as_lf text), length-map text nul_as_lf)
@@ -151,7 +151,7 @@ pub count_pieces : (text : List ℕ) (start : ℕ) (ends : List ℕ) → length 
 count_pieces text start [] = refl
 count_pieces text start (end ∷ ends) = omega (arith, count_pieces text end ends)
 
-pub only_memory : (url : List ℕ) (fault : Fault) → IsUtf8 url → IsWhyNoResult url fault → fault ≡ Memory
+pub only_memory : (url : List ℕ) (error : Error) → IsUtf8 url → IsWhyNoResult url error → error ≡ Memory
 only_memory url NotUtf8 is why = absurd (why is)
 only_memory url Memory is why = refl
 only_memory url _ is why = absurd why

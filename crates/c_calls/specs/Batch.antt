@@ -2,8 +2,8 @@
 use Rattle.std.specs.Prelude.{ℕ, ◌-◌, ◌<◌, ◌≤◌, ℤ, IsUtf8, List, [], ◌∷◌, drop, length, take}
 use Rattle.std.specs.List.{All, AllZip}
 use Rattle.texting_robots.specs.{Callers.PlacedRule}
-use Rattle.c_calls.specs.{Results.HasResult, Text.IsPutIn, declared.fault.Fault.Fault}
-use Rattle.c_calls.specs.declared.fault.Fault.TheVariants.{BufferTooSmall, InvalidEnds, Memory, NotUtf8}
+use Rattle.c_calls.specs.{Results.HasResult, Text.IsPutIn, declared.error.Error.Error}
+use Rattle.c_calls.specs.declared.error.Error.TheVariants.{BufferTooSmall, InvalidEnds, Memory, NotUtf8}
 
 -- the parts of the text that end at these places, the first from `start` on
 abbrev pub pieces : List ℕ → ℕ → List ℕ → List (List ℕ)
@@ -21,7 +21,7 @@ IsBatchPutIn rules text ends old new = Ascend 0 ends (length text)
     × ((numbers : List ℤ) × AllZip (HasResult rules) (pieces text 0 ends) numbers × IsPutIn old new numbers)
 
 -- the places are checked first, then the URLs, then the capacity, and then an allocation can fail
-abbrev pub IsWhyNoBatch : List ℕ → List ℕ → ℕ → Fault → Type 0
+abbrev pub IsWhyNoBatch : List ℕ → List ℕ → ℕ → Error → Type 0
 IsWhyNoBatch text ends capacity InvalidEnds = ¬ Ascend 0 ends (length text)
 IsWhyNoBatch text ends capacity NotUtf8 = Ascend 0 ends (length text) × ¬ All IsUtf8 (pieces text 0 ends)
 IsWhyNoBatch text ends capacity BufferTooSmall =

@@ -4,18 +4,18 @@ use Rattle.std.specs.Prelude.{if◌then◌else◌, length}
 use Rattle.texting_robots.specs.Callers.{IsFirstOverlong, IsAllocationFree, file_lines, is_named, PlacedRule}
 use Rattle.texting_robots.specs.Callers.{cost_of, placed_rules, prepared, robots_address}
 use Rattle.url.specs.declared.error.{ParseError.ParseError}
-use Rattle.c_calls.specs.{File.HasDelay, Results.items_in, declared.fault.Fault.Fault}
-use Rattle.c_calls.specs.declared.fault.Fault.TheVariants.{Memory, NoAddress, NoDelay, BufferTooSmall}
-use Rattle.texting_robots.specs.declared.error.Rejection.{Rejection}
-use Rattle.texting_robots.specs.declared.error.Rejection.TheVariants as rejection
-use Rattle.c_calls.specs.declared.fault.Fault.TheVariants.{InvalidEnds, NotUtf8, Overlong, TooCostly}
+use Rattle.c_calls.specs.{File.HasDelay, Results.items_in, declared.error.Error.Error}
+use Rattle.c_calls.specs.declared.error.Error.TheVariants.{Memory, NoAddress, NoDelay, BufferTooSmall}
+use Rattle.texting_robots.specs.declared.error.RobotError.{RobotError}
+use Rattle.texting_robots.specs.declared.error.RobotError.TheVariants as rejection
+use Rattle.c_calls.specs.declared.error.Error.TheVariants.{InvalidEnds, NotUtf8, Overlong, TooCostly}
 
-abbrev pub fault_of : Rejection → Fault
-fault_of (rejection.Overlong line) = Overlong line
-fault_of rejection.Memory = Memory
+abbrev pub error_of : RobotError → Error
+error_of (rejection.Overlong line) = Overlong line
+error_of rejection.Memory = Memory
 
 -- -1 to -8
-abbrev pub status_of : Fault → ℤ
+abbrev pub status_of : Error → ℤ
 status_of NotUtf8 = negsuc 0
 status_of Memory = negsuc 1
 status_of BufferTooSmall = negsuc 2
@@ -26,18 +26,18 @@ status_of InvalidEnds = negsuc 6
 status_of TooCostly = negsuc 7
 
 -- the status is 0, or that of an error for which Why holds
-abbrev pub HasFault : (Fault → Type 0) → ℤ → Type 0
-HasFault Why status = (status ≡ pos 0) ⊎ ((fault : Fault) × Why fault × (status ≡ status_of fault))
+abbrev pub HasError : (Error → Type 0) → ℤ → Type 0
+HasError Why status = (status ≡ pos 0) ⊎ ((error : Error) × Why error × (status ≡ status_of error))
 
 -- the line of the rule that is too long, or the old value of the caller's variable
-abbrev pub line_after : Fault → ℕ → ℕ
+abbrev pub line_after : Error → ℕ → ℕ
 line_after (Overlong line) old = line
-line_after fault old = old
+line_after error old = old
 
 -- the same, with the caller's variable for a line
-abbrev pub HasFaultAt : (Fault → Type 0) → ℤ → ℕ → ℕ → Type 0
-HasFaultAt Why status old new = ((status ≡ pos 0) × (new ≡ old))
-    ⊎ ((fault : Fault) × Why fault × (status ≡ status_of fault) × (new ≡ line_after fault old))
+abbrev pub HasErrorAt : (Error → Type 0) → ℤ → ℕ → ℕ → Type 0
+HasErrorAt Why status old new = ((status ≡ pos 0) × (new ≡ old))
+    ⊎ ((error : Error) × Why error × (status ≡ status_of error) × (new ≡ line_after error old))
 
 -- ---- the cause of each error, by task: texts are checked first, then the room for results, then an
 -- allocation can fail
@@ -47,33 +47,33 @@ abbrev pub IsOverlongLine : List ℕ → List ℕ → ℕ → Type 0
 IsOverlongLine agent site line = IsFirstOverlong (placed_rules agent (file_lines site)) line
 
 -- making a crawler's robot from a site
-abbrev pub IsWhyNoRobot : List ℕ → List ℕ → Fault → Type 0
+abbrev pub IsWhyNoRobot : List ℕ → List ℕ → Error → Type 0
 IsWhyNoRobot agent site NotUtf8 = ¬ IsUtf8 agent
 IsWhyNoRobot agent site Memory = IsUtf8 agent
 IsWhyNoRobot agent site (Overlong line) = IsUtf8 agent × IsOverlongLine agent site line
 IsWhyNoRobot agent site _ = ⊥
 
 -- making a site
-abbrev pub IsWhyNoSite : Fault → Type 0
-IsWhyNoSite fault = fault ≡ Memory
+abbrev pub IsWhyNoSite : Error → Type 0
+IsWhyNoSite error = error ≡ Memory
 
 -- the results for the URLs in a string, with this capacity for numbers
-abbrev pub IsWhyNoResults : List ℕ → ℕ → Fault → Type 0
+abbrev pub IsWhyNoResults : List ℕ → ℕ → Error → Type 0
 IsWhyNoResults text capacity NotUtf8 = ¬ IsUtf8 text
 IsWhyNoResults text capacity Memory = IsUtf8 text × (length (items_in text) ≤ capacity)
 IsWhyNoResults text capacity BufferTooSmall = IsUtf8 text × (capacity < length (items_in text))
 IsWhyNoResults text capacity _ = ⊥
 
 -- making a robot from a file, and its results
-abbrev pub IsWhyUndecided : List ℕ → List ℕ → List ℕ → ℕ → Fault → Type 0
+abbrev pub IsWhyUndecided : List ℕ → List ℕ → List ℕ → ℕ → Error → Type 0
 IsWhyUndecided agent site text capacity NotUtf8 = (¬ IsUtf8 agent) ⊎ (¬ IsUtf8 text)
 IsWhyUndecided agent site text capacity BufferTooSmall = IsUtf8 agent
     × IsWhyNoResults text capacity BufferTooSmall
-IsWhyUndecided agent site text capacity fault = IsUtf8 text × (length (items_in text) ≤ capacity)
-    × IsWhyNoRobot agent site fault
+IsWhyUndecided agent site text capacity error = IsUtf8 text × (length (items_in text) ≤ capacity)
+    × IsWhyNoRobot agent site error
 
 -- the results of many crawlers for many URLs; a rule that is too long isn't an error
-abbrev pub IsWhyNoMatrix : List ℕ → List ℕ → ℕ → Fault → Type 0
+abbrev pub IsWhyNoMatrix : List ℕ → List ℕ → ℕ → Error → Type 0
 IsWhyNoMatrix agents urls capacity NotUtf8 = (¬ IsUtf8 agents) ⊎ (¬ IsUtf8 urls)
 IsWhyNoMatrix agents urls capacity Memory =
     IsUtf8 agents × IsUtf8 urls × (length (items_in agents) * length (items_in urls) ≤ capacity)
@@ -82,13 +82,13 @@ IsWhyNoMatrix agents urls capacity BufferTooSmall =
 IsWhyNoMatrix agents urls capacity _ = ⊥
 
 -- the result for one URL
-abbrev pub IsWhyNoResult : List ℕ → Fault → Type 0
+abbrev pub IsWhyNoResult : List ℕ → Error → Type 0
 IsWhyNoResult url NotUtf8 = ¬ IsUtf8 url
 IsWhyNoResult url Memory = IsUtf8 url × ¬ IsAllocationFree url
 IsWhyNoResult url _ = ⊥
 
 -- the result for one URL within this budget, whose match target is allocated
-abbrev pub IsWhyNotWithin : List PlacedRule → List ℕ → ℕ → Fault → Type 0
+abbrev pub IsWhyNotWithin : List PlacedRule → List ℕ → ℕ → Error → Type 0
 IsWhyNotWithin rules url budget NotUtf8 = ¬ IsUtf8 url
 IsWhyNotWithin rules url budget Memory = IsUtf8 url
 IsWhyNotWithin rules url budget TooCostly =
@@ -96,12 +96,12 @@ IsWhyNotWithin rules url budget TooCostly =
 IsWhyNotWithin rules url budget _ = ⊥
 
 -- the delay of a robot
-abbrev pub IsWhyNone : Option ℕ → Fault → Type 0
+abbrev pub IsWhyNone : Option ℕ → Error → Type 0
 IsWhyNone delay NoDelay = delay ≡ None
 IsWhyNone delay _ = ⊥
 
 -- the delay of a crawler, which needs no allocation
-abbrev pub IsWhyNoDelay : List ℕ → List ℕ → Fault → Type 0
+abbrev pub IsWhyNoDelay : List ℕ → List ℕ → Error → Type 0
 IsWhyNoDelay agent site NotUtf8 = ¬ IsUtf8 agent
 IsWhyNoDelay agent site NoDelay = HasDelay agent site None
 IsWhyNoDelay agent site _ = ⊥
@@ -111,7 +111,7 @@ abbrev pub IsAddress : List ℕ → List ℕ → Type 0
 IsAddress url text = IsUtf8 url × (robots_address url ≡ Ok text)
 
 -- the robots.txt address
-abbrev pub IsWhyNoAddress : List ℕ → Fault → Type 0
+abbrev pub IsWhyNoAddress : List ℕ → Error → Type 0
 IsWhyNoAddress url NotUtf8 = ¬ IsUtf8 url
 IsWhyNoAddress url Memory = IsUtf8 url
 IsWhyNoAddress url NoAddress = IsUtf8 url × ((error : ParseError) × (robots_address url ≡ Err error))

@@ -2,9 +2,9 @@
 ghost use Rattle.std.specs.Prelude.{◌≡◌, ◌≢◌, ◌≤◌, IfErr, IfOk, IsUtf8, MatchBool, length, pos};
 ghost use Rattle.std.specs.List.{All, AllZip};
 ghost use Rattle.c_calls.specs.Batch.{Ascend, IsBatchPutIn, IsWhyNoBatch, pieces};
-ghost use Rattle.c_calls.specs.{File.IsRobotOfSomeFile, Results.HasResult, Status.HasFault};
+ghost use Rattle.c_calls.specs.{File.IsRobotOfSomeFile, Results.HasResult, Status.HasError};
 
-use crate::fault::Fault;
+use crate::error::Error;
 use crate::file::text_of;
 use crate::urls::result_for;
 use std::alloc::Global;
@@ -37,13 +37,13 @@ fn are_utf8(text: &[u8], ends: &[usize]) -> bool
     true
 }
 
-fn numbers_at(alloc: Global, robot: &Robot, text: &[u8], ends: &[usize]) -> Result<Vec<i64>, Fault>
+fn numbers_at(alloc: Global, robot: &Robot, text: &[u8], ends: &[usize]) -> Result<Vec<i64>, Error>
     requires robot { IsRobotOfSomeFile robot.now }
     requires ends { Ascend 0 ends.now (length text.now) }
     requires utf8 { All IsUtf8 (pieces text.now 0 ends.now) }
     ensures ok { IfOk result (λ numbers. AllZip (HasResult robot.now.rules) (pieces text.now 0 ends.now) numbers.items) }
     ensures count { IfOk result (λ numbers. length numbers.items ≡ length ends.now) }
-    ensures fault { IfErr result (λ fault. fault ≡ Fault.Memory) }
+    ensures error { IfErr result (λ error. error ≡ Error.Memory) }
 {
     let mut numbers = Vec::with_capacity(alloc, ends.len())?;
     let mut start = 0;
@@ -61,21 +61,21 @@ fn results_at(
     text: &[u8],
     ends: &[usize],
     capacity: usize,
-) -> Result<Vec<i64>, Fault>
+) -> Result<Vec<i64>, Error>
     requires { IsRobotOfSomeFile robot.now }
     ensures ends { IfOk result (λ _. Ascend 0 ends.now (length text.now)) }
     ensures ok { IfOk result (λ numbers. AllZip (HasResult robot.now.rules) (pieces text.now 0 ends.now) numbers.items) }
     ensures capacity { IfOk result (λ numbers. length numbers.items ≤ capacity) }
-    ensures fault { IfErr result (IsWhyNoBatch text.now ends.now capacity) }
+    ensures error { IfErr result (IsWhyNoBatch text.now ends.now capacity) }
 {
     if !ascend(ends, text.len()) {
-        return Err(Fault::InvalidEnds);
+        return Err(Error::InvalidEnds);
     }
     if !are_utf8(text, ends) {
-        return Err(Fault::NotUtf8);
+        return Err(Error::NotUtf8);
     }
     if capacity < ends.len() {
-        return Err(Fault::BufferTooSmall);
+        return Err(Error::BufferTooSmall);
     }
     let numbers = numbers_at(alloc, robot, text, ends)?;
     Ok(numbers)
@@ -92,13 +92,13 @@ pub fn query_batch(
     requires { IsRobotOfSomeFile robot.now }
     ensures written { result ≡ pos 0 → IsBatchPutIn robot.now.rules text.now ends.now out.old out.new }
     ensures kept { result ≢ pos 0 → out.new ≡ out.old }
-    ensures why { HasFault (IsWhyNoBatch text.now ends.now (length out.old)) result }
+    ensures why { HasError (IsWhyNoBatch text.now ends.now (length out.old)) result }
 {
     match results_at(alloc, robot, text, ends, out.len()) {
         Ok(numbers) => {
             out[..numbers.len()].copy_from_slice(&numbers);
             0
         }
-        Err(fault) => fault.status(),
+        Err(error) => error.status(),
     }
 }

@@ -3,24 +3,24 @@ ghost use Rattle.std.specs.Prelude.{◌≡◌, IfErr, IfOk, IsUtf8, Some};
 ghost use Rattle.c_calls.specs.File.{HasDelay, IsRobotFor, bytes_read};
 ghost use Rattle.c_calls.specs.Status.{IsWhyNoDelay, IsWhyNoRobot};
 
-use crate::fault::Fault;
+use crate::error::Error;
 use std::alloc::Global;
-use texting_robots::{Error, Robot, Site};
+use texting_robots::{Error as LibraryError, Robot, Site};
 
-pub(crate) fn text_of<'a>(bytes: &'a [u8]) -> Result<&'a str, Fault>
+pub(crate) fn text_of<'a>(bytes: &'a [u8]) -> Result<&'a str, Error>
     ensures ok { IfOk result (λ text. (text.now ≡ bytes.now) × IsUtf8 bytes.now) }
-    ensures fault { IfErr result (λ fault. (fault ≡ Fault.NotUtf8) × ¬ IsUtf8 bytes.now) }
+    ensures error { IfErr result (λ error. (error ≡ Error.NotUtf8) × ¬ IsUtf8 bytes.now) }
 {
     match std::str::from_utf8(bytes) {
         Ok(text) => Ok(text),
-        Err(_) => Err(Fault::NotUtf8),
+        Err(_) => Err(Error::NotUtf8),
     }
 }
 
 /// The crawler's robot, without sitemaps.
-pub(crate) fn robot_of(alloc: Global, agent: &[u8], file: &[u8]) -> Result<Robot, Fault>
+pub(crate) fn robot_of(alloc: Global, agent: &[u8], file: &[u8]) -> Result<Robot, Error>
     ensures ok { IfOk result (IsRobotFor agent.now (bytes_read file.now)) }
-    ensures fault { IfErr result (IsWhyNoRobot agent.now (bytes_read file.now)) }
+    ensures error { IfErr result (IsWhyNoRobot agent.now (bytes_read file.now)) }
 {
     let agent = text_of(agent)?;
     match Robot::new(alloc, agent, file) {
@@ -29,21 +29,21 @@ pub(crate) fn robot_of(alloc: Global, agent: &[u8], file: &[u8]) -> Result<Robot
             Ok(robot)
         }
         // the robot of a site is rejected with the line
-        Err(Error::InvalidRule) => {
+        Err(LibraryError::InvalidRule) => {
             let site = Site::new(alloc, file)?;
             Ok(site.robot_without_sitemaps(alloc, agent)?)
         }
-        Err(Error::Memory | Error::InvalidRobots) => Err(Fault::Memory),
+        Err(LibraryError::Memory | LibraryError::InvalidRobots) => Err(Error::Memory),
     }
 }
 
 /// In microseconds. Rules that are too long don't matter, and it doesn't allocate.
-pub(crate) fn delay_in(site: &Site, agent: &[u8]) -> Result<u64, Fault>
+pub(crate) fn delay_in(site: &Site, agent: &[u8]) -> Result<u64, Error>
     ensures ok { IfOk result (λ delay. HasDelay agent.now site.now (Some delay)) }
-    ensures fault { IfErr result (IsWhyNoDelay agent.now site.now) }
+    ensures error { IfErr result (IsWhyNoDelay agent.now site.now) }
 {
     match site.delay(text_of(agent)?) {
         Some(delay) => Ok(delay),
-        None => Err(Fault::NoDelay),
+        None => Err(Error::NoDelay),
     }
 }

@@ -1,10 +1,10 @@
 //! A robot that C keeps between calls.
 ghost use Rattle.std.specs.Prelude.{◌≡◌, ◌≢◌, ◌≤◌, ◌*◌, Some, None, IfErr, IfOk, length, pos};
 ghost use Rattle.c_calls.specs.File.{GivesRobot, IsRobotFor, bytes_read};
-ghost use Rattle.c_calls.specs.Status.{HasFault, HasFaultAt, IsWhyNoRobot, IsWhyNone};
+ghost use Rattle.c_calls.specs.Status.{HasError, HasErrorAt, IsWhyNoRobot, IsWhyNone};
 ghost use Rattle.texting_robots.specs.Callers.{cost_of, seen_of};
 
-use crate::fault::Fault;
+use crate::error::Error;
 use crate::file::robot_of;
 use crate::kept::{Handle, Kept};
 use std::alloc::Global;
@@ -18,9 +18,9 @@ pub fn close(robot: Handle<Robot>) {
 pub(crate) fn for_any_thread<T: Send + Sync>(_: &T) {}
 
 /// For what threads of C may do, see `robots.h`.
-fn open(alloc: Global, agent: &[u8], file: &[u8]) -> Result<Box<Robot>, Fault>
+fn open(alloc: Global, agent: &[u8], file: &[u8]) -> Result<Box<Robot>, Error>
     ensures ok { IfOk result (λ robot. IsRobotFor agent.now (bytes_read file.now) robot.value) }
-    ensures fault { IfErr result (IsWhyNoRobot agent.now (bytes_read file.now)) }
+    ensures error { IfErr result (IsWhyNoRobot agent.now (bytes_read file.now)) }
 {
     let robot = Box::new(alloc, robot_of(alloc, agent, file)?)?;
     for_any_thread(&*robot);
@@ -38,25 +38,25 @@ pub fn opened(
     ensures opened { result.status ≡ pos 0
         → GivesRobot agent.now (bytes_read file.now) (λ robot. result.value ≡ Some robot) }
     ensures kept { result.status ≢ pos 0 → result.at ≡ at }
-    ensures why { HasFaultAt (IsWhyNoRobot agent.now (bytes_read file.now)) result.status line.old line.new }
+    ensures why { HasErrorAt (IsWhyNoRobot agent.now (bytes_read file.now)) result.status line.old line.new }
 {
     match open(alloc, agent, file) {
         Ok(robot) => Kept::boxed(0, robot),
-        Err(fault) => Kept::nothing(fault.status_at(line), at),
+        Err(error) => Kept::nothing(error.status_at(line), at),
     }
 }
 
 pub fn query_delay(robot: &Robot, out: &mut u64) -> i32
     ensures written { result ≡ pos 0 → robot.now.delay ≡ Some out.new }
     ensures kept { result ≢ pos 0 → out.new ≡ out.old }
-    ensures why { HasFault (IsWhyNone robot.now.delay) result }
+    ensures why { HasError (IsWhyNone robot.now.delay) result }
 {
     match robot.delay {
         Some(delay) => {
             *out = delay;
             0
         }
-        None => Fault::NoDelay.status(),
+        None => Error::NoDelay.status(),
     }
 }
 

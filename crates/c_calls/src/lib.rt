@@ -3,7 +3,7 @@
 #![tactic(auto)]
 
 pub mod batch;
-pub mod fault;
+pub mod error;
 mod file;
 pub mod handle;
 pub mod kept;

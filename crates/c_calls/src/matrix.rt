@@ -4,14 +4,14 @@ ghost use Rattle.std.specs.Prelude.{string_bytes};
 ghost use Rattle.std.specs.List.{AllZip};
 ghost use Rattle.c_calls.specs.File.{IsSiteOfSomeFile};
 ghost use Rattle.c_calls.specs.Results.{AreRows, HasMatrix, IsMatrixPutIn, IsResultOn, IsRow, LinesFit, items_in};
-ghost use Rattle.c_calls.specs.Status.{HasFault, IsWhyNoMatrix};
+ghost use Rattle.c_calls.specs.Status.{HasError, IsWhyNoMatrix};
 ghost use Rattle.texting_robots.specs.Callers.{prepared};
 
-use crate::fault::Fault;
+use crate::error::Error;
 use crate::file::text_of;
 use crate::urls::{count_items, number_on};
 use std::alloc::{AllocError, Global};
-use texting_robots::{Rejection, Robot, Site, match_target};
+use texting_robots::{Robot, RobotError, Site, match_target};
 
 /// The number in the row of a crawler for which the file is rejected.
 pub const NO_RESULT: i64 = i64::MIN;
@@ -51,8 +51,8 @@ fn row_of(
             let row = results_on(alloc, &robot, targets)?;
             Ok(row)
         }
-        Err(Rejection::Overlong(_)) => vec![in alloc; NO_RESULT; targets.len()],
-        Err(Rejection::Memory) => Err(AllocError),
+        Err(RobotError::Overlong(_)) => vec![in alloc; NO_RESULT; targets.len()],
+        Err(RobotError::Memory) => Err(AllocError),
     }
 }
 
@@ -122,16 +122,16 @@ fn texts_of<'a>(
     agents: &'a [u8],
     urls: &'a [u8],
     capacity: usize,
-) -> Result<(&'a str, &'a str), Fault>
+) -> Result<(&'a str, &'a str), Error>
     ensures texts { IfOk result (λ texts. (texts.0.now ≡ agents.now) × (texts.1.now ≡ urls.now)) }
     ensures utf8 { IfOk result (λ _. IsUtf8 agents.now × IsUtf8 urls.now) }
     ensures capacity { IfOk result (λ _. length (items_in agents.now) * length (items_in urls.now) ≤ capacity) }
-    ensures fault { IfErr result (IsWhyNoMatrix agents.now urls.now capacity) }
+    ensures error { IfErr result (IsWhyNoMatrix agents.now urls.now capacity) }
 {
     let agents = text_of(agents)?;
     let urls = text_of(urls)?;
     if !fits(agents, urls, capacity) {
-        return Err(Fault::BufferTooSmall);
+        return Err(Error::BufferTooSmall);
     }
     Ok((agents, urls))
 }
@@ -142,11 +142,11 @@ fn matrix_in(
     agents: &[u8],
     urls: &[u8],
     capacity: usize,
-) -> Result<Vec<i64>, Fault>
+) -> Result<Vec<i64>, Error>
     requires { IsSiteOfSomeFile site.now }
     ensures ok { IfOk result (λ numbers. HasMatrix site.now agents.now urls.now numbers.items) }
     ensures capacity { IfOk result (λ numbers. length numbers.items ≤ capacity) }
-    ensures fault { IfErr result (IsWhyNoMatrix agents.now urls.now capacity) }
+    ensures error { IfErr result (IsWhyNoMatrix agents.now urls.now capacity) }
 {
     let (agents, urls) = texts_of(agents, urls, capacity)?;
     let numbers = matrix(alloc, site, agents, urls)?;
@@ -157,13 +157,13 @@ pub fn matrix_by(alloc: Global, site: &Site, agents: &[u8], urls: &[u8], out: &m
     requires { IsSiteOfSomeFile site.now }
     ensures written { result ≡ pos 0 → IsMatrixPutIn site.now agents.now urls.now out.old out.new }
     ensures kept { result ≢ pos 0 → out.new ≡ out.old }
-    ensures why { HasFault (IsWhyNoMatrix agents.now urls.now (length out.old)) result }
+    ensures why { HasError (IsWhyNoMatrix agents.now urls.now (length out.old)) result }
 {
     match matrix_in(alloc, site, agents, urls, out.len()) {
         Ok(numbers) => {
             out[..numbers.len()].copy_from_slice(&numbers);
             0
         }
-        Err(fault) => fault.status(),
+        Err(error) => error.status(),
     }
 }

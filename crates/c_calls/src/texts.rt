@@ -4,7 +4,7 @@ ghost use Rattle.printable_text.specs.Lines.{ended};
 ghost use Rattle.c_calls.specs.Status.{IsAddress, IsWhyNoAddress, status_of};
 ghost use Rattle.c_calls.specs.{File.AreAgents, File.AreSitemaps, Text.IsPutIn};
 
-use crate::fault::Fault;
+use crate::error::Error;
 use crate::file::text_of;
 use printable_text::lines::push_line;
 use std::alloc::{AllocError, Global};
@@ -35,28 +35,28 @@ pub(crate) fn agents_in(alloc: Global, site: &Site) -> Result<String, AllocError
     lines_of(alloc, &agents)
 }
 
-pub fn address(alloc: Global, url: &[u8]) -> Result<String, Fault>
+pub fn address(alloc: Global, url: &[u8]) -> Result<String, Error>
     ensures ok { IfOk result (λ text. IsAddress url.now (string_bytes text)) }
-    ensures fault { IfErr result (IsWhyNoAddress url.now) }
+    ensures error { IfErr result (IsWhyNoAddress url.now) }
 {
     match get_robots_url(alloc, text_of(url)?) {
         Ok(text) => Ok(text),
-        Err(ParseError::OutOfMemory | ParseError::Overflow) => Err(Fault::Memory),
-        Err(_) => Err(Fault::NoAddress),
+        Err(ParseError::OutOfMemory | ParseError::Overflow) => Err(Error::Memory),
+        Err(_) => Err(Error::NoAddress),
     }
 }
 
 /// Copies the string to the start of `out` if it fits, and writes its length in any case.
 pub fn put(text: &str, out: &mut [u8], len: &mut usize) -> i32
     ensures put { result ≡ pos 0 → IsPutIn out.old out.new text.now }
-    ensures buffer_too_small { result ≡ status_of Fault.BufferTooSmall → length out.old < length text.now }
+    ensures buffer_too_small { result ≡ status_of Error.BufferTooSmall → length out.old < length text.now }
     ensures kept { result ≢ pos 0 → out.new ≡ out.old }
-    ensures status { (result ≡ pos 0) ⊎ (result ≡ status_of Fault.BufferTooSmall) }
+    ensures status { (result ≡ pos 0) ⊎ (result ≡ status_of Error.BufferTooSmall) }
     ensures length { len.new ≡ length text.now }
 {
     *len = text.len();
     if out.len() < text.len() {
-        return Fault::BufferTooSmall.status();
+        return Error::BufferTooSmall.status();
     }
     out[..text.len()].copy_from_slice(text.as_bytes());
     0

@@ -3,10 +3,10 @@ ghost use Rattle.std.specs.Prelude.{◌≡◌, ◌≢◌, ◌<◌, ◌≤◌, �
 ghost use Rattle.std.specs.List.{AllZip};
 ghost use Rattle.c_calls.specs.File.{GivesRobot, IsRobotOfSomeFile, bytes_read};
 ghost use Rattle.c_calls.specs.Results.{ArePutIn, HasResult, HasResults, IsResult, IsResultOn, LinesFit, number_of, items_in, lf};
-ghost use Rattle.c_calls.specs.Status.{HasFault, IsWhyNoResult, IsWhyNoResults, IsWhyNotWithin, IsWhyUndecided};
+ghost use Rattle.c_calls.specs.Status.{HasError, IsWhyNoResult, IsWhyNoResults, IsWhyNotWithin, IsWhyUndecided};
 ghost use Rattle.texting_robots.specs.Callers.{IsAllocationFree, prepared};
 
-use crate::fault::Fault;
+use crate::error::Error;
 use crate::file::{robot_of, text_of};
 use std::alloc::{AllocError, Global};
 use texting_robots::view::View;
@@ -28,7 +28,7 @@ pub(crate) fn number_on(robot: &Robot, target: &str) -> i64
     requires { LinesFit robot.now.rules }
     ensures { IsResultOn robot.now.rules target.now result }
 {
-    number_of(robot.decision_prepared(target))
+    number_of(robot.decide_prepared(target))
 }
 
 /// It fails only if the URL isn't allocation-free.
@@ -41,28 +41,28 @@ fn number_for(alloc: Global, robot: &Robot, url: &str) -> Result<i64, AllocError
     Ok(number_of(decision))
 }
 
-pub(crate) fn result_for(alloc: Global, robot: &Robot, url: &[u8]) -> Result<i64, Fault>
+pub(crate) fn result_for(alloc: Global, robot: &Robot, url: &[u8]) -> Result<i64, Error>
     requires { IsRobotOfSomeFile robot.now }
     ensures ok { IfOk result (HasResult robot.now.rules url.now) }
-    ensures fault { IfErr result (IsWhyNoResult url.now) }
+    ensures error { IfErr result (IsWhyNoResult url.now) }
 {
     let url = text_of(url)?;
     match number_for(alloc, robot, url) {
         Ok(number) => Ok(number),
-        Err(AllocError) => Err(Fault::Memory),
+        Err(AllocError) => Err(Error::Memory),
     }
 }
 
-fn result_within(alloc: Global, robot: &Robot, url: &[u8], budget: u64) -> Result<i64, Fault>
+fn result_within(alloc: Global, robot: &Robot, url: &[u8], budget: u64) -> Result<i64, Error>
     requires { IsRobotOfSomeFile robot.now }
     ensures ok { IfOk result (HasResult robot.now.rules url.now) }
-    ensures fault { IfErr result (IsWhyNotWithin robot.now.rules url.now budget) }
+    ensures error { IfErr result (IsWhyNotWithin robot.now.rules url.now budget) }
 {
     let target = match_target(alloc, text_of(url)?)?;
     let text = target.as_str();
-    match robot.decision_of_text(text, &mut View::new(text), budget) {
+    match robot.decision_of_target(text, &mut View::new(text), budget) {
         Ok(decision) => Ok(number_of(decision)),
-        Err(TooCostly) => Err(Fault::TooCostly),
+        Err(TooCostly) => Err(Error::TooCostly),
     }
 }
 
@@ -91,13 +91,13 @@ pub(crate) fn count_items(text: &str) -> usize
     count_feeds(text.as_bytes()) + 1
 }
 
-fn urls_of<'a>(urls: &'a [u8], capacity: usize) -> Result<&'a str, Fault>
+fn urls_of<'a>(urls: &'a [u8], capacity: usize) -> Result<&'a str, Error>
     ensures ok { IfOk result (λ text. (text.now ≡ urls.now) × IsUtf8 urls.now × (length (items_in urls.now) ≤ capacity)) }
-    ensures fault { IfErr result (IsWhyNoResults urls.now capacity) }
+    ensures error { IfErr result (IsWhyNoResults urls.now capacity) }
 {
     let text = text_of(urls)?;
     if capacity < count_items(text) {
-        return Err(Fault::BufferTooSmall);
+        return Err(Error::BufferTooSmall);
     }
     Ok(text)
 }
@@ -108,11 +108,11 @@ pub fn decide(
     file: &[u8],
     urls: &[u8],
     capacity: usize,
-) -> Result<Vec<i64>, Fault>
+) -> Result<Vec<i64>, Error>
     ensures ok { IfOk result (λ numbers. GivesRobot agent.now (bytes_read file.now) (λ robot.
         HasResults robot.rules urls.now numbers.items)) }
     ensures capacity { IfOk result (λ numbers. length numbers.items ≤ capacity) }
-    ensures fault { IfErr result (IsWhyUndecided agent.now (bytes_read file.now) urls.now capacity) }
+    ensures error { IfErr result (IsWhyUndecided agent.now (bytes_read file.now) urls.now capacity) }
 {
     text_of(agent)?;
     let urls = urls_of(urls, capacity)?;
@@ -121,11 +121,11 @@ pub fn decide(
     Ok(numbers)
 }
 
-fn results_of(alloc: Global, robot: &Robot, urls: &[u8], capacity: usize) -> Result<Vec<i64>, Fault>
+fn results_of(alloc: Global, robot: &Robot, urls: &[u8], capacity: usize) -> Result<Vec<i64>, Error>
     requires { IsRobotOfSomeFile robot.now }
     ensures ok { IfOk result (λ numbers. HasResults robot.now.rules urls.now numbers.items) }
     ensures capacity { IfOk result (λ numbers. length numbers.items ≤ capacity) }
-    ensures fault { IfErr result (IsWhyNoResults urls.now capacity) }
+    ensures error { IfErr result (IsWhyNoResults urls.now capacity) }
 {
     let urls = urls_of(urls, capacity)?;
     let numbers = results_for(alloc, robot, urls)?;
@@ -136,14 +136,14 @@ pub fn query(alloc: Global, robot: &Robot, url: &[u8], out: &mut i64) -> i32
     requires { IsRobotOfSomeFile robot.now }
     ensures written { result ≡ pos 0 → HasResult robot.now.rules url.now out.new }
     ensures kept { result ≢ pos 0 → out.new ≡ out.old }
-    ensures why { HasFault (IsWhyNoResult url.now) result }
+    ensures why { HasError (IsWhyNoResult url.now) result }
 {
     match result_for(alloc, robot, url) {
         Ok(number) => {
             *out = number;
             0
         }
-        Err(fault) => fault.status(),
+        Err(error) => error.status(),
     }
 }
 
@@ -151,14 +151,14 @@ pub fn query_within(alloc: Global, robot: &Robot, url: &[u8], budget: u64, out: 
     requires { IsRobotOfSomeFile robot.now }
     ensures written { result ≡ pos 0 → HasResult robot.now.rules url.now out.new }
     ensures kept { result ≢ pos 0 → out.new ≡ out.old }
-    ensures why { HasFault (IsWhyNotWithin robot.now.rules url.now budget) result }
+    ensures why { HasError (IsWhyNotWithin robot.now.rules url.now budget) result }
 {
     match result_within(alloc, robot, url, budget) {
         Ok(number) => {
             *out = number;
             0
         }
-        Err(fault) => fault.status(),
+        Err(error) => error.status(),
     }
 }
 
@@ -166,13 +166,13 @@ pub fn query_many(alloc: Global, robot: &Robot, urls: &[u8], out: &mut [i64]) ->
     requires { IsRobotOfSomeFile robot.now }
     ensures written { result ≡ pos 0 → ArePutIn robot.now.rules urls.now out.old out.new }
     ensures kept { result ≢ pos 0 → out.new ≡ out.old }
-    ensures why { HasFault (IsWhyNoResults urls.now (length out.old)) result }
+    ensures why { HasError (IsWhyNoResults urls.now (length out.old)) result }
 {
     match results_of(alloc, robot, urls, out.len()) {
         Ok(numbers) => {
             out[..numbers.len()].copy_from_slice(&numbers);
             0
         }
-        Err(fault) => fault.status(),
+        Err(error) => error.status(),
     }
 }

@@ -28,12 +28,13 @@ reaches Note Error = false
 abbrev pub mark : List ℕ
 mark = 0xEF ∷ 0xBB ∷ 0xBF ∷ []
 
-abbrev pub without_mark : List ℕ → List ℕ
-without_mark text = if starts_with nat_eq text mark then drop (length mark) text else text
+abbrev pub without_utf8_bom : List ℕ → List ℕ
+without_utf8_bom text = if starts_with nat_eq text mark then drop (length mark) text else text
 
 -- the first character that isn't white space isn't `:`
 abbrev pub begins_plainly : List ℕ → Bool
-begins_plainly text = not (starts_with nat_eq (trim_start_by is_whitespace (without_mark text)) (codes ":"))
+begins_plainly text =
+    not (starts_with nat_eq (trim_start_by is_whitespace (without_utf8_bom text)) (codes ":"))
 
 -- a single line without control or bidirectional-formatting characters, which isn't a command
 pub record IsPlainLine (line : List ℕ) : Type 0 where

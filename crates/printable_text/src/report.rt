@@ -2,7 +2,7 @@
 //! written to it.
 ghost use Rattle.std.specs.Prelude.{◌≡◌, IfOk, OnOk, false, string_bytes};
 ghost use Rattle.printable_text.specs.Sanitize.{IsPrintableIn, has_command};
-ghost use Rattle.printable_text.specs.Text.{IsReport, IsShownReport, begins_plainly, without_mark};
+ghost use Rattle.printable_text.specs.Text.{IsReport, IsShownReport, begins_plainly, without_utf8_bom};
 
 use crate::color::colored;
 use crate::level::Level;
@@ -85,8 +85,8 @@ impl fmt::Write for Line {
     }
 }
 
-fn without_mark<'a>(line: &'a [u8]) -> &'a [u8]
-    ensures { result.now ≡ without_mark line.now }
+fn without_utf8_bom<'a>(line: &'a [u8]) -> &'a [u8]
+    ensures { result.now ≡ without_utf8_bom line.now }
 {
     line.strip_prefix(b"\xEF\xBB\xBF").unwrap_or(line)
 }
@@ -94,7 +94,7 @@ fn without_mark<'a>(line: &'a [u8]) -> &'a [u8]
 fn begins_plainly(line: &[u8]) -> bool
     ensures { result ≡ begins_plainly line.now }
 {
-    !without_mark(line).trim_start().starts_with(b":")
+    !without_utf8_bom(line).trim_start().starts_with(b":")
 }
 
 /// A line that would begin a command begins with a backslash instead.

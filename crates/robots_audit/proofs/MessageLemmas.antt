@@ -28,7 +28,7 @@ warned_next least warnings at warning below = rw (drop_more warnings at warning 
 pub if_ok : {X E : Type 0} {P Q : X → Type 0} (result : Result X E) → ((x : X) → P x → Q x) → IfOk result P
     → IfOk result Q
 if_ok (Ok x) follows is = follows x is
-if_ok (Err fault) follows is = tt
+if_ok (Err error) follows is = tt
 
 -- ---- Messages on standard error.
 

@@ -11,10 +11,10 @@ use Rattle.audit_core.specs.Audit.{AuditValue, IsAuditOf, all_allowed, rejects_s
 use Rattle.audit_core.specs.Request.{RequestValue, has_rows, requested_by, shown_name}
 use Rattle.audit_core.specs.{Answer.IsText, declared.answer.Outcome.Outcome, declared.request.Request.Request}
 use Rattle.audit_core.specs.{declared.answer.Answer.Answer, declared.request.Format.Format}
-use Rattle.audit_core.specs.{Content.content_flaw, declared.fault.Fault.Fault}
+use Rattle.audit_core.specs.{NotRobots.content_flaw, declared.error.Error.Error}
 use Rattle.audit_core.specs.{declared.findings.Finding.Finding}
 use Rattle.audit_core.specs.Findings.{Found, findings, found_of}
-use Rattle.audit_core.specs.declared.fault.Fault.TheVariants.{File, Format as OfAudits, Memory, Words}
+use Rattle.audit_core.specs.declared.error.Error.TheVariants.{File, Format as OfAudits, Memory, Words}
 use Rattle.audit_core.specs.declared.request.Format.TheVariants.{Github, Html, Json, Sarif}
 use Rattle.robots_audit.specs.Command.{HasFile, IsFormatOf, IsOn, IsRequestOf, IsWithoutBrackets, value_of}
 use Rattle.audit_compare.specs.Compare.{ComparisonValue, IsComparison, all_differences, differs_nowhere}
@@ -87,8 +87,8 @@ is_for_audits Sarif = true
 is_for_audits format = false
 
 -- the error reports such a format, or an allocation failed
-abbrev pub IsFormatFault : Format → Fault → Type 0
-IsFormatFault format fault = (fault ≡ Memory) ⊎ ((is_for_audits format ≡ true) × (fault ≡ OfAudits))
+abbrev pub IsFormatError : Format → Error → Type 0
+IsFormatError format error = (error ≡ Memory) ⊎ ((is_for_audits format ≡ true) × (error ≡ OfAudits))
 
 -- the answer is this report, and whether a file is rejected and all is well; there are no warnings
 pub record IsListed (format : Format) (file old : List ℕ) (found : List Finding)
@@ -184,14 +184,14 @@ Answers by_default matches answer =
     (value_of matches (codes "compare")) by_default matches answer)
 
 -- `clap` specifies nothing of its message
-abbrev pub HasWords : Fault → Type 0
+abbrev pub HasWords : Error → Type 0
 HasWords (Words text) = ⊤
-HasWords fault = fault ≡ Memory
+HasWords error = error ≡ Memory
 
 -- the error shows this name of the file that can't be read, or an allocation failed
-abbrev pub IsFileUnreadable : List ℕ → Fault → Type 0
+abbrev pub IsFileUnreadable : List ℕ → Error → Type 0
 IsFileUnreadable name (File text reason) = string_bytes text ≡ name
-IsFileUnreadable name fault = fault ≡ Memory
+IsFileUnreadable name error = error ≡ Memory
 
 -- ---- what no request and no file can change
 

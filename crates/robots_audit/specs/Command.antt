@@ -8,12 +8,12 @@ use Rattle.clap.specs.declared.parser.matches.{ArgMatches.ArgMatches}
 use Rattle.audit_core.specs.Request.{requested_colors, IsNoCrawlerIn, is_crawler_name, single, format_named}
 use Rattle.audit_core.specs.declared.request.{Format.Format, Request.Request}
 use Rattle.audit_core.specs.declared.request.Format.TheVariants.{Github, Html, Json, Sarif, Text}
-use Rattle.audit_core.specs.declared.fault.Fault.{Fault}
-use Rattle.audit_core.specs.declared.fault.Fault.TheVariants.{Memory, NoUrl, StdinTwice, Usage}
+use Rattle.audit_core.specs.declared.error.Error.{Error}
+use Rattle.audit_core.specs.declared.error.Error.TheVariants.{Memory, NoUrl, StdinTwice, Usage}
 use Rattle.printable_text.specs.declared.level.{Level.Level}
 use Rattle.robots_warnings.specs.{Crawlers.Row, Crawlers.crawlers, Table.is_name}
-use Rattle.audit_core.specs.{Chosen.IsInBoth, Chosen.share_a_name, Fault.IsUnknown}
-use Rattle.audit_expect.specs.UrlList.{IsUrlFault, first_malformed}
+use Rattle.audit_core.specs.{Chosen.IsInBoth, Chosen.share_a_name, Error.IsUnknown}
+use Rattle.audit_expect.specs.UrlList.{IsUrlError, first_malformed}
 use Rattle.printable_text.specs.declared.level.Level.TheVariants as level
 
 abbrev pub value_of : ArgMatches → List ℕ → Option (List ℕ)
@@ -82,11 +82,11 @@ pub record HasFile (matches : ArgMatches) : Type 0 where
   pub listed : LacksUrls matches false
 
 -- the error if one of these doesn't hold
-abbrev pub IsFileFault : ArgMatches → Fault → Type 0
-IsFileFault matches fault =
-    ((value_of matches (codes "file") ≡ None) × (fault ≡ Usage))
-    ⊎ (((reads_stdin_twice matches ≡ true) × (fault ≡ StdinTwice))
-    ⊎ (LacksUrls matches true × (fault ≡ NoUrl)))
+abbrev pub IsFileError : ArgMatches → Error → Type 0
+IsFileError matches error =
+    ((value_of matches (codes "file") ≡ None) × (error ≡ Usage))
+    ⊎ (((reads_stdin_twice matches ≡ true) × (error ≡ StdinTwice))
+    ⊎ (LacksUrls matches true × (error ≡ NoUrl)))
 
 abbrev pub known_names : List (List ℕ)
 known_names = map (λ (row : Row). row.0) crawlers
@@ -103,9 +103,9 @@ pub record AreAgentsOf (matches : ArgMatches) (agents : List (List ℕ)) : Type 
   pub named : IsTrue (list_all is_crawler_name agents)
 
 -- the error if one of the given names is none, or if an allocation failed
-abbrev pub IsNoCrawlerOf : ArgMatches → Fault → Type 0
-IsNoCrawlerOf matches fault =
-    (fault ≡ Memory) ⊎ ((agents : List (List ℕ)) × AreGiven matches agents × IsNoCrawlerIn agents fault)
+abbrev pub IsNoCrawlerOf : ArgMatches → Error → Type 0
+IsNoCrawlerOf matches error =
+    (error ≡ Memory) ⊎ ((agents : List (List ℕ)) × AreGiven matches agents × IsNoCrawlerIn agents error)
 
 -- the arguments after FILE, which are paths or URLs, as they are asked for
 pub record AreUrlsOf (matches : ArgMatches) (urls : List (List ℕ)) : Type 0 where
@@ -154,19 +154,19 @@ pub record IsRequestOf (by_default : Bool) (matches : ArgMatches) (request : Req
   pub apart : share_a_name (values_of matches (codes "only")) (values_of matches (codes "ignore")) ≡ false
 
 -- the error reports one of these names, which no warning has, or an allocation failed
-abbrev pub IsUnknownIn : List (List ℕ) → Fault → Type 0
-IsUnknownIn names fault =
-    (fault ≡ Memory) ⊎ ((name : List ℕ) × Contains names name × (is_name name ≡ false) × IsUnknown name fault)
+abbrev pub IsUnknownIn : List (List ℕ) → Error → Type 0
+IsUnknownIn names error =
+    (error ≡ Memory) ⊎ ((name : List ℕ) × Contains names name × (is_name name ≡ false) × IsUnknown name error)
 
 -- a request, or an error: FILE is missing, standard input would be read twice, no URL is given for
 -- `--denied`, no crawler or no warning has a given name, an argument is malformed, `--only` and `--ignore`
 -- have the same name, or an allocation failed
-abbrev pub Asks : (by_default : Bool) → ArgMatches → Result Request Fault → Type 0
+abbrev pub Asks : (by_default : Bool) → ArgMatches → Result Request Error → Type 0
 Asks by_default matches (Ok request) = IsRequestOf by_default matches request
-Asks by_default matches (Err fault) =
-    IsFileFault matches fault
-    ⊎ (IsNoCrawlerOf matches fault
-    ⊎ (IsUrlFault (values_of matches (codes "url")) fault
-    ⊎ (IsUnknownIn (values_of matches (codes "only")) fault
-    ⊎ (IsUnknownIn (values_of matches (codes "ignore")) fault
-    ⊎ IsInBoth (values_of matches (codes "only")) (values_of matches (codes "ignore")) fault))))
+Asks by_default matches (Err error) =
+    IsFileError matches error
+    ⊎ (IsNoCrawlerOf matches error
+    ⊎ (IsUrlError (values_of matches (codes "url")) error
+    ⊎ (IsUnknownIn (values_of matches (codes "only")) error
+    ⊎ (IsUnknownIn (values_of matches (codes "ignore")) error
+    ⊎ IsInBoth (values_of matches (codes "only")) (values_of matches (codes "ignore")) error))))

@@ -2,17 +2,17 @@
 ghost use Rattle.std.specs.Prelude.{◌≡◌, IfErr, IfOk, IsTrue, OnOk, codes, is_some, map, option_map, ◌||◌};
 ghost use Rattle.std.specs.List.{list_all, list_any};
 ghost use Rattle.robots_warnings.specs.Table.{is_name};
-ghost use Rattle.audit_expect.specs.UrlList.{IsUrlFault};
+ghost use Rattle.audit_expect.specs.UrlList.{IsUrlError};
 ghost use Rattle.robots_audit.specs.Command.{AreAgentsOf, AreGiven, AreNamesOf, IsNoCrawlerOf, AreUrlsOf, Asks, AsksNeedless, HasFile};
 ghost use Rattle.robots_audit.specs.Command.{IsWithoutBrackets, LacksUrls, is_needless};
-ghost use Rattle.robots_audit.specs.Command.{file_read, IsFileFault, IsFormatOf, requested_format, has_urls, is_stdin, IsUnknownIn, known_names};
+ghost use Rattle.robots_audit.specs.Command.{file_read, IsFileError, IsFormatOf, requested_format, has_urls, is_stdin, IsUnknownIn, known_names};
 ghost use Rattle.robots_audit.specs.Command.{level_named, reads_stdin_twice, values_of};
 
 use crate::options::with_options;
 use audit_core::chosen::are_apart;
 use audit_core::color::requested_colors;
 use audit_core::crawler::{are_crawlers, single};
-use audit_core::fault::{Fault, unknown};
+use audit_core::error::{Error, unknown};
 use audit_core::request::{Format, Request};
 use audit_core::version::VERSION_AND_TOOLCHAIN;
 use audit_expect::url_list::are_paths_or_urls;
@@ -103,14 +103,14 @@ fn lacks_urls(matches: &ArgMatches<'_>) -> bool
 }
 
 /// Fails if FILE is missing, if standard input would be read twice, or if `--denied` has no URL to list.
-pub fn check_files(matches: &ArgMatches<'_>) -> Result<(), Fault>
+pub fn check_files(matches: &ArgMatches<'_>) -> Result<(), Error>
     ensures ok { OnOk result (HasFile matches.now) }
-    ensures fault { IfErr result (IsFileFault matches.now) }
+    ensures error { IfErr result (IsFileError matches.now) }
 {
     match matches.get_str("file") {
-        None => Err(Fault::Usage),
-        Some(_) if reads_stdin_twice(matches) => Err(Fault::StdinTwice),
-        Some(_) if lacks_urls(matches) => Err(Fault::NoUrl),
+        None => Err(Error::Usage),
+        Some(_) if reads_stdin_twice(matches) => Err(Error::StdinTwice),
+        Some(_) if lacks_urls(matches) => Err(Error::NoUrl),
         Some(_) => Ok(()),
     }
 }
@@ -180,9 +180,9 @@ fn values_of<'a>(
 }
 
 /// Fails with the first of these names that no warning has.
-fn known(alloc: Global, names: &[&str]) -> Result<(), Fault>
+fn known(alloc: Global, names: &[&str]) -> Result<(), Error>
     ensures ok { OnOk result (IsTrue (list_all is_name (map (λ name. name.now) names.now))) }
-    ensures fault { IfErr result (IsUnknownIn (map (λ name. name.now) names.now)) }
+    ensures error { IfErr result (IsUnknownIn (map (λ name. name.now) names.now)) }
 {
     for name in names {
         if !is_name(name) {
@@ -193,9 +193,9 @@ fn known(alloc: Global, names: &[&str]) -> Result<(), Fault>
 }
 
 /// Fails if one of them isn't the name of a warning.
-fn names_of<'a>(alloc: Global, matches: &ArgMatches<'a>, id: &str) -> Result<Vec<&'a str>, Fault>
+fn names_of<'a>(alloc: Global, matches: &ArgMatches<'a>, id: &str) -> Result<Vec<&'a str>, Error>
     ensures ok { IfOk result (λ names. AreNamesOf matches.now id.now (map (λ name. name.now) names.items)) }
-    ensures fault { IfErr result (IsUnknownIn (values_of matches.now id.now)) }
+    ensures error { IfErr result (IsUnknownIn (values_of matches.now id.now)) }
 {
     let names = values_of(alloc, matches, id)?;
     known(alloc, &names)?;
@@ -230,9 +230,9 @@ fn agents_given<'a>(alloc: Global, matches: &ArgMatches<'a>) -> Result<Vec<&'a s
 }
 
 /// Fails with the first name that no crawler has.
-fn agents_of<'a>(alloc: Global, matches: &ArgMatches<'a>) -> Result<Vec<&'a str>, Fault>
+fn agents_of<'a>(alloc: Global, matches: &ArgMatches<'a>) -> Result<Vec<&'a str>, Error>
     ensures ok { IfOk result (λ agents. AreAgentsOf matches.now (map (λ agent. agent.now) agents.items)) }
-    ensures fault { IfErr result (IsNoCrawlerOf matches.now) }
+    ensures error { IfErr result (IsNoCrawlerOf matches.now) }
 {
     let agents = agents_given(alloc, matches)?;
     are_crawlers(alloc, &agents)?;
@@ -240,9 +240,9 @@ fn agents_of<'a>(alloc: Global, matches: &ArgMatches<'a>) -> Result<Vec<&'a str>
 }
 
 /// Fails with the first argument that is neither a URL nor a path.
-fn urls_of<'a>(alloc: Global, matches: &ArgMatches<'a>) -> Result<Vec<&'a str>, Fault>
+fn urls_of<'a>(alloc: Global, matches: &ArgMatches<'a>) -> Result<Vec<&'a str>, Error>
     ensures ok { IfOk result (λ urls. AreUrlsOf matches.now (map (λ url. url.now) urls.items)) }
-    ensures fault { IfErr result (IsUrlFault (values_of matches.now (codes "url"))) }
+    ensures error { IfErr result (IsUrlError (values_of matches.now (codes "url"))) }
 {
     let urls = values_of(alloc, matches, "url")?;
     are_paths_or_urls(alloc, &urls)?;
@@ -294,7 +294,7 @@ pub fn requested<'a>(
     alloc: Global,
     matches: &ArgMatches<'a>,
     has_colors: bool,
-) -> Result<Request<'a>, Fault>
+) -> Result<Request<'a>, Error>
     ensures { Asks has_colors matches.now result }
 {
     check_files(matches)?;

@@ -14,22 +14,22 @@
 ghost use Rattle.std.specs.Prelude.{◌≡◌, ◌≢◌, [], IfErr, IfOk, IsErr, None, option_map, string_bytes};
 ghost use Rattle.std.specs.Process.{exit_status};
 ghost use Rattle.printable_text.specs.Text.{IsReport};
-ghost use Rattle.audit_core.specs.Fault.{status_after};
+ghost use Rattle.audit_core.specs.Error.{status_after};
 ghost use Rattle.clap.specs.Values.{kind_of};
-ghost use Rattle.audit_core.specs.{Content.content_flaw, Request.requested_by};
+ghost use Rattle.audit_core.specs.{NotRobots.content_flaw, Request.requested_by};
 ghost use Rattle.robots_audit.specs.Answer.{Answers, AnswersAudit, AnswersComparison, AnswersExpectations};
 ghost use Rattle.robots_audit.specs.Answer.{HasUrls, HasWords, IsSafeAnswer};
 
 mod command;
-mod laws;
 mod options;
 mod program;
+mod theorems;
 
 use audit_compare::compare::NamedFile;
 use audit_core::answer::{Answer, Outcome, text_answer, write_answer};
 use audit_core::color::colors_by_default;
-use audit_core::content::check_content;
-use audit_core::fault::{Fault, status_after, write_fault};
+use audit_core::error::{Error, status_after, write_error};
+use audit_core::not_robots::check_content;
 use audit_core::request::Request;
 use audit_expect::url_list::with_urls;
 use audit_text::explain::{explain, list_warnings};
@@ -38,19 +38,19 @@ use clap::error::ErrorKind as WordsKind;
 use command::{check_files, command, file_read, format_of, requested, without_brackets};
 use printable_text::report::Report;
 use program::{audited, comparison, expectations, given_name, unread};
-use robots_io::streams::{ReadFault, read_all};
+use robots_io::streams::{ReadError, read_all};
 use std::alloc::Global;
 use std::fs::File;
 use std::io::ErrorKind;
 use std::process::ExitCode;
 use std::{env, fmt};
 
-fn words(rt: &HostRuntime) -> Result<Vec<String>, Fault> {
+fn words(rt: &HostRuntime) -> Result<Vec<String>, Error> {
     match env::args(rt) {
         Ok(args) => Ok(args.collect(rt.alloc())?),
         Err(error) => match error.kind() {
-            ErrorKind::OutOfMemory => Err(Fault::Memory),
-            _ => Err(Fault::NotUtf8),
+            ErrorKind::OutOfMemory => Err(Error::Memory),
+            _ => Err(Error::NotUtf8),
         },
     }
 }
@@ -63,32 +63,32 @@ fn reason(kind: ErrorKind) -> &'static str {
     }
 }
 
-fn read_named(rt: &HostRuntime, name: &str) -> Result<Vec<u8>, Fault> {
+fn read_named(rt: &HostRuntime, name: &str) -> Result<Vec<u8>, Error> {
     let mut file = match File::open(rt, name) {
         Ok(file) => file,
         Err(error) => return Err(unread(rt.alloc(), name, reason(error.kind()))),
     };
     match read_all(rt.alloc(), &mut file) {
         Ok(bytes) => Ok(bytes),
-        Err(ReadFault::Folder) => Err(unread(rt.alloc(), name, ": it is a folder")),
-        Err(ReadFault::Read) => Err(unread(rt.alloc(), name, "")),
-        Err(ReadFault::Memory) => Err(Fault::Memory),
+        Err(ReadError::Folder) => Err(unread(rt.alloc(), name, ": it is a folder")),
+        Err(ReadError::Read) => Err(unread(rt.alloc(), name, "")),
+        Err(ReadError::Memory) => Err(Error::Memory),
     }
 }
 
 /// Fails if there are none, as after a failed download.
-fn read_stdin(rt: &HostRuntime) -> Result<Vec<u8>, Fault>
+fn read_stdin(rt: &HostRuntime) -> Result<Vec<u8>, Error>
     ensures { IfOk result (λ bytes. bytes.items ≢ []) }
 {
     let bytes = read_all(rt.alloc(), &mut rt.stdin())?;
     if bytes.is_empty() {
-        return Err(Fault::NoInput);
+        return Err(Error::NoInput);
     }
     Ok(bytes)
 }
 
 /// The bytes of the file with this name, or of standard input for `-` or without a name.
-fn read(rt: &HostRuntime, name: Option<&str>) -> Result<Vec<u8>, Fault> {
+fn read(rt: &HostRuntime, name: Option<&str>) -> Result<Vec<u8>, Error> {
     match file_read(name) {
         Some(name) => read_named(rt, name),
         None => read_stdin(rt),
@@ -96,7 +96,7 @@ fn read(rt: &HostRuntime, name: Option<&str>) -> Result<Vec<u8>, Fault> {
 }
 
 /// The same for `-` or a name. Fails if that can't be a robots.txt file.
-fn read_robots(rt: &HostRuntime, name: &str) -> Result<Vec<u8>, Fault>
+fn read_robots(rt: &HostRuntime, name: &str) -> Result<Vec<u8>, Error>
     ensures { IfOk result (λ bytes. content_flaw bytes.items ≡ None) }
 {
     let bytes = read(rt, Some(name))?;
@@ -104,7 +104,7 @@ fn read_robots(rt: &HostRuntime, name: &str) -> Result<Vec<u8>, Fault>
     Ok(bytes)
 }
 
-fn url_text(rt: &HostRuntime, matches: &ArgMatches<'_>) -> Result<Vec<u8>, Fault> {
+fn url_text(rt: &HostRuntime, matches: &ArgMatches<'_>) -> Result<Vec<u8>, Error> {
     match matches.get_str("urls") {
         Some(name) => read(rt, Some(name)),
         None => Ok(Vec::new(rt.alloc())),
@@ -117,7 +117,7 @@ fn extended<'a>(
     request: Request<'a>,
     name: Option<&str>,
     text: &'a [u8],
-) -> Result<Request<'a>, Fault>
+) -> Result<Request<'a>, Error>
     ensures { IfOk result (λ extended. HasUrls (option_map (λ name. name.now) name.entry)
         (requested_by request.entry) (requested_by extended)) }
 {
@@ -128,7 +128,7 @@ fn extended<'a>(
 }
 
 /// `has_colors` is as for `requested`.
-fn audit(rt: &HostRuntime, matches: &ArgMatches<'_>, has_colors: bool) -> Result<Answer, Fault>
+fn audit(rt: &HostRuntime, matches: &ArgMatches<'_>, has_colors: bool) -> Result<Answer, Error>
     ensures { IfOk result (AnswersAudit has_colors matches.now) }
 {
     let request = requested(rt.alloc(), matches, has_colors)?;
@@ -138,7 +138,7 @@ fn audit(rt: &HostRuntime, matches: &ArgMatches<'_>, has_colors: bool) -> Result
 }
 
 /// Checks the expectations in the file `expected` against the file that the arguments name.
-fn checked(rt: &HostRuntime, matches: &ArgMatches<'_>, expected: &str) -> Result<Answer, Fault>
+fn checked(rt: &HostRuntime, matches: &ArgMatches<'_>, expected: &str) -> Result<Answer, Error>
     ensures { IfOk result (AnswersExpectations matches.now expected.now) }
 {
     check_files(matches)?;
@@ -148,7 +148,7 @@ fn checked(rt: &HostRuntime, matches: &ArgMatches<'_>, expected: &str) -> Result
 }
 
 /// Compares the file `older` with the file that the arguments name.
-fn compared(rt: &HostRuntime, matches: &ArgMatches<'_>, older: &str) -> Result<Answer, Fault>
+fn compared(rt: &HostRuntime, matches: &ArgMatches<'_>, older: &str) -> Result<Answer, Error>
     ensures { IfOk result (AnswersComparison matches.now older.now) }
 {
     let request = requested(rt.alloc(), matches, false)?;
@@ -172,7 +172,7 @@ fn compared(rt: &HostRuntime, matches: &ArgMatches<'_>, older: &str) -> Result<A
 }
 
 /// `has_colors` is as for `requested`.
-fn answered(rt: &HostRuntime, matches: &ArgMatches<'_>, has_colors: bool) -> Result<Answer, Fault>
+fn answered(rt: &HostRuntime, matches: &ArgMatches<'_>, has_colors: bool) -> Result<Answer, Error>
     ensures { IfOk result (Answers has_colors matches.now) }
 {
     if matches.get_flag("list-warnings") {
@@ -192,14 +192,14 @@ fn answered(rt: &HostRuntime, matches: &ArgMatches<'_>, has_colors: bool) -> Res
 
 /// The answer if the arguments request help or the version; else the error for arguments that `clap` rejects.
 #[tactic(auto, using(crate::proofs::MessageLemmas::text_safe))]
-fn reported(rt: &HostRuntime, error: clap::Error) -> Result<Answer, Fault>
+fn reported(rt: &HostRuntime, error: clap::Error) -> Result<Answer, Error>
     ensures safe { IfOk result IsSafeAnswer }
     ensures rejected { (kind_of error ≢ WordsKind.DisplayHelp) → (kind_of error ≢ WordsKind.DisplayVersion) → IsErr result }
     ensures words { IfErr result HasWords }
 {
     let text = error.to_string(rt.alloc())?;
     if error.use_stderr() {
-        Err(Fault::Words(text))
+        Err(Error::Words(text))
     } else {
         let mut out = Report::new(rt.alloc());
         out.lines(&text)?;
@@ -209,36 +209,36 @@ fn reported(rt: &HostRuntime, error: clap::Error) -> Result<Answer, Fault>
 
 /// The report is safe, and the warnings are printable apart from color codes, whatever the arguments, the
 /// files and their names are.
-fn answer(rt: &HostRuntime) -> Result<Answer, Fault>
+fn answer(rt: &HostRuntime) -> Result<Answer, Error>
     ensures { IfOk result IsSafeAnswer }
 {
     let words = words(rt)?;
     match command(rt.alloc())?.try_get_matches_from(&words) {
         Ok(matches) => answered(rt, &matches, colors_by_default(rt)),
         Err(error) => match error.kind() {
-            WordsKind::OutOfMemory => Err(Fault::Memory),
+            WordsKind::OutOfMemory => Err(Error::Memory),
             _ => reported(rt, error),
         },
     }
 }
 
-fn fault_message(alloc: Global, fault: &Fault) -> Result<String, fmt::Error>
+fn error_message(alloc: Global, error: &Error) -> Result<String, fmt::Error>
     ensures { IfOk result (λ text. IsReport (string_bytes text)) }
 {
     let mut out = Report::new(alloc);
-    write_fault(&mut out, fault)?;
+    write_error(&mut out, error)?;
     Ok(out.into_string())
 }
 
 /// Prints the warnings of a run, or the message for its error or for a failed allocation, and returns the exit
 /// status.
-fn ended(rt: &HostRuntime, outcome: Result<Outcome, Fault>) -> ExitCode
+fn ended(rt: &HostRuntime, outcome: Result<Outcome, Error>) -> ExitCode
     ensures { exit_status result ≡ status_after outcome }
 {
     let status = status_after(&outcome);
     let _ = match outcome {
         Ok(outcome) => rt.eprint(&outcome.warnings),
-        Err(fault) => match fault_message(rt.alloc(), &fault) {
+        Err(error) => match error_message(rt.alloc(), &error) {
             Ok(text) => rt.eprint(&text),
             Err(_) => rt.eprint("robots_audit: out of memory\n"),
         },

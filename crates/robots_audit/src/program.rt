@@ -1,12 +1,12 @@
 //! The audit of a file and the report on it, without the command line, input and output.
 ghost use Rattle.std.specs.Prelude.{◌≡◌, ◌⊎◌, IfErr, IfOk, Some, map, option_map, string_bytes};
-ghost use Rattle.robots_audit.specs.Answer.{IsAudited, IsCompared, IsExpected, IsFileUnreadable, IsFormatFault};
+ghost use Rattle.robots_audit.specs.Answer.{IsAudited, IsCompared, IsExpected, IsFileUnreadable, IsFormatError};
 ghost use Rattle.robots_audit.specs.Answer.{IsListed, IsOutput, given_name, has_all_urls, has_passed, is_warned, leaves_out_allowed};
 ghost use Rattle.printable_text.specs.Text.{IsShownReport};
 ghost use Rattle.audit_compare.specs.Compare.{IsComparison};
-ghost use Rattle.audit_core.specs.declared.fault.Entry.TheVariants.{Expectation};
+ghost use Rattle.audit_core.specs.declared.error.EntryKind.TheVariants.{Expectation};
 ghost use Rattle.audit_core.specs.{Request.requested_by};
-ghost use Rattle.audit_expect.specs.Expect.{IsEntryFault, expectations_in};
+ghost use Rattle.audit_expect.specs.Expect.{IsEntryError, expectations_in};
 
 use audit_compare::compare::{
     Comparison, NamedFile, compare, differs_nowhere, keeps_verdicts, rejects_some as rejects_one,
@@ -14,7 +14,7 @@ use audit_compare::compare::{
 use audit_compare::report::reported;
 use audit_core::answer::{Answer, Outcome};
 use audit_core::audit::{Audit, all_allowed, audit_of, rejects_some};
-use audit_core::fault::Fault;
+use audit_core::error::Error;
 use audit_core::findings::{Findings, findings_of};
 use audit_core::request::{Format, Request};
 use audit_expect::expectations::check;
@@ -63,9 +63,9 @@ fn leaves_out_allowed(request: &Request<'_>) -> bool
     request.is_denied_only && !has_all_urls(request.format)
 }
 
-fn output(alloc: Global, request: &Request<'_>, audit: Audit<'_>) -> Result<Vec<u8>, Fault>
+fn output(alloc: Global, request: &Request<'_>, audit: Audit<'_>) -> Result<Vec<u8>, Error>
     ensures ok { IfOk result (λ report. IsOutput request.now.format (requested_by request.now) audit.entry report.items) }
-    ensures fault { IfErr result (λ fault. fault ≡ Fault.Memory) }
+    ensures error { IfErr result (λ error. error ≡ Error.Memory) }
 {
     let totals = totals_of(&audit.agents);
     let reported = shown(leaves_out_allowed(request), audit);
@@ -100,11 +100,11 @@ fn message(alloc: Global, request: &Request<'_>, audit: &Audit<'_>) -> Result<St
 }
 
 /// Audits a file for the crawlers and URLs of the request, and writes the report in the requested format. A
-/// file that is rejected for a crawler isn't an error: the outcome says so. The error is `Fault::Memory`,
+/// file that is rejected for a crawler isn't an error: the outcome says so. The error is `Error::Memory`,
 /// also if a URL is too long for `url`.
-pub fn audited<'a>(alloc: Global, request: &Request<'a>, file: &'a [u8]) -> Result<Answer, Fault>
+pub fn audited<'a>(alloc: Global, request: &Request<'a>, file: &'a [u8]) -> Result<Answer, Error>
     ensures ok { IfOk result (IsAudited (requested_by request.now) file.now) }
-    ensures fault { IfErr result (λ fault. fault ≡ Fault.Memory) }
+    ensures error { IfErr result (λ error. error ≡ Error.Memory) }
 {
     let audit = audit_of(alloc, request, file)?;
     let outcome = Outcome {
@@ -122,10 +122,10 @@ fn compared_for<'a>(
     request: &Request<'a>,
     older: NamedFile<'a>,
     newer: NamedFile<'a>,
-) -> Result<Comparison<'a>, Fault>
+) -> Result<Comparison<'a>, Error>
     ensures ok { IfOk result (IsComparison (requested_by request.now).agents (requested_by request.now).urls
         older.entry.name.now older.entry.bytes.now newer.entry.name.now newer.entry.bytes.now) }
-    ensures fault { IfErr result (λ fault. fault ≡ Fault.Memory) }
+    ensures error { IfErr result (λ error. error ≡ Error.Memory) }
 {
     compare(alloc, &request.agents, &request.urls, older, newer)
 }
@@ -140,17 +140,17 @@ fn listed(
     reported: (Report, Findings),
     is_rejected: bool,
     has_passed: bool,
-) -> Result<Answer, Fault>
+) -> Result<Answer, Error>
     ensures ok { IfOk result (IsListed format file.now old.now reported.1.items is_rejected
         has_passed) }
-    ensures fault { IfErr result (IsFormatFault format) }
+    ensures error { IfErr result (IsFormatError format) }
 {
     let (text, found) = reported;
     let report = match format {
         Format::Text => text.into_string().into_bytes(),
         Format::Json => findings_text(alloc, file, old, &found)?.into_bytes(),
         Format::Github => github_text(alloc, file, &found)?.into_bytes(),
-        Format::Html | Format::Sarif => return Err(Fault::Format),
+        Format::Html | Format::Sarif => return Err(Error::Format),
     };
     let outcome = Outcome {
         is_rejected,
@@ -176,7 +176,7 @@ fn has_passed(verdicts_only: bool, compared: &Comparison<'_>) -> bool
 ///
 /// # Errors
 ///
-/// `Fault::Format` if the format is one of audits alone, and `Fault::Memory` if an allocation fails or a URL
+/// `Error::Format` if the format is one of audits alone, and `Error::Memory` if an allocation fails or a URL
 /// is too long for `url`.
 pub fn comparison<'a>(
     alloc: Global,
@@ -184,10 +184,10 @@ pub fn comparison<'a>(
     older: NamedFile<'a>,
     newer: NamedFile<'a>,
     verdicts_only: bool,
-) -> Result<Answer, Fault>
+) -> Result<Answer, Error>
     ensures ok { IfOk result (IsCompared verdicts_only (requested_by request.now) older.entry.name.now older.entry.bytes.now
         newer.entry.name.now newer.entry.bytes.now) }
-    ensures fault { IfErr result (IsFormatFault request.now.format) }
+    ensures error { IfErr result (IsFormatError request.now.format) }
 {
     let compared = compared_for(alloc, request, older, newer)?;
     let (is_rejected, has_passed) = (rejects_one(&compared), has_passed(verdicts_only, &compared));
@@ -197,17 +197,17 @@ pub fn comparison<'a>(
 }
 
 /// Checks the expectations in a text, of a file with this name, against a robots.txt file, and writes the
-/// report. The errors are those of `check`, and `Fault::Format` if the format is one of audits alone.
+/// report. The errors are those of `check`, and `Error::Format` if the format is one of audits alone.
 pub fn expectations(
     alloc: Global,
     format: Format,
     name: &str,
     text: &[u8],
     file: &[u8],
-) -> Result<Answer, Fault>
+) -> Result<Answer, Error>
     ensures ok { IfOk result (IsExpected format name.now text.now file.now) }
-    ensures fault { IfErr result (λ fault. IsFormatFault format fault
-        ⊎ IsEntryFault name.now Expectation (expectations_in text.now) fault) }
+    ensures error { IfErr result (λ error. IsFormatError format error
+        ⊎ IsEntryError name.now Expectation (expectations_in text.now) error) }
 {
     let found = check(alloc, name, text, file)?;
     let has_passed = found.1.is_empty();
@@ -224,11 +224,11 @@ pub fn given_name<'a>(file: Option<&'a str>) -> &'a str
 }
 
 /// The error for a file that can't be opened or read, for this reason.
-pub fn unread(alloc: Global, name: &str, reason: &'static str) -> Fault
+pub fn unread(alloc: Global, name: &str, reason: &'static str) -> Error
     ensures { IsFileUnreadable name.now result }
 {
     match String::from_str(alloc, name) {
-        Ok(text) => Fault::File(text, reason),
-        Err(AllocError) => Fault::Memory,
+        Ok(text) => Error::File(text, reason),
+        Err(AllocError) => Error::Memory,
     }
 }

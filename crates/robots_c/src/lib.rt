@@ -13,7 +13,7 @@ ghost use Rattle.c_calls.specs.File.{GivesRobot, IsRobotFor, IsRobotOfSomeFile, 
 ghost use Rattle.c_calls.specs.Kept.{Robots, lends, opens, owned_or_null};
 ghost use Rattle.c_calls.specs.Response.{SaysMeaning};
 ghost use Rattle.c_calls.specs.Results.{ArePutIn, HasResult, is_allowed, line_named, no_result};
-ghost use Rattle.c_calls.specs.Status.{HasFault, HasFaultAt, IsAddress, IsWhyNoAddress};
+ghost use Rattle.c_calls.specs.Status.{HasError, HasErrorAt, IsAddress, IsWhyNoAddress};
 ghost use Rattle.c_calls.specs.Status.{IsWhyNoResult, IsWhyNoResults, IsWhyNoRobot, IsWhyNone};
 ghost use Rattle.c_calls.specs.Status.{IsWhyNotWithin, IsWhyUndecided, status_of};
 ghost use Rattle.c_calls.specs.Text.{IsTooLong, IsWritten};
@@ -22,7 +22,7 @@ ghost use Rattle.texting_robots.specs.Callers.{RobotValue, cost_of, seen_of};
 mod site;
 
 use c_calls::batch::query_batch;
-use c_calls::fault::Fault;
+use c_calls::error::Error;
 use c_calls::handle::{bytes, close, cost, opened, query_delay};
 use c_calls::kept::{Handle, Kept};
 use c_calls::matrix::NO_RESULT;
@@ -54,14 +54,14 @@ pub extern "C" fn robots_decide(
     ensures written { result ≡ pos 0
         → GivesRobot agent.now (bytes_read file.now) (λ robot. ArePutIn robot.rules urls.now out.old out.new) }
     ensures kept { result ≢ pos 0 → out.new ≡ out.old }
-    ensures why { HasFaultAt (IsWhyUndecided agent.now (bytes_read file.now) urls.now (length out.old)) result line.old line.new }
+    ensures why { HasErrorAt (IsWhyUndecided agent.now (bytes_read file.now) urls.now (length out.old)) result line.old line.new }
 {
     match decide(alloc, agent, file, urls, out.len()) {
         Ok(numbers) => {
             out[..numbers.len()].copy_from_slice(&numbers);
             0
         }
-        Err(fault) => fault.status_at(line),
+        Err(error) => error.status_at(line),
     }
 }
 
@@ -69,14 +69,14 @@ pub extern "C" fn robots_decide(
 #[unsafe(no_mangle)]
 pub extern "C" fn robots_address(alloc: Global, url: &[u8], out: &mut [u8], len: &mut usize) -> i32
     ensures written { result ≡ pos 0 → IsWritten (IsAddress url.now) out.old out.new len.new }
-    ensures buffer_too_small { result ≡ status_of Fault.BufferTooSmall → IsTooLong (IsAddress url.now) (length out.old) len.new }
-    ensures length_kept { result ≢ pos 0 → result ≢ status_of Fault.BufferTooSmall → len.new ≡ len.old }
+    ensures buffer_too_small { result ≡ status_of Error.BufferTooSmall → IsTooLong (IsAddress url.now) (length out.old) len.new }
+    ensures length_kept { result ≢ pos 0 → result ≢ status_of Error.BufferTooSmall → len.new ≡ len.old }
     ensures kept { result ≢ pos 0 → out.new ≡ out.old }
-    ensures why { (result ≡ status_of Fault.BufferTooSmall) ⊎ HasFault (IsWhyNoAddress url.now) result }
+    ensures why { (result ≡ status_of Error.BufferTooSmall) ⊎ HasError (IsWhyNoAddress url.now) result }
 {
     match address(alloc, url) {
         Ok(text) => put(&text, out, len),
-        Err(fault) => fault.status(),
+        Err(error) => error.status(),
     }
 }
 
@@ -91,7 +91,7 @@ pub extern "C" fn robots_open(
 ) -> i32
     ensures* opened { sem 𝓛 (opens Robots (IsRobotFor agent.now (bytes_read file.now)) result out.new) }
     ensures kept { result ≢ pos 0 → out.new ≡ out.old }
-    ensures why { HasFaultAt (IsWhyNoRobot agent.now (bytes_read file.now)) result line.old line.new }
+    ensures why { HasErrorAt (IsWhyNoRobot agent.now (bytes_read file.now)) result line.old line.new }
 {
     let Kept { status, at } = opened(alloc, agent, file, *out as *mut Robot, line);
     *out = at as *mut u8;
@@ -112,7 +112,7 @@ pub unsafe extern "C" fn robots_query(
     ensures* lent { sem 𝓛 (flft g.0 g.1) }
     ensures written { result ≡ pos 0 → HasResult g.2.rules url.now out.new }
     ensures kept { result ≢ pos 0 → out.new ≡ out.old }
-    ensures why { HasFault (IsWhyNoResult url.now) result }
+    ensures why { HasError (IsWhyNoResult url.now) result }
 {
     query(alloc, &*(robot as *const Robot), url, out)
 }
@@ -157,7 +157,7 @@ pub unsafe extern "C" fn robots_query_within(
     ensures* lent { sem 𝓛 (flft g.0 g.1) }
     ensures written { result ≡ pos 0 → HasResult g.2.rules url.now out.new }
     ensures kept { result ≢ pos 0 → out.new ≡ out.old }
-    ensures why { HasFault (IsWhyNotWithin g.2.rules url.now budget) result }
+    ensures why { HasError (IsWhyNotWithin g.2.rules url.now budget) result }
 {
     query_within(alloc, &*(robot as *const Robot), url, budget, out)
 }
@@ -176,7 +176,7 @@ pub unsafe extern "C" fn robots_query_many(
     ensures* lent { sem 𝓛 (flft g.0 g.1) }
     ensures written { result ≡ pos 0 → ArePutIn g.2.rules urls.now out.old out.new }
     ensures kept { result ≢ pos 0 → out.new ≡ out.old }
-    ensures why { HasFault (IsWhyNoResults urls.now (length out.old)) result }
+    ensures why { HasError (IsWhyNoResults urls.now (length out.old)) result }
 {
     query_many(alloc, &*(robot as *const Robot), urls, out)
 }
@@ -196,7 +196,7 @@ pub unsafe extern "C" fn robots_query_batch(
     ensures* lent { sem 𝓛 (flft g.0 g.1) }
     ensures written { result ≡ pos 0 → IsBatchPutIn g.2.rules urls.now ends.now out.old out.new }
     ensures kept { result ≢ pos 0 → out.new ≡ out.old }
-    ensures why { HasFault (IsWhyNoBatch urls.now ends.now (length out.old)) result }
+    ensures why { HasError (IsWhyNoBatch urls.now ends.now (length out.old)) result }
 {
     query_batch(alloc, &*(robot as *const Robot), urls, ends, out)
 }
@@ -209,7 +209,7 @@ pub unsafe extern "C" fn robots_query_delay(robot: *const u8, out: &mut u64) -> 
     ensures* lent { sem 𝓛 (flft g.0 g.1) }
     ensures written { result ≡ pos 0 → g.2.delay ≡ Some out.new }
     ensures kept { result ≢ pos 0 → out.new ≡ out.old }
-    ensures why { HasFault (IsWhyNone g.2.delay) result }
+    ensures why { HasError (IsWhyNone g.2.delay) result }
 {
     query_delay(&*(robot as *const Robot), out)
 }

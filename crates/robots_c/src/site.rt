@@ -5,10 +5,10 @@ ghost use base.Fml.{Lft, Share, flft};
 ghost use Rattle.c_calls.specs.{File.AreAgents, Results.IsMatrixPutIn, Text.IsTooLong, Text.IsWritten};
 ghost use Rattle.c_calls.specs.File.{AreSitemaps, HasDelay, IsRobotFor, IsSiteOfSomeFile, bytes_read};
 ghost use Rattle.c_calls.specs.Kept.{Robots, Sites, lends, opens, owned_or_null};
-ghost use Rattle.c_calls.specs.Status.{HasFault, HasFaultAt, IsWhyNoDelay, IsWhyNoSite, IsWhyNoMatrix};
+ghost use Rattle.c_calls.specs.Status.{HasError, HasErrorAt, IsWhyNoDelay, IsWhyNoSite, IsWhyNoMatrix};
 ghost use Rattle.c_calls.specs.Status.{IsWhyNoRobot, SaysNamed, status_of};
 
-use c_calls::fault::Fault;
+use c_calls::error::Error;
 use c_calls::kept::{Handle, Kept};
 use c_calls::matrix::matrix_by;
 use c_calls::site;
@@ -20,7 +20,7 @@ use texting_robots::{Robot, Site};
 pub extern "C" fn robots_site_open(alloc: Global, file: &[u8], out: &mut *mut u8) -> i32
     ensures* opened { sem 𝓛 (opens Sites (λ site. site ≡ bytes_read file.now) result out.new) }
     ensures kept { result ≢ pos 0 → out.new ≡ out.old }
-    ensures why { HasFault IsWhyNoSite result }
+    ensures why { HasError IsWhyNoSite result }
 {
     let Kept { status, at } = site::opened(alloc, file, *out as *mut Site);
     *out = at as *mut u8;
@@ -42,7 +42,7 @@ pub unsafe extern "C" fn robots_site_robot(
     ensures* lent { sem 𝓛 (flft g.0 g.1) }
     ensures* opened { sem 𝓛 (opens Robots (IsRobotFor agent.now g.2) result out.new) }
     ensures kept { result ≢ pos 0 → out.new ≡ out.old }
-    ensures why { HasFaultAt (IsWhyNoRobot agent.now g.2) result line.old line.new }
+    ensures why { HasErrorAt (IsWhyNoRobot agent.now g.2) result line.old line.new }
 {
     let Kept { status, at } = site::robot_opened(
         alloc,
@@ -72,7 +72,7 @@ pub unsafe extern "C" fn robots_site_matrix(
     ensures* lent { sem 𝓛 (flft g.0 g.1) }
     ensures written { result ≡ pos 0 → IsMatrixPutIn g.2 agents.now urls.now out.old out.new }
     ensures kept { result ≢ pos 0 → out.new ≡ out.old }
-    ensures why { HasFault (IsWhyNoMatrix agents.now urls.now (length out.old)) result }
+    ensures why { HasError (IsWhyNoMatrix agents.now urls.now (length out.old)) result }
 {
     matrix_by(alloc, &*(site as *const Site), agents, urls, out)
 }
@@ -85,7 +85,7 @@ pub unsafe extern "C" fn robots_site_delay(site: *const u8, agent: &[u8], out: &
     ensures* lent { sem 𝓛 (flft g.0 g.1) }
     ensures written { result ≡ pos 0 → HasDelay agent.now g.2 (Some out.new) }
     ensures kept { result ≢ pos 0 → out.new ≡ out.old }
-    ensures why { HasFault (IsWhyNoDelay agent.now g.2) result }
+    ensures why { HasError (IsWhyNoDelay agent.now g.2) result }
 {
     site::delay(&*(site as *const Site), agent, out)
 }
@@ -115,10 +115,10 @@ pub unsafe extern "C" fn robots_site_sitemaps(
     requires* lent { sem 𝓛 (lends Sites site g) }
     ensures* lent { sem 𝓛 (flft g.0 g.1) }
     ensures written { result ≡ pos 0 → IsWritten (AreSitemaps g.2) out.old out.new len.new }
-    ensures buffer_too_small { result ≡ status_of Fault.BufferTooSmall → IsTooLong (AreSitemaps g.2) (length out.old) len.new }
-    ensures length_kept { result ≢ pos 0 → result ≢ status_of Fault.BufferTooSmall → len.new ≡ len.old }
+    ensures buffer_too_small { result ≡ status_of Error.BufferTooSmall → IsTooLong (AreSitemaps g.2) (length out.old) len.new }
+    ensures length_kept { result ≢ pos 0 → result ≢ status_of Error.BufferTooSmall → len.new ≡ len.old }
     ensures kept { result ≢ pos 0 → out.new ≡ out.old }
-    ensures why { (result ≡ pos 0) ⊎ ((result ≡ status_of Fault.BufferTooSmall) ⊎ (result ≡ status_of Fault.Memory)) }
+    ensures why { (result ≡ pos 0) ⊎ ((result ≡ status_of Error.BufferTooSmall) ⊎ (result ≡ status_of Error.Memory)) }
 {
     site::sitemaps(alloc, &*(site as *const Site), out, len)
 }
@@ -135,10 +135,10 @@ pub unsafe extern "C" fn robots_site_agents(
     requires* lent { sem 𝓛 (lends Sites site g) }
     ensures* lent { sem 𝓛 (flft g.0 g.1) }
     ensures written { result ≡ pos 0 → IsWritten (AreAgents g.2) out.old out.new len.new }
-    ensures buffer_too_small { result ≡ status_of Fault.BufferTooSmall → IsTooLong (AreAgents g.2) (length out.old) len.new }
-    ensures length_kept { result ≢ pos 0 → result ≢ status_of Fault.BufferTooSmall → len.new ≡ len.old }
+    ensures buffer_too_small { result ≡ status_of Error.BufferTooSmall → IsTooLong (AreAgents g.2) (length out.old) len.new }
+    ensures length_kept { result ≢ pos 0 → result ≢ status_of Error.BufferTooSmall → len.new ≡ len.old }
     ensures kept { result ≢ pos 0 → out.new ≡ out.old }
-    ensures why { (result ≡ pos 0) ⊎ ((result ≡ status_of Fault.BufferTooSmall) ⊎ (result ≡ status_of Fault.Memory)) }
+    ensures why { (result ≡ pos 0) ⊎ ((result ≡ status_of Error.BufferTooSmall) ⊎ (result ≡ status_of Error.Memory)) }
 {
     site::agents(alloc, &*(site as *const Site), out, len)
 }

@@ -7,7 +7,7 @@
 //! - In a proof, `c.in_ok-robot.ensures.robot` is the clause of `Robot::new` with `IsRobotOfFile`. `?` passes
 //!   `IsMemoryErrorOr` on if the caller's error is the library's `Error`.
 //! - A theorem is called like a function. Pass the lists that `laws::each_file_has_its_lines` and
-//!   `laws::each_agent_has_its_rules` return to the main theorem (`one_agent.rt` of the library);
+//!   `laws::each_agent_has_its_rules` return to the main theorem (`in_file.rt` of the library);
 //!   `proofs/MainTheoremLemmas.antt` is for computed lists.
 //! - The invariant of a loop over URLs: if the property holds for the remaining URLs, then with the results so far for
 //!   all (`proofs/crawler/allowed_of`).

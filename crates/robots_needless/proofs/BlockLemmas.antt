@@ -7,7 +7,7 @@ use Rattle.std.proofs.Common.{filter, filter_map, length, length-drop, map, slic
 use Rattle.std.specs.{List.cons_option, List.enumerate_from, List.list_any, Option.option_or}
 use Rattle.std.proofs.lemmas.Bool.{cases_Bool, cases_eq, false≢true}
 use Rattle.texting_robots.specs.{Executable.delay_for, declared.groups.GroupTracker.GroupTracker}
-use Rattle.texting_robots.specs.{Line.LineValue, Rules.PlacedRule, Rules.unplaced, Laws.Same}
+use Rattle.texting_robots.specs.{Line.LineValue, Rules.PlacedRule, Rules.unplaced, Theorems.Same}
 use Rattle.texting_robots.specs.Line.{Raw, delay_in, is_raw}
 use Rattle.texting_robots.specs.Group.{group_name, is_agent, passes_at}
 use Rattle.texting_robots.specs.Executable.{captured_delays, captured_lines, delay_before_agents, placed_in}

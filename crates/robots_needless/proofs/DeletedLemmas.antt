@@ -8,7 +8,7 @@ use Rattle.std.proofs.lemmas.Bool.{cases_Bool, ne_eqb, eqb-true, Decides.Decides
 use Rattle.std.proofs.lemmas.List.{append_cancel_right, map-append}
 use Rattle.std.proofs.lemmas.List.Elements.{All-head, All-tail, recursion_from_All}
 use Rattle.texting_robots.specs.Cut.{IsBodyByte, IsCut, IsLineEnd, Pair, cr, joined, lf}
-use Rattle.texting_robots.specs.Line.{LineValue, Raw, is_raw, nul_as_lf, without, without_front}
+use Rattle.texting_robots.specs.Line.{LineValue, Raw, is_raw, nul_as_lf, without, without_bom}
 use Rattle.texting_robots.specs.Internal.{Cut.bodies_of, Line.line_of, Statement.statement_of}
 use Rattle.texting_robots.proofs.Shared.{body_byte, body_return, body_step, step, cut_nil}
 use Rattle.robots_needless.specs.{Blocks.left_from}
@@ -155,7 +155,7 @@ pub record IsUnmarked (text : List ℕ) : Type 0 where
 
 -- a front that is that of a file, or empty
 abbrev pub IsFrontOf : List ℕ → List ℕ → Type 0
-IsFrontOf file mark = (mark ≡ []) ⊎ (mark ++ without_front file ≡ file)
+IsFrontOf file mark = (mark ≡ []) ⊎ (mark ++ without_bom file ≡ file)
 
 pub record IsMark (mark : List ℕ) : Type 0 where
   pub one : List ℕ
@@ -180,12 +180,12 @@ mark_of file mark (inr is) =
     let (one, is_one, at) = taken 0xEF file in
     let (two, is_two, then) = taken 0xBB (without 0xEF file) in
     let (three, is_three, last) = taken 0xBF (without 0xBB (without 0xEF file)) in
-    let whole : file ≡ (one ++ (two ++ three)) ++ without_front file =
+    let whole : file ≡ (one ++ (two ++ three)) ++ without_bom file =
     (grind (arith, append_assoc)) in
     (grind (arith, append_cancel_right))
 
 pub mark_read : (mark : List ℕ) → IsMark mark → map nul_as_lf mark ≡ mark
 mark_read mark is = grind (arith, map-append)
 
-pub mark_off : (mark text : List ℕ) → IsMark mark → IsUnmarked text → without_front (mark ++ text) ≡ text
+pub mark_off : (mark text : List ℕ) → IsMark mark → IsUnmarked text → without_bom (mark ++ text) ≡ text
 mark_off mark text is isnt = grind (arith, ne_eqb, append_assoc, Decides-eqb)

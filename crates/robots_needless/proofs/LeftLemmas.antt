@@ -10,7 +10,7 @@ use Rattle.texting_robots.specs.Callers.{HasLines, IsOverlong, IsRejected, IsRob
 use Rattle.texting_robots.specs.Callers.{PlacedRule, RobotValue, Rule, file_bodies, file_lines, nul_as_lf}
 use Rattle.texting_robots.specs.Callers.{placed_rules, rules_for, unplaced}
 use Rattle.texting_robots.specs.Cut.{IsLineEnd, Pair, joined}
-use Rattle.texting_robots.specs.{Laws.Same, Line.is_raw, Line.without_front}
+use Rattle.texting_robots.specs.{Theorems.Same, Line.is_raw, Line.without_bom}
 use Rattle.texting_robots.specs.Internal.{Cut.bodies_of, Cut.cut, Line.line_of}
 use Rattle.texting_robots.proofs.Shared.{delay_is_computed, sitemaps_are_computed, answers_computed, of_lines}
 use Rattle.texting_robots.proofs.Shared.{rejection_is_computed, each_text_has_its_lines, front_is_end}
@@ -80,7 +80,7 @@ module _ (numbers file left : List ℕ) (is : IsLeftOf numbers file left)
       ∙ sym (map_left bytes_of gone 0 is.lines.pairs))
       ∙ joined_bytes kept
 
-  without_mark : without_front (map nul_as_lf left) ≡ joined kept
+  without_mark : without_bom (map nul_as_lf left) ≡ joined kept
   without_mark =
       grind (arith, mark_of, map-append, mark_read, text_left, mark_off, unmarked, kept_pairs, bodies_kept)
 
@@ -112,8 +112,8 @@ whole_of (pair ∷ later) text is =
 
 pub some_lines : (file : List ℕ) → (whole : List (List ℕ)) × AreWholeLines whole file
 some_lines file =
-    let text = without_front (map nul_as_lf file) in
-    let (whole, read, all) = whole_of (cut text) (without_front file)
+    let text = without_bom (map nul_as_lf file) in
+    let (whole, read, all) = whole_of (cut text) (without_bom file)
     (front_read file ∙ sym (is_cut text).whole) in
     (whole, record { pairs = cut text; is_cut = is_cut text; read = read; joined = all })
 
@@ -126,10 +126,10 @@ concat_within gone position (line ∷ lines) =
 pub left_within : (numbers file left : List ℕ) → IsLeftOf numbers file left → length left ≤ length file
 left_within numbers file left is =
     let rest = concat (lines_without numbers is.whole) in
-    let less : length rest ≤ length (without_front file) =
+    let less : length rest ≤ length (without_bom file) =
     rw (left_are numbers 0 is.whole, ← is.lines.joined) (concat_within (among numbers) 0 is.whole) in
     let (mark, whole) = front_is_end file in
-    let all = ap length whole ∙ length-append mark (without_front file) in
+    let all = ap length whole ∙ length-append mark (without_bom file) in
     let both = ap length is.rest ∙ length-append is.mark rest in
     (grind (arith, length-append))
 

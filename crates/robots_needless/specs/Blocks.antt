@@ -2,7 +2,7 @@
 use Rattle.std.specs.Prelude.{◌≡◌, ℕ, ◌+◌, Bool, true, false, not, ◌&&◌, ◌||◌, List, [], ◌∷◌, Option, Some}
 use Rattle.std.specs.Prelude.{None, if◌then◌else◌, ◌≢◌, ◌⊎◌, ◌↔◌, ◌==◌, ◌++◌, map}
 use Rattle.std.specs.{BTreeMap.get, Option.is_some, Option.option_map_or, Ordering.nat_cmp, List.concat}
-use Rattle.texting_robots.specs.{Group.is_agent, Line.LineValue, Cut.IsCut, Cut.Pair, Line.without_front}
+use Rattle.texting_robots.specs.{Group.is_agent, Line.LineValue, Cut.IsCut, Cut.Pair, Line.without_bom}
 use Rattle.robots_needless.specs.{declared.blocks.Block.Block, Internal.Reasons}
 use Rattle.texting_robots.specs.Callers.{IsFileRejected, IsRobotOfFile, IsVerdict, RobotValue, file_bodies}
 use Rattle.texting_robots.specs.Callers.{file_lines, nul_as_lf, unplaced}
@@ -10,8 +10,8 @@ use Rattle.robots_needless.specs.declared.needless.{NeedlessRule.NeedlessRule}
 use Rattle.robots_needless.specs.Needless.{AreFound, lines_without, numbers_of}
 pub use Rattle.robots_needless.specs.Needless.{is_rule}
 
--- ---- Blocks of a file from which rules are removed: the group lines below a run of user-agent lines. At
--- crawlers that ignore delays, user-agent lines above a delay alone would join the next run.
+-- ---- Blocks of a file from which rules are removed: the members of a group. At crawlers that ignore delays,
+-- user-agent lines above a delay alone would join the next group.
 
 abbrev pub no_rule : Block
 no_rule = record { is_lost = false; has_rule = false }
@@ -55,9 +55,9 @@ KeepBlocks found lines = keep_blocks_from (is_found found) no_rule 0 lines ≡ t
 -- and joined, they are the file without its byte order mark
 pub record AreWholeLines (whole : List (List ℕ)) (file : List ℕ) : Type 0 where
   pub pairs : List Pair
-  pub is_cut : IsCut pairs (without_front (map nul_as_lf file))
+  pub is_cut : IsCut pairs (without_bom (map nul_as_lf file))
   pub read : map (λ line. map nul_as_lf line) whole ≡ map (λ pair. pair.body ++ pair.ending) pairs
-  pub joined : concat whole ≡ without_front file
+  pub joined : concat whole ≡ without_bom file
 
 -- what is left of the file if the lines with these numbers are deleted; its byte order mark stays, or is
 -- deleted too
@@ -65,7 +65,7 @@ pub record IsLeftOf (numbers : List ℕ) (file left : List ℕ) : Type 0 where
   pub whole : List (List ℕ)
   pub lines : AreWholeLines whole file
   pub mark : List ℕ
-  pub front : (mark ≡ []) ⊎ (mark ++ without_front file ≡ file)
+  pub front : (mark ≡ []) ⊎ (mark ++ without_bom file ≡ file)
   pub rest : left ≡ mark ++ concat (lines_without numbers whole)
 
 -- the same delay, sitemaps and verdicts

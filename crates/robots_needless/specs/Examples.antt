@@ -1,4 +1,4 @@
--- Worked examples. They are theorems, proved as contracts in `src/laws.rt`.
+-- Worked examples. They are theorems, proved as contracts in `src/theorems.rt`.
 use Rattle.std.specs.Prelude.{ℕ, true, false, List, [], ◌∷◌, codes}
 use Rattle.texting_robots.specs.Callers.{PlacedRule}
 use Rattle.robots_needless.specs.Needless.{AreNeedless, Covers, IsNeedless}

@@ -1,11 +1,11 @@
-//! Whether each block of a file that has rules keeps one. A block is the group lines below a run of
-//! user-agent lines: without its rules, these user-agent lines would join the next run, at crawlers that
-//! ignore delays even if a delay is left.
+//! Whether each block of a file that has rules keeps one. A block is the members of a group: without its
+//! rules, these user-agent lines would join the next group, at crawlers that ignore delays even if a delay is
+//! left.
 ghost use Rattle.std.specs.Prelude.{◌≡◌, IsTrue};
 ghost use Rattle.texting_robots.specs.Callers.{by_value, file_lines};
 ghost use Rattle.robots_needless.specs.Blocks.{KeepBlocks, block_after};
 
-use crate::needless::{Numbers, Reason};
+use crate::needless::{LineNumbers, Reason};
 use std::alloc::AllocError;
 use std::collections::BTreeMap;
 use texting_robots::parser::{Line, file_lines};
@@ -58,7 +58,7 @@ pub(crate) fn keep_blocks(text: &[u8], found: &BTreeMap<usize, Reason>) -> bool
 pub(crate) fn add_lost(
     text: &[u8],
     found: &BTreeMap<usize, Reason>,
-    stays: &mut Numbers,
+    stays: &mut LineNumbers,
 ) -> Result<(), AllocError> {
     let mut block = NO_RULE;
     let mut last = 0;

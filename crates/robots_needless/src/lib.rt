@@ -3,6 +3,6 @@
 
 mod blocks;
 mod front;
-pub mod laws;
 pub mod lines;
 pub mod needless;
+pub mod theorems;

@@ -9,12 +9,12 @@ ghost use Rattle.robots_needless.specs.Needless.{IsFoundFor, nothing};
 
 use crate::blocks::{add_lost, keep_blocks};
 use crate::front::left_begin_with_mark;
-use crate::needless::{BUDGET, Findings, NeedlessRule, Numbers, Reason, settle};
+use crate::needless::{BUDGET, LineNumbers, NeedlessRule, Progress, Reason, settle};
 use robots_same::rule::rules_of;
 use std::alloc::{AllocError, Global};
 use std::collections::{BTreeMap, BTreeSet};
 use std::marker::Model;
-use texting_robots::{Rejection, Site};
+use texting_robots::{RobotError, Site};
 
 /// How many times the check begins anew, without the rules that another crawler turned out to need.
 const ROUNDS: usize = 8;
@@ -24,20 +24,20 @@ fn add_crawler(
     site: &Site,
     agent: &str,
     budget: &mut usize,
-    findings: &mut Findings,
-) -> Result<(), Rejection>
-    ensures grow { OnOk result (Grow (IsFoundFor (file_lines site.now)) findings.old.found findings.new.found) }
-    ensures more { OnOk result (HasAll findings.new.stays findings.old.stays) }
+    progress: &mut Progress,
+) -> Result<(), RobotError>
+    ensures grow { OnOk result (Grow (IsFoundFor (file_lines site.now)) progress.old.found progress.new.found) }
+    ensures more { OnOk result (HasAll progress.new.stays progress.old.stays) }
     ensures accepted { OnOk result (¬ IsRejected agent.now (file_lines site.now)) }
     ensures settled { OnOk result (IsSettled (placed_rules agent.now (file_lines site.now))
-        findings.new.found findings.new.stays) }
+        progress.new.found progress.new.stays) }
 {
     match site.robot_without_sitemaps(alloc, agent) {
         Ok(_) => {}
         Err(rejection) => return Err(rejection),
     }
     let rules = rules_of(alloc, site, agent)?;
-    settle(alloc, budget, rules, findings)?;
+    settle(alloc, budget, rules, progress)?;
     Ok(())
 }
 
@@ -61,27 +61,27 @@ fn crawlers_of(alloc: Global, site: &Site) -> Result<Vec<&str>, AllocError>
 }
 
 /// The rules in the lines that stay are needed.
-fn findings_for(
+fn progress_for(
     alloc: Global,
     site: &Site,
     crawlers: &[&str],
     budget: &mut usize,
-    stays: Numbers,
-) -> Result<Findings, Rejection>
-    ensures settled { IfOk result (λ findings. AreSettled (file_lines site.now)
-        (map (λ crawler. crawler.now) crawlers.now) findings.found findings.stays) }
-    ensures reasons { IfOk result (λ findings. AreReasons (file_lines site.now) findings.found) }
+    stays: LineNumbers,
+) -> Result<Progress, RobotError>
+    ensures settled { IfOk result (λ progress. AreSettled (file_lines site.now)
+        (map (λ crawler. crawler.now) crawlers.now) progress.found progress.stays) }
+    ensures reasons { IfOk result (λ progress. AreReasons (file_lines site.now) progress.found) }
 {
     let found = BTreeMap::new(alloc);
-    let mut findings = Findings {
+    let mut progress = Progress {
         found,
         stays,
         undecided: BTreeSet::new(alloc),
     };
     for agent in crawlers {
-        add_crawler(alloc, site, agent, budget, &mut findings)?;
+        add_crawler(alloc, site, agent, budget, &mut progress)?;
     }
-    Ok(findings)
+    Ok(progress)
 }
 
 fn listed(alloc: Global, found: &BTreeMap<usize, Reason>) -> Result<Vec<NeedlessRule>, AllocError>
@@ -99,7 +99,7 @@ fn listed(alloc: Global, found: &BTreeMap<usize, Reason>) -> Result<Vec<Needless
     Ok(list)
 }
 
-fn are_free(rules: &[NeedlessRule], stays: &Numbers) -> bool
+fn are_free(rules: &[NeedlessRule], stays: &LineNumbers) -> bool
     ensures { result ≡ are_free rules.now stays.now }
 {
     rules.iter().all(|rule| !stays.contains(&rule.line))
@@ -107,19 +107,19 @@ fn are_free(rules: &[NeedlessRule], stays: &Numbers) -> bool
 
 /// None is in a line that stays, each block that has rules keeps one, and the first line that stays doesn't
 /// begin with a byte of the byte order mark.
-fn can_be_removed(rules: &[NeedlessRule], findings: &Findings, text: &[u8]) -> bool
-    ensures free { IsTrue result → IsTrue (are_free rules.now findings.now.stays) }
-    ensures keep { IsTrue result → KeepBlocks findings.now.found (file_lines text.now) }
+fn can_be_removed(rules: &[NeedlessRule], progress: &Progress, text: &[u8]) -> bool
+    ensures free { IsTrue result → IsTrue (are_free rules.now progress.now.stays) }
+    ensures keep { IsTrue result → KeepBlocks progress.now.found (file_lines text.now) }
     ensures front { IsTrue result
-        → begin_with_mark (left_from (is_found findings.now.found) 0 (file_bodies text.now)) ≡ false }
+        → begin_with_mark (left_from (is_found progress.now.found) 0 (file_bodies text.now)) ≡ false }
 {
-    if !are_free(rules, &findings.stays) {
+    if !are_free(rules, &progress.stays) {
         return false;
     }
-    keep_blocks(text, &findings.found) && !left_begin_with_mark(text, &findings.found)
+    keep_blocks(text, &progress.found) && !left_begin_with_mark(text, &progress.found)
 }
 
-fn numbers_in(alloc: Global, numbers: &Numbers) -> Result<Vec<usize>, AllocError> {
+fn numbers_in(alloc: Global, numbers: &LineNumbers) -> Result<Vec<usize>, AllocError> {
     let mut list = Vec::new(alloc);
     for number in numbers.iter() {
         list.push(*number)?;
@@ -154,21 +154,21 @@ pub fn nothing(alloc: Global) -> Needless
 }
 
 /// None if lines are still found to be needed in the last round.
-fn settled_lines(alloc: Global, site: &Site) -> Result<Needless, Rejection>
+fn settled_lines(alloc: Global, site: &Site) -> Result<Needless, RobotError>
     ensures { IfOk result (λ found. AreFoundIn site.now found.rules) }
 {
     let mut budget = BUDGET;
     let mut stays = BTreeSet::new(alloc);
     let crawlers = crawlers_of(alloc, site)?;
     for _ in 0..ROUNDS {
-        let findings = findings_for(alloc, site, crawlers.as_slice(), &mut budget, stays)?;
-        let rules = listed(alloc, &findings.found)?;
-        if can_be_removed(&rules, &findings, site.text()) {
-            let undecided = numbers_in(alloc, &findings.undecided)?;
+        let progress = progress_for(alloc, site, crawlers.as_slice(), &mut budget, stays)?;
+        let rules = listed(alloc, &progress.found)?;
+        if can_be_removed(&rules, &progress, site.text()) {
+            let undecided = numbers_in(alloc, &progress.undecided)?;
             return Ok(Needless { rules, undecided });
         }
-        stays = findings.stays;
-        add_lost(site.text(), &findings.found, &mut stays)?;
+        stays = progress.stays;
+        add_lost(site.text(), &progress.found, &mut stays)?;
     }
     Ok(nothing(alloc))
 }
@@ -183,7 +183,7 @@ pub fn needless_lines(alloc: Global, site: &Site) -> Result<Needless, AllocError
 {
     match settled_lines(alloc, site) {
         Ok(found) => Ok(found),
-        Err(Rejection::Overlong(_)) => Ok(nothing(alloc)),
-        Err(Rejection::Memory) => Err(AllocError),
+        Err(RobotError::Overlong(_)) => Ok(nothing(alloc)),
+        Err(RobotError::Memory) => Err(AllocError),
     }
 }

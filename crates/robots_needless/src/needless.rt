@@ -35,17 +35,17 @@ pub struct NeedlessRule {
     pub reason: Reason,
 }
 
-pub(crate) type Numbers = BTreeSet<usize>;
+pub(crate) type LineNumbers = BTreeSet<usize>;
 
 /// What was found for some crawlers.
 #[derive(Drop)]
-pub(crate) struct Findings {
+pub(crate) struct Progress {
     /// The lines of rules that are needless for at least one of them, each with the reason.
     pub(crate) found: BTreeMap<usize, Reason>,
     /// The lines of rules that are needed by at least one of them.
-    pub(crate) stays: Numbers,
+    pub(crate) stays: LineNumbers,
     /// The line of a rule of each crawler whose rules weren't all decided.
-    pub(crate) undecided: Numbers,
+    pub(crate) undecided: LineNumbers,
 }
 
 /// What becomes of a rule.
@@ -312,7 +312,7 @@ fn outcome_among(
 fn outcome_of(
     alloc: Global,
     budget: &mut usize,
-    stays: &Numbers,
+    stays: &LineNumbers,
     kept: &[Rule],
     rest: &[Rule],
     rule: &Rule,
@@ -350,7 +350,7 @@ fn by_rank(rules: Vec<Rule>) -> Vec<Rule>
     sorted
 }
 
-fn add_lines(numbers: &mut Numbers, rules: &[Rule]) -> Result<(), AllocError>
+fn add_lines(numbers: &mut LineNumbers, rules: &[Rule]) -> Result<(), AllocError>
     ensures { OnOk result (AddsLines numbers.old numbers.new rules.now) }
 {
     for rule in rules {
@@ -365,22 +365,22 @@ fn reduced(
     alloc: Global,
     budget: &mut usize,
     rules: Vec<Rule>,
-    findings: &mut Findings,
+    progress: &mut Progress,
 ) -> Result<Vec<Rule>, AllocError>
     ensures reducing { IfOk result (λ left.
-        IsReducing rules.items left.items findings.old.found findings.new.found) }
-    ensures stays { OnOk result (findings.new.stays ≡ findings.old.stays) }
+        IsReducing rules.items left.items progress.old.found progress.new.found) }
+    ensures stays { OnOk result (progress.new.stays ≡ progress.old.stays) }
 {
     let mut rest = by_rank(rules);
     let mut kept = Vec::new(alloc);
     while let Some(rule) = rest.pop() {
-        match outcome_of(alloc, budget, &findings.stays, &kept, &rest, &rule)? {
+        match outcome_of(alloc, budget, &progress.stays, &kept, &rest, &rule)? {
             Outcome::Goes(reason) => {
-                findings.found.insert(rule.line, reason)?;
+                progress.found.insert(rule.line, reason)?;
             }
             Outcome::Stays => kept.push(rule)?,
             Outcome::Undecided => {
-                findings.undecided.insert(rule.line)?;
+                progress.undecided.insert(rule.line)?;
                 kept.push(rule)?;
                 kept.append(&mut rest)?;
                 return Ok(kept);
@@ -395,13 +395,13 @@ pub(crate) fn settle(
     alloc: Global,
     budget: &mut usize,
     rules: Vec<Rule>,
-    findings: &mut Findings,
+    progress: &mut Progress,
 ) -> Result<(), AllocError>
-    ensures settled { OnOk result (IsSettled rules.items findings.new.found findings.new.stays) }
-    ensures grow { OnOk result (Grow (IsFound rules.items) findings.old.found findings.new.found) }
-    ensures more { OnOk result (HasAll findings.new.stays findings.old.stays) }
+    ensures settled { OnOk result (IsSettled rules.items progress.new.found progress.new.stays) }
+    ensures grow { OnOk result (Grow (IsFound rules.items) progress.old.found progress.new.found) }
+    ensures more { OnOk result (HasAll progress.new.stays progress.old.stays) }
 {
-    let left = reduced(alloc, budget, rules, findings)?;
-    add_lines(&mut findings.stays, left.as_slice())?;
+    let left = reduced(alloc, budget, rules, progress)?;
+    add_lines(&mut progress.stays, left.as_slice())?;
     Ok(())
 }

@@ -5,9 +5,9 @@
 //! [`Meaning::DenyAll`] and the crawler has an earlier file, it may keep that one.
 #![tactic(auto)]
 
-pub mod laws;
 pub mod response;
 pub mod site;
+pub mod theorems;
 
 pub use response::{LIFETIME, Meaning, REDIRECT_LIMIT, Response};
 pub use site::{allow_all, deny_all};

@@ -1,7 +1,8 @@
 -- How a report is built, and that an input has at most one.
 use Rattle.std.proofs.Common.{arith}
 use Rattle.std.proofs.Common.{◌≡◌, ◌≢◌, ℕ, Bool, true, false, List, [], ◌∷◌, ◌++◌, Option, Some, None}
-use Rattle.std.proofs.Common.{IfErr, IfSome, MatchBool, Result, Ok, Err, ap, inl, inr, map, refl, subst, sym, ◌∙◌}
+use Rattle.std.proofs.Common.{IfErr, IfSome, MatchBool, Result, Ok, Err, ap, inl, inr, map, refl, subst, sym}
+use Rattle.std.proofs.Common.{◌∙◌}
 use Rattle.std.proofs.lemmas.Bool.{cases_Bool, false≢true}
 use Rattle.std.specs.{Result.IsErrAnd}
 use Rattle.texting_robots.specs.Callers.{IsMemoryErrorOr, IsRobotOf, RobotValue, delay_for, lines_read}
@@ -11,7 +12,7 @@ use Rattle.texting_robots.specs.declared.error.Error.TheVariants as error
 use Rattle.texting_robots.proofs.Shared.{Either, any_overlong_decides, delay_is_computed}
 use Rattle.texting_robots.proofs.Shared.{sitemaps_are_computed, answers_computed, lines_are_read}
 use Rattle.texting_robots.proofs.Shared.{read_rejected, rejection_is_computed}
-use Rattle.robots_io.specs.{declared.streams.ReadFault.ReadFault}
+use Rattle.robots_io.specs.{declared.streams.ReadError.ReadError}
 use Rattle.robots_verdict.specs.{declared.fault.Fault.Fault, Fault.fault_of, Fault.fault_of_read}
 use Rattle.robots_verdict.specs.declared.fault.Fault.TheVariants.{HeaderNotUtf8, InvalidRule, Memory, Read}
 use Rattle.robots_verdict.specs.declared.fault.Fault.TheVariants.{NoEmptyLine}
@@ -22,7 +23,7 @@ use Rattle.robots_verdict.specs.Report.{delay_line, sitemap_line}
 use Rattle.printable_text.specs.{Lines.ended}
 use Rattle.printable_text.proofs.SanitizeLemmas.{ended-append, lines_added}
 use Rattle.robots_verdict.proofs.VerdictsLemmas.{lines_like, lines_once, some_lines}
-use Rattle.robots_io.specs.declared.streams.ReadFault.TheVariants as reading
+use Rattle.robots_io.specs.declared.streams.ReadError.TheVariants as reading
 
 pub text_made : (input : Input) (one two text : List ℕ) (robot : RobotValue)
     → IsRobotOf input.agent (lines_read input.file) robot → one ≡ ended (delay_line robot.delay ∷ [])
@@ -120,4 +121,3 @@ pub run_wrote : (left : Option (List ℕ)) (W : List ℕ → Type 0) (items byte
     → W written
     → IfSome left (λ input. (text : List ℕ) × IsReport input (Ok text) × W text)
 run_wrote left W items bytes text written read same report whole wrote = grind arith
-

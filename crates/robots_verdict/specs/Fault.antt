@@ -2,8 +2,8 @@
 use Rattle.std.specs.Prelude.{ℕ, List, Option, None, Some, Result, Ok, Err, codes}
 use Rattle.texting_robots.specs.declared.error.Error.{Error}
 use Rattle.texting_robots.specs.declared.error.Error.TheVariants as error
-use Rattle.robots_io.specs.declared.streams.ReadFault.{ReadFault}
-use Rattle.robots_io.specs.declared.streams.ReadFault.TheVariants as read
+use Rattle.robots_io.specs.declared.streams.ReadError.{ReadError}
+use Rattle.robots_io.specs.declared.streams.ReadError.TheVariants as read
 use Rattle.robots_verdict.specs.declared.fault.Fault.{Fault}
 use Rattle.robots_verdict.specs.declared.fault.Fault.TheVariants.{HeaderNotUtf8, InvalidRule}
 use Rattle.robots_verdict.specs.declared.fault.Fault.TheVariants.{Memory, NoEmptyLine, Read, Write}
@@ -38,7 +38,7 @@ fault_of error.InvalidRobots = Memory
 fault_of error.InvalidRule = InvalidRule
 fault_of error.Memory = Memory
 
-abbrev pub fault_of_read : ReadFault → Fault
+abbrev pub fault_of_read : ReadError → Fault
 fault_of_read read.Folder = Read
 fault_of_read read.Read = Read
 fault_of_read read.Memory = Memory

@@ -1,5 +1,5 @@
 //! The errors that end a run.
-use robots_io::streams::{ReadFault, WriteFault};
+use robots_io::streams::{ReadError, WriteError};
 use std::alloc::{AllocError, AllocFailed};
 use texting_robots::Error;
 
@@ -84,27 +84,27 @@ impl From<Error> for Fault {
     }
 }
 
-impl From<ReadFault> for Fault {
+impl From<ReadError> for Fault {
     ghost use Rattle.std.specs.Prelude.{◌≡◌};
     ghost use Rattle.robots_verdict.specs.Fault.{fault_of_read};
 
     ghost from_gives = { λ fault own. own ≡ fault_of_read fault };
 
-    fn from(fault: ReadFault) -> Fault {
+    fn from(fault: ReadError) -> Fault {
         match fault {
-            ReadFault::Folder | ReadFault::Read => Fault::Read,
-            ReadFault::Memory => Fault::Memory,
+            ReadError::Folder | ReadError::Read => Fault::Read,
+            ReadError::Memory => Fault::Memory,
         }
     }
 }
 
-impl From<WriteFault> for Fault {
+impl From<WriteError> for Fault {
     ghost use Rattle.std.specs.Prelude.{◌≡◌};
     ghost use Rattle.robots_verdict.specs.declared.fault.Fault.TheVariants.{Write};
 
     ghost from_gives = { λ _ fault. fault ≡ Write };
 
-    fn from(_: WriteFault) -> Fault {
+    fn from(_: WriteError) -> Fault {
         Fault::Write
     }
 }

@@ -9,9 +9,9 @@
 mod ending;
 mod fault;
 mod header;
-mod laws;
 mod program;
 mod report;
+mod theorems;
 mod verdicts;
 
 use ending::exit_of;

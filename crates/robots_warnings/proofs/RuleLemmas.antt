@@ -10,7 +10,7 @@ use Rattle.std.specs.{HashMap.Updates, HashMap.get_by_text, HashMap.hash_map_len
 use Rattle.std.specs.{Global.Global, Map.lookup, Option.option_or, String.string_eq, HashSet.contains_text}
 use Rattle.texting_robots.specs.Callers.{escaped, PlacedRule, by_value, label_by_value, LineValue, UserAgent}
 use Rattle.texting_robots.specs.{Escape.is_escaped, declared.labels.LabeledLine.LabeledLine}
-use Rattle.texting_robots.specs.Group.{is_agent, is_group}
+use Rattle.texting_robots.specs.Group.{is_agent, is_member}
 use Rattle.texting_robots.proofs.Shared.{option_or_none}
 use Rattle.robots_warnings.proofs.ClosedLemmas.{differs, either}
 use Rattle.robots_warnings.specs.Conflicts.{allow_beside, at_line, compared, first_of}
@@ -132,8 +132,8 @@ denied_added old new key placed is disallow updates pattern =
     ∙ either (contains_text old pattern) (bytes_eq (string_bytes key) pattern) ∙ rw (is, disallow) refl
 
 pub groups_among : (labels : List LabeledLine)
-    → list_any is_group (lines_of (map label_by_value labels))
-    ≡ list_any (λ labeled. is_group (by_value labeled.line)) labels
+    → list_any is_member (lines_of (map label_by_value labels))
+    ≡ list_any (λ labeled. is_member (by_value labeled.line)) labels
 groups_among [] = refl
 groups_among (labeled ∷ labels) = rw (groups_among labels) refl
 

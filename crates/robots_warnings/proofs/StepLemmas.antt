@@ -4,7 +4,7 @@ use Rattle.std.proofs.Common.{Bool, map, not, take, ◌∷◌, [], arith, codes,
 use Rattle.std.proofs.Common.{append-nil, append_assoc, sym, ◌∙◌, cond, true, if◌then◌else◌, inl, inr}
 use Rattle.std.proofs.lemmas.List.{drop_more, map-append, take_more, Folds.list_any-append}
 use Rattle.robots_warnings.specs.File.{hash, is_blank, space, tab, lines_of}
-use Rattle.robots_warnings.specs.{Positions.group_number, Positions.last_group, Facts.kinds_of}
+use Rattle.robots_warnings.specs.{Positions.member_number, Positions.last_group, Facts.kinds_of}
 use Rattle.robots_warnings.specs.{Facts.nul_at_every_other, Internal.kinds_with, Message.WarningValue}
 use Rattle.robots_warnings.specs.Rules.{begins_dot_segment, from_first, somewhere}
 use Rattle.std.proofs.{Math.Bool.or-false, lemmas.Bool.cases_Bool, lemmas.List.Concat.flat_map-append}
@@ -36,7 +36,7 @@ kinds_next labels at labeled below = rw (take_more labels at labeled below)
 pub last_from : (labels : List LabeledLine) (at : ℕ) (labeled : LabeledLine) → at < length labels
     → last_group (map label_by_value (drop at labels))
     ≡ option_or (last_group (map label_by_value (drop (at + 1) labels)))
-    (group_number (label_by_value (slice_index_or labels at labeled)))
+    (member_number (label_by_value (slice_index_or labels at labeled)))
 last_from labels at labeled below = rw (drop_more labels at labeled below) refl
 
 -- all of the text, if the test holds for it, or the same for all but its first byte

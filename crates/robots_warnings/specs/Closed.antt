@@ -12,7 +12,7 @@ use Rattle.robots_warnings.specs.declared.site_patterns.TheConstants.{STATIC_FIL
 use Rattle.robots_warnings.specs.{Conflicts.first_line, File.lines_of, declared.positions.Preceding.Preceding}
 use Rattle.robots_warnings.specs.Crawlers.{meant, other_group, ends_token}
 use Rattle.robots_warnings.specs.Rules.{begins_oddly, has_dollar_inside, somewhere}
-use Rattle.texting_robots.specs.Group.{is_agent, is_group}
+use Rattle.texting_robots.specs.Group.{is_agent, is_member}
 use Rattle.robots_warnings.specs.declared.positions.Preceding.TheVariants.{Agent, Delay, Other}
 use Rattle.robots_warnings.specs.Positions.{begin_with_one, name_star, preceding_with}
 
@@ -202,7 +202,7 @@ is_first_name Other line = is_agent line
 -- group of `*`, too, even for crawlers that ignore delays; `from_here` are the lines from this one on
 abbrev pub is_replacing : List (List ℕ) → List LineValue → Preceding → LineValue → List LineValue → Bool
 is_replacing agents lines preceding line from_here =
-    (is_first_name preceding line && list_any is_group from_here)
+    (is_first_name preceding line && list_any is_member from_here)
     && (begin_with_one (λ name. is_lacking agents lines (str_to_ascii_lowercase name)) from_here
     && not (name_star from_here))
 

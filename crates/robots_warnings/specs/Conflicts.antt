@@ -4,7 +4,7 @@ use Rattle.std.specs.Prelude.{◌≡◌, ◌+◌, ◌==◌, Bool, not, ◌||◌,
 use Rattle.std.specs.{Str.byte, Option.option_or}
 use Rattle.texting_robots.specs.Callers.{Allow, Label, LineValue, PlacedRule, AreRulesFor, placed_rules}
 use Rattle.texting_robots.specs.{Statement.IsStatement, declared.parser.statement.Kind.TheVariants.Disallow}
-use Rattle.robots_warnings.specs.{FieldNames.without_front}
+use Rattle.robots_warnings.specs.{FieldNames.trim_blanks_start}
 
 -- ---- Empty Disallows. Each is an Allow of `/` here, and no rule for RFC 9309 and Google.
 
@@ -23,9 +23,9 @@ begins_with_d [] = false
 begins_with_d (b ∷ text) = b == byte "d" || b == byte "D"
 
 -- the line is read as an Allow, but its field name begins with a `d`; by the theorem `empty_disallows` of
--- `warnings_laws` this agrees with `IsEmptyDisallow`
+-- `warning_theorems` this agrees with `IsEmptyDisallow`
 abbrev pub is_empty_disallow : LineValue → List ℕ → Bool
-is_empty_disallow (Allow value) body = begins_with_d (without_front body)
+is_empty_disallow (Allow value) body = begins_with_d (trim_blanks_start body)
 is_empty_disallow _ body = false
 
 -- the line with this number is one
@@ -107,7 +107,8 @@ at_line number other placed = if placed.line == number then other placed else No
 abbrev pub conflict_among : (ℕ → Bool) → List PlacedRule → ℕ → Option ℕ
 conflict_among is_empty rules number = first_of (at_line number (allow_beside is_empty rules)) rules
 
--- the same for a crawler; `warnings_laws` proves that this agrees with `IsConflict`, and `overruled_for` with
+-- the same for a crawler; `warning_theorems` proves that this agrees with `IsConflict`, and `overruled_for`
+-- with
 -- `IsOverruled`
 abbrev pub conflict_for : (ℕ → Bool) → List LineValue → ℕ → List ℕ → Option ℕ
 conflict_for is_empty lines number agent = conflict_among is_empty (placed_rules agent lines) number

@@ -4,7 +4,7 @@ use Rattle.std.specs.Prelude.{ℕ, ◌==◌, nat_eq, Bool, not, ◌||◌, ◌&&�
 use Rattle.std.specs.Prelude.{nat_lt, slice_index}
 use Rattle.std.specs.List.{ends_with, list_all, list_any, position_or_len, starts_with}
 use Rattle.std.specs.{Char.is_ascii_alphanumeric, Char.is_ascii_digit, Str.byte, Str.is_utf8}
-use Rattle.robots_warnings.specs.FieldNames.{without_end, without_front}
+use Rattle.robots_warnings.specs.FieldNames.{trim_blanks_end, trim_blanks_start}
 use Rattle.robots_warnings.specs.Rules.{after_byte, before_byte, begins_oddly, has}
 use Rattle.robots_warnings.specs.{Closed.is_whole_site, File.hash, File.tab}
 
@@ -18,7 +18,7 @@ comment_of body = drop (position_or_len (λ b. b == hash) body) body
 
 -- the tail without spaces and tabs at both ends
 abbrev pub raw_value : List ℕ → List ℕ
-raw_value tail = without_end (without_front tail)
+raw_value tail = trim_blanks_end (trim_blanks_start tail)
 
 -- `value` is the raw value without white space of any kind at both ends, or `/` for an empty Disallow; so
 -- other white space than spaces and tabs was dropped

@@ -10,7 +10,8 @@ use Rattle.texting_robots.specs.{Statement.field_names, declared.parser.statemen
 use Rattle.robots_warnings.specs.{File.hash, File.space, File.tab, Urls.begins_as_url, Crawlers.is_token_byte}
 use Rattle.robots_warnings.specs.{SeveralValues.begins_unseen, declared.table.Cause.Cause}
 use Rattle.robots_warnings.specs.Rules.{after_byte, before_byte, somewhere, has}
-use Rattle.robots_warnings.specs.declared.field_names.TheConstants.{DIRECTIVES, KINDS, OTHER_FORMS, UNSUPPORTED}
+use Rattle.robots_warnings.specs.declared.field_names.TheConstants.{DIRECTIVES, KINDS, OTHER_FORMS}
+use Rattle.robots_warnings.specs.declared.field_names.TheConstants.{UNSUPPORTED}
 use Rattle.robots_warnings.specs.declared.table.Cause.TheVariants.{HostName, InvalidDelay, UnrecognizedLine}
 use Rattle.robots_warnings.specs.declared.table.Cause.TheVariants.{EqualsSign, UnseenInName}
 use Rattle.texting_robots.specs.declared.parser.statement.Kind.TheVariants as kind
@@ -18,23 +19,23 @@ use Rattle.texting_robots.specs.declared.parser.statement.Kind.TheVariants as ki
 abbrev pub is_space_or_tab : ℕ → Bool
 is_space_or_tab b = b == space || b == tab
 
-abbrev pub without_front : List ℕ → List ℕ
-without_front [] = []
-without_front (b ∷ text) = if is_space_or_tab b then without_front text else b ∷ text
+abbrev pub trim_blanks_start : List ℕ → List ℕ
+trim_blanks_start [] = []
+trim_blanks_start (b ∷ text) = if is_space_or_tab b then trim_blanks_start text else b ∷ text
 
-abbrev pub without_end : List ℕ → List ℕ
-without_end text = reverse (without_front (reverse text))
+abbrev pub trim_blanks_end : List ℕ → List ℕ
+trim_blanks_end text = reverse (trim_blanks_start (reverse text))
 
 -- the text before the first such byte, or all of it, without spaces and tabs at both ends
 abbrev pub name_before : ℕ → List ℕ → List ℕ
-name_before b body = without_end (without_front (before_byte b body))
+name_before b body = trim_blanks_end (trim_blanks_start (before_byte b body))
 
 abbrev pub name_in : List ℕ → List ℕ
 name_in body = name_before (byte ":") body
 
 -- the text up to the first space or tab, without leading ones
 abbrev pub first_word : List ℕ → List ℕ
-first_word body = before_first is_space_or_tab (without_front body)
+first_word body = before_first is_space_or_tab (trim_blanks_start body)
 
 -- ignoring ASCII case
 abbrev pub is_name : List ℕ → List ℕ → Bool
@@ -105,7 +106,7 @@ is_host_byte b = is_ascii_alphanumeric b || (b == byte "-" || (b == byte "." || 
 -- what is between the colon and a comment seems to be a host name or an http(s) URL
 abbrev pub has_host : List ℕ → Bool
 has_host body =
-    let value = without_end (without_front (after_byte (byte ":") (before_byte hash body))) in
+    let value = trim_blanks_end (trim_blanks_start (after_byte (byte ":") (before_byte hash body))) in
     begins_as_url value || (not (length value == 0) && list_all is_host_byte value)
 
 -- an accepted name of a directive
@@ -128,7 +129,7 @@ meant_by body =
 
 -- the line starts with none of the usual names
 abbrev pub is_misspelled : List ℕ → Bool
-is_misspelled body = not (list_any (λ row. begins_with row.0.now (without_front body)) DIRECTIVES)
+is_misspelled body = not (list_any (λ row. begins_with row.0.now (trim_blanks_start body)) DIRECTIVES)
 
 abbrev pub begins_field : List ℕ → List ℕ → Bool
 begins_field name text = begins_with name text && slice_index text (length name) == byte ":"

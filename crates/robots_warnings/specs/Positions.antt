@@ -3,7 +3,7 @@ use Rattle.std.specs.Prelude.{ℕ, Bool, true, false, nat_lt, not, ◌||◌, ◌
 use Rattle.std.specs.Prelude.{Some, ◌==◌, bytes_eq, codes, if◌then◌else◌}
 use Rattle.std.specs.{Option.option_or, Str.str_eq_ignore_ascii_case}
 use Rattle.texting_robots.specs.Callers.{CrawlDelay, LineValue, Label, Raw, UserAgent}
-use Rattle.texting_robots.specs.{Group.is_agent, Group.is_group, Line.delay_in}
+use Rattle.texting_robots.specs.{Group.is_agent, Group.is_member, Line.delay_in}
 use Rattle.texting_robots.specs.declared.labels.Membership.{Membership, TheVariants.Ungrouped}
 use Rattle.robots_warnings.specs.declared.positions.Preceding.{Preceding}
 use Rattle.robots_warnings.specs.declared.positions.Preceding.TheVariants.{Agent, Delay, Other}
@@ -39,12 +39,12 @@ sole_name preceding name (UserAgent value) = if is_other preceding then Some val
 sole_name preceding name _ = name
 
 -- the number of the line, if it is a rule or a delay
-abbrev pub group_number : Label → Option ℕ
-group_number label = if is_group label.line then Some label.number else None
+abbrev pub member_number : Label → Option ℕ
+member_number label = if is_member label.line then Some label.number else None
 
 abbrev pub last_group : List Label → Option ℕ
 last_group [] = None
-last_group (label ∷ labels) = option_or (last_group labels) (group_number label)
+last_group (label ∷ labels) = option_or (last_group labels) (member_number label)
 
 abbrev pub is_after : Option ℕ → ℕ → Bool
 is_after None number = true
@@ -62,7 +62,7 @@ begin_with_rules begun (line ∷ lines) = is_rule line || begin_with_rules begun
 abbrev pub begin_with_one : (List ℕ → Bool) → List LineValue → Bool
 begin_with_one test [] = false
 begin_with_one test (UserAgent value ∷ lines) = test value || begin_with_one test lines
-begin_with_one test (line ∷ lines) = not (is_group line) && begin_with_one test lines
+begin_with_one test (line ∷ lines) = not (is_member line) && begin_with_one test lines
 
 abbrev pub begin_with_name : List ℕ → List LineValue → Bool
 begin_with_name name lines = begin_with_one (λ value. str_eq_ignore_ascii_case value name) lines
@@ -92,7 +92,7 @@ abbrev pub reach_name : (other bare : Bool) → List LineValue → Bool
 reach_name other bare [] = false
 reach_name other bare (UserAgent value ∷ lines) = other || (bare && not (begin_bare lines))
 reach_name other bare (line ∷ lines) =
-    not (is_group line) && reach_name (other || has_text line) (bare || is_bare line) lines
+    not (is_member line) && reach_name (other || has_text line) (bare || is_bare line) lines
 
 -- a user-agent line, which such a line follows that belongs to the same group
 abbrev pub are_joined : List LineValue → Bool

@@ -8,7 +8,7 @@ ghost use Rattle.robots_warnings.specs.Conflicts.{allow_beside, compared, confli
 ghost use Rattle.robots_warnings.specs.Conflicts.{overruled_among, overruling};
 ghost use Rattle.robots_warnings.specs.Internal.Rules.{AreOf, HasFirst};
 
-use crate::numbers::Numbers;
+use crate::numbers::LineNumbers;
 use crate::own_rules::own_rules;
 use std::alloc::{AllocError, Global};
 use std::collections::{BTreeMap, HashMap};
@@ -46,7 +46,7 @@ fn add_allow(
     alloc: Global,
     lines: &mut Lines,
     rule: &SiteRule<'_>,
-    empty: &Numbers,
+    empty: &LineNumbers,
 ) -> Result<(), AllocError>
     ensures { OnOk result ((pattern : List ℕ) → get_by_text lines.new pattern
         ≡ option_or (get_by_text lines.old pattern)
@@ -59,7 +59,11 @@ fn add_allow(
 }
 
 /// For each pattern, the line of the first Allow with it, other than empty Disallows.
-fn first_allows(alloc: Global, rules: &[SiteRule<'_>], empty: &Numbers) -> Result<Lines, AllocError>
+fn first_allows(
+    alloc: Global,
+    rules: &[SiteRule<'_>],
+    empty: &LineNumbers,
+) -> Result<Lines, AllocError>
     ensures { IfOk result (λ lines. HasFirst (contains nat_cmp empty.now) lines rules.now) }
 {
     let mut lines = HashMap::new(alloc);
@@ -101,7 +105,7 @@ fn allow_beside(
 }
 
 #[tactic(auto, using(crate::proofs::RuleLemmas::slash_or_star))]
-fn is_of_all(rule: &SiteRule<'_>, is_allow: bool, empty: &Numbers) -> bool
+fn is_of_all(rule: &SiteRule<'_>, is_allow: bool, empty: &LineNumbers) -> bool
     ensures { result ≡ is_like (contains nat_cmp empty.now) is_allow (codes "/") rule.now }
 {
     rule.is_allow == is_allow
@@ -109,7 +113,7 @@ fn is_of_all(rule: &SiteRule<'_>, is_allow: bool, empty: &Numbers) -> bool
         && !empty.contains(&rule.line)
 }
 
-fn first_of_all(rules: &[SiteRule<'_>], is_allow: bool, empty: &Numbers) -> Option<usize>
+fn first_of_all(rules: &[SiteRule<'_>], is_allow: bool, empty: &LineNumbers) -> Option<usize>
     ensures { result ≡ first_line (is_like (contains nat_cmp empty.now) is_allow (codes "/")) rules.now }
 {
     for rule in rules {
@@ -120,7 +124,7 @@ fn first_of_all(rules: &[SiteRule<'_>], is_allow: bool, empty: &Numbers) -> Opti
     None
 }
 
-fn overruling(rules: &[SiteRule<'_>], empty: &Numbers) -> Option<usize>
+fn overruling(rules: &[SiteRule<'_>], empty: &LineNumbers) -> Option<usize>
     ensures { result ≡ overruling (contains nat_cmp empty.now) rules.now }
 {
     match first_of_all(rules, true, empty) {
@@ -130,7 +134,7 @@ fn overruling(rules: &[SiteRule<'_>], empty: &Numbers) -> Option<usize>
 }
 
 /// `other` if the rule is an empty Disallow.
-fn if_empty(rule: &SiteRule<'_>, other: Option<usize>, empty: &Numbers) -> Option<usize>
+fn if_empty(rule: &SiteRule<'_>, other: Option<usize>, empty: &LineNumbers) -> Option<usize>
     ensures { result ≡ (if rule.now.rule.1 && contains nat_cmp empty.now rule.now.line then other else None) }
 {
     if rule.is_allow && empty.contains(&rule.line) {
@@ -147,7 +151,7 @@ fn add_others(
     conflicts: &mut Others,
     overruled: &mut Others,
     rules: &[SiteRule<'_>],
-    empty: &Numbers,
+    empty: &LineNumbers,
 ) -> Result<(), AllocError>
     ensures conflicts { OnOk result ((number : ℕ) → get nat_cmp conflicts.new number
         ≡ option_or (get nat_cmp conflicts.old number)
@@ -180,7 +184,7 @@ pub(crate) fn rule_lines(
     alloc: Global,
     site: &Site,
     agents: &[&str],
-    empty: &Numbers,
+    empty: &LineNumbers,
 ) -> Result<RuleLines, AllocError>
     ensures { IfOk result (AreOf (contains nat_cmp empty.now) (map (λ agent. agent.now) agents.now) (file_lines site.now)) }
 {

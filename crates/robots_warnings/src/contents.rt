@@ -6,7 +6,7 @@ ghost use Rattle.std.specs.List.{list_all, list_any};
 ghost use Rattle.robots_warnings.specs.Contents.{are_digits, comment_of, has_odd_comment, has_odd_delay, has_odd_space};
 ghost use Rattle.robots_warnings.specs.Contents.{is_control, is_cut, is_cut_short, is_cut_to_root, is_emptied, raw_value, tail_of};
 
-use crate::field_names::{without_end, without_front};
+use crate::field_names::{trim_blanks_end, trim_blanks_start};
 use crate::rules::{after_byte, before_byte, begins_oddly, has, is_utf8, place};
 use crate::site_patterns::is_whole_site;
 
@@ -23,7 +23,7 @@ pub fn split_content<'a>(body: &'a [u8]) -> (&'a [u8], &'a [u8])
 fn raw_value<'a>(tail: &'a [u8]) -> &'a [u8]
     ensures { result.now ≡ raw_value tail.now }
 {
-    without_end(without_front(tail))
+    trim_blanks_end(trim_blanks_start(tail))
 }
 
 pub(crate) fn has_odd_space(value: &[u8], tail: &[u8]) -> bool

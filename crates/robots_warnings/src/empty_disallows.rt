@@ -4,8 +4,8 @@ ghost use Rattle.std.specs.{BTreeSet.contains, Ordering.nat_cmp};
 ghost use Rattle.texting_robots.specs.Callers.{by_value, label_by_value};
 ghost use Rattle.robots_warnings.specs.Conflicts.{is_empty_at, is_empty_disallow};
 
-use crate::field_names::without_front;
-use crate::numbers::{Numbers, insert_if};
+use crate::field_names::trim_blanks_start;
+use crate::numbers::{LineNumbers, insert_if};
 use std::alloc::{AllocError, Global};
 use std::collections::BTreeSet;
 use texting_robots::labels::LabeledLine;
@@ -16,7 +16,7 @@ pub fn is_empty_disallow(line: Line<'_>, body: &[u8]) -> bool
     ensures { result ≡ is_empty_disallow (by_value line.entry) body.now }
 {
     match line {
-        Line::Allow(_) => matches!(without_front(body), [b'd' | b'D', ..]),
+        Line::Allow(_) => matches!(trim_blanks_start(body), [b'd' | b'D', ..]),
         _ => false,
     }
 }
@@ -24,7 +24,7 @@ pub fn is_empty_disallow(line: Line<'_>, body: &[u8]) -> bool
 pub(crate) fn empty_disallows(
     alloc: Global,
     labels: &[LabeledLine<'_>],
-) -> Result<Numbers, AllocError>
+) -> Result<LineNumbers, AllocError>
     ensures { IfOk result (λ numbers. (number : ℕ) → contains nat_cmp numbers number
         ≡ is_empty_at (map label_by_value labels.now) number) }
 {

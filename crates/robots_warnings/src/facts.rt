@@ -117,7 +117,7 @@ fn seems_utf_16(file: &[u8]) -> bool
 }
 
 /// The text without a byte order mark.
-pub fn without_mark<'a>(text: &'a [u8]) -> &'a [u8]
+pub fn without_utf8_bom<'a>(text: &'a [u8]) -> &'a [u8]
     ensures { result.now ≡ without_start mark text.now }
 {
     text.strip_prefix(b"\xEF\xBB\xBF").unwrap_or(text)
@@ -136,7 +136,7 @@ fn without_white<'a>(text: &'a [u8]) -> &'a [u8]
 fn seems_html(file: &[u8]) -> bool
     ensures { result ≡ seems_html file.now }
 {
-    without_white(without_mark(file)).starts_with(b"<")
+    without_white(without_utf8_bom(file)).starts_with(b"<")
 }
 
 fn has_damaged_mark(file: &[u8]) -> bool

@@ -5,8 +5,8 @@ ghost use Rattle.robots_warnings.specs.FieldNames.{after_seam, begins_field, beg
 ghost use Rattle.robots_warnings.specs.FieldNames.{directive_in, first_that, first_word, goes_on, has_host};
 ghost use Rattle.robots_warnings.specs.FieldNames.{is_accepted, is_any_accepted, is_either, is_host_byte};
 ghost use Rattle.robots_warnings.specs.FieldNames.{is_misspelled, is_name, is_space_or_tab, is_without_colon};
-ghost use Rattle.robots_warnings.specs.FieldNames.{may_either_mean, may_mean, meant_by, name_in, without_end};
-ghost use Rattle.robots_warnings.specs.FieldNames.{without_front, name_before};
+ghost use Rattle.robots_warnings.specs.FieldNames.{may_either_mean, may_mean, meant_by, name_in, trim_blanks_end};
+ghost use Rattle.robots_warnings.specs.FieldNames.{trim_blanks_start, name_before};
 ghost use Rattle.robots_warnings.specs.Internal.{name_value};
 
 use crate::file::first;
@@ -61,8 +61,8 @@ const KINDS: [Kind; 5] = [
     Kind::CrawlDelay,
 ];
 
-pub(crate) fn without_front<'a>(text: &'a [u8]) -> &'a [u8]
-    ensures { result.now ≡ without_front text.now }
+pub(crate) fn trim_blanks_start<'a>(text: &'a [u8]) -> &'a [u8]
+    ensures { result.now ≡ trim_blanks_start text.now }
 {
     let mut rest = text;
     while let [b' ' | b'\t', after @ ..] = rest {
@@ -71,8 +71,8 @@ pub(crate) fn without_front<'a>(text: &'a [u8]) -> &'a [u8]
     rest
 }
 
-pub(crate) fn without_end<'a>(text: &'a [u8]) -> &'a [u8]
-    ensures { result.now ≡ without_end text.now }
+pub(crate) fn trim_blanks_end<'a>(text: &'a [u8]) -> &'a [u8]
+    ensures { result.now ≡ trim_blanks_end text.now }
 {
     let mut rest = text;
     while let [before @ .., b' ' | b'\t'] = rest {
@@ -84,7 +84,7 @@ pub(crate) fn without_end<'a>(text: &'a [u8]) -> &'a [u8]
 fn name_before<'a>(byte: u8, body: &'a [u8]) -> &'a [u8]
     ensures { result.now ≡ name_before byte body.now }
 {
-    without_end(without_front(before_byte(byte, body)))
+    trim_blanks_end(trim_blanks_start(before_byte(byte, body)))
 }
 
 fn name_in<'a>(body: &'a [u8]) -> &'a [u8]
@@ -105,7 +105,7 @@ fn word_len(text: &[u8]) -> usize
 fn first_word<'a>(body: &'a [u8]) -> &'a [u8]
     ensures { result.now ≡ first_word body.now }
 {
-    let text = without_front(body);
+    let text = trim_blanks_start(body);
     &text[..word_len(text)]
 }
 
@@ -204,7 +204,7 @@ fn are_host_bytes(text: &[u8]) -> bool
 fn has_host(body: &[u8]) -> bool
     ensures { result ≡ has_host body.now }
 {
-    let value = without_end(without_front(after_byte(b':', before_byte(b'#', body))));
+    let value = trim_blanks_end(trim_blanks_start(after_byte(b':', before_byte(b'#', body))));
     begins_as_url(value) || (!value.is_empty() && are_host_bytes(value))
 }
 
@@ -245,7 +245,7 @@ fn begins_with_any(names: &[(&str, Cause)], text: &[u8]) -> bool
 pub(crate) fn is_misspelled(body: &[u8]) -> bool
     ensures { result ≡ is_misspelled body.now }
 {
-    !begins_with_any(&DIRECTIVES, without_front(body))
+    !begins_with_any(&DIRECTIVES, trim_blanks_start(body))
 }
 
 fn begins_field(name: &str, text: &[u8]) -> bool

@@ -5,9 +5,13 @@ ghost use Rattle.std.specs.{BTreeSet.contains, Ordering.nat_cmp};
 use std::alloc::AllocError;
 use std::collections::BTreeSet;
 
-pub(crate) type Numbers = BTreeSet<usize>;
+pub(crate) type LineNumbers = BTreeSet<usize>;
 
-pub(crate) fn insert_if(numbers: &mut Numbers, holds: bool, number: usize) -> Result<(), AllocError>
+pub(crate) fn insert_if(
+    numbers: &mut LineNumbers,
+    holds: bool,
+    number: usize,
+) -> Result<(), AllocError>
     ensures { OnOk result ((other : ℕ) → contains nat_cmp numbers.new other
         ≡ (contains nat_cmp numbers.old other || (holds && number == other))) }
 {

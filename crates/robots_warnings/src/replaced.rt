@@ -3,7 +3,7 @@ ghost use Rattle.std.specs.Prelude.{◌≡◌, ◌||◌, ◌&&◌, Bool, IfOk, L
 ghost use Rattle.std.specs.{BTreeSet.contains, HashSet.contains_text, List.list_any};
 ghost use Rattle.std.specs.{Str.str_to_ascii_lowercase};
 ghost use Rattle.texting_robots.specs.Callers.{LineValue, by_value, file_lines, label_by_value};
-ghost use Rattle.texting_robots.specs.{Group.is_group};
+ghost use Rattle.texting_robots.specs.{Group.is_member};
 ghost use Rattle.robots_warnings.specs.Closed.{denies, is_lacking, is_partial, is_replacing, lacks_all};
 ghost use Rattle.robots_warnings.specs.Closed.{replacing, star_rules};
 ghost use Rattle.robots_warnings.specs.{File.lines_of, Positions.begin_with_one};
@@ -147,7 +147,7 @@ fn begin_with_one(
 }
 
 fn is_in_group(labeled: &LabeledLine<'_>) -> bool
-    ensures { result ≡ is_group (by_value labeled.now.line) }
+    ensures { result ≡ is_member (by_value labeled.now.line) }
 {
     matches!(
         labeled.line,
@@ -156,7 +156,7 @@ fn is_in_group(labeled: &LabeledLine<'_>) -> bool
 }
 
 fn have_group(labels: &[LabeledLine<'_>]) -> bool
-    ensures { result ≡ list_any (λ labeled. is_group (by_value labeled.line)) labels.now }
+    ensures { result ≡ list_any (λ labeled. is_member (by_value labeled.line)) labels.now }
 {
     labels.iter().any(is_in_group)
 }

@@ -10,12 +10,12 @@ use Rattle.std.proofs.lemmas.Bool.Decides.{Decides-and, Decides-or, Decides-not,
 use Rattle.std.proofs.lemmas.{List.take_all}
 use Rattle.texting_robots.specs.{declared.groups.GroupTracker.GroupTracker, Rules.PlacedRule, Rules.Rule}
 use Rattle.texting_robots.specs.{Rules.unplaced, Line.LineValue, Line.delay_in}
-use Rattle.texting_robots.specs.Group.{IsCaptured, group_name, is_agent, is_agent_named, is_group, passes_at}
+use Rattle.texting_robots.specs.Group.{IsCaptured, group_name, is_agent, is_agent_named, is_member, passes_at}
 use Rattle.texting_robots.specs.Internal.Captured.{is_captured, some_below}
 use Rattle.texting_robots.specs.Executable.{captured_delays, captured_lines, placed_in, rule_in, rules_for}
 use Rattle.texting_robots.specs.Internal.Group.{from_captured, if_captured, placed, start_of, step}
 
--- a group line is between `j` and `i`
+-- a member is between `j` and `i`
 abbrev crossed : (ℕ → Bool) → ℕ → ℕ → Bool
 crossed G j i = some_below (λ k. nat_lt j k && G k) i
 
@@ -23,11 +23,11 @@ crossed G j i = some_below (λ k. nat_lt j k && G k) i
 abbrev broken : (ℕ → Bool) → (ℕ → Bool) → ℕ → ℕ → Bool
 broken A G j i = some_below (λ l. A l && crossed G j l) i
 
--- a line before `i` has the name, and no group line follows it
+-- a line before `i` has the name, and no member follows it
 abbrev open_at : (ℕ → Bool) → (ℕ → Bool) → ℕ → Bool
 open_at G N i = some_below (λ j. N j && not (crossed G j i)) i
 
--- a line before `i` has the name, and no new run of user-agent lines begins after it
+-- a line before `i` has the name, and no other group begins after it
 abbrev named_at : (ℕ → Bool) → (ℕ → Bool) → (ℕ → Bool) → ℕ → Bool
 named_at A G N i = some_below (λ j. N j && not (broken A G j i)) i
 
@@ -95,7 +95,7 @@ is_captured_decides name lines i =
     (Decides-like _
     (grind arith)
     (grind arith)
-    (named_decides (passes_at is_agent lines) (passes_at is_group lines)
+    (named_decides (passes_at is_agent lines) (passes_at is_member lines)
     (passes_at (is_agent_named name) lines) i))
 
 below_same : (f g : ℕ → Bool) (n : ℕ) → ((j : ℕ) → j < n → f j ≡ g j)
@@ -114,7 +114,7 @@ not_crossed G j i near = grind (arith, and_left, le-ltb, none_below)
 not_broken : (A G : ℕ → Bool) (j i : ℕ) → i ≤ j + 1 → broken A G j i ≡ false
 not_broken A G j i near = grind (arith, and_right, none_below, not_crossed)
 
--- a new run of user-agent lines only begins after a group line
+-- another group begins only after a member
 absorbed : (A G : ℕ → Bool) (j i : ℕ) → (crossed G j i || broken A G j i) ≡ crossed G j i
 absorbed A G j zero = refl
 absorbed A G j (suc i) = grind (arith, absorbed A G j i)
@@ -152,11 +152,11 @@ open_next G N i =
     at false = refl
 
 abbrev pub open_in : List ℕ → List LineValue → ℕ → Bool
-open_in name lines i = open_at (passes_at is_group lines) (passes_at (is_agent_named name) lines) i
+open_in name lines i = open_at (passes_at is_member lines) (passes_at (is_agent_named name) lines) i
 
 abbrev named_in : List ℕ → List LineValue → ℕ → Bool
 named_in name lines i =
-    named_at (passes_at is_agent lines) (passes_at is_group lines) (passes_at (is_agent_named name) lines) i
+    named_at (passes_at is_agent lines) (passes_at is_member lines) (passes_at (is_agent_named name) lines) i
 
 pub record IsWalkAt (name : List ℕ) (lines : List LineValue) (i : ℕ) (tracker : GroupTracker) : Type 0 where
   pub captured : is_captured name lines i ≡ tracker.captured
@@ -172,17 +172,17 @@ named_on : (name : List ℕ) (lines : List LineValue) (i : ℕ) (line : LineValu
 named_on name lines i line at =
     ap (is_captured name lines) (add-one i)
     ∙ ap (λ b. not (list_any is_agent lines) || b)
-    (named_next (passes_at is_agent lines) (passes_at is_group lines)
+    (named_next (passes_at is_agent lines) (passes_at is_member lines)
     (passes_at (is_agent_named name) lines) i)
     ∙ rw at refl
 
 open_on : (name : List ℕ) (lines : List LineValue) (i : ℕ) (line : LineValue)
     → slice_get lines i ≡ Some line
     → open_in name lines (i + 1)
-    ≡ (is_agent_named name line || (not (is_group line) && open_in name lines i))
+    ≡ (is_agent_named name line || (not (is_member line) && open_in name lines i))
 open_on name lines i line at =
     ap (open_in name lines) (add-one i)
-    ∙ open_next (passes_at is_group lines) (passes_at (is_agent_named name) lines) i
+    ∙ open_next (passes_at is_member lines) (passes_at (is_agent_named name) lines) i
     ∙ rw at refl
 
 pub only_agents : (name : List ℕ) (line : LineValue) → is_agent line ≡ false

@@ -2,7 +2,7 @@
 use Rattle.std.proofs.Common.{ℕ, ◌+◌, ◌≤◌, List, [], ◌∷◌, arith, length, map}
 use Rattle.std.proofs.lemmas.{Bool.cond_both, List.length-map}
 use Rattle.texting_robots.specs.{Cut.Pair, Internal.Line.line_of, Line.nul_as_lf}
-use Rattle.texting_robots.specs.{Line.without, Line.without_front, Executable.file_bodies, Executable.parsed}
+use Rattle.texting_robots.specs.{Line.without, Line.without_bom, Executable.file_bodies, Executable.parsed}
 use Rattle.texting_robots.specs.Internal.Cut.{before_body, before_end, bodies_of, cut}
 use Rattle.texting_robots.proofs.{CutLemmas.pair_of}
 
@@ -24,10 +24,10 @@ cut_within (byte ∷ text) = grind (arith, body_adds, cond_both, end_adds, cut_w
 without_within : (byte : ℕ) (text : List ℕ) → length (without byte text) ≤ length text
 without_within byte text = grind (arith, cond_both)
 
-front_within : (text : List ℕ) → length (without_front text) ≤ length text
+front_within : (text : List ℕ) → length (without_bom text) ≤ length text
 front_within text = grind (arith, without_within)
 
-pub bodies_within : (text : List ℕ) → length (bodies_of (without_front text)) ≤ length text
+pub bodies_within : (text : List ℕ) → length (bodies_of (without_bom text)) ≤ length text
 bodies_within text = grind (arith, cut_within, front_within, length-map)
 
 pub file_bodies_within : (text : List ℕ) → length (file_bodies text) ≤ length text
@@ -36,4 +36,4 @@ file_bodies_within text =
 
 pub lines_within : (text : List ℕ) → length (parsed text) ≤ length text
 lines_within text =
-    omega (arith, length-map (bodies_of (without_front text)) line_of, bodies_within text)
+    omega (arith, length-map (bodies_of (without_bom text)) line_of, bodies_within text)

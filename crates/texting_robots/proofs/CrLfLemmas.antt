@@ -2,9 +2,9 @@
 use Rattle.std.proofs.Common.{◌≡◌, ℕ, false, ◌==◌, ◌&&◌, inl, inr, List, [], ◌∷◌, if◌then◌else◌, map, arith}
 use Rattle.std.proofs.Common.{slice_index, refl, ap, ◌∙◌, ◌↔◌}
 use Rattle.std.proofs.lemmas.Bool.{cases_Bool, cond-false, and_parts, eqb-true, ne_eqb}
-use Rattle.texting_robots.specs.{Cut.Pair, Cut.cr, Cut.lf, Executable.parsed, Laws.crlf_to_lf}
+use Rattle.texting_robots.specs.{Cut.Pair, Cut.cr, Cut.lf, Executable.parsed, Theorems.crlf_to_lf}
 use Rattle.texting_robots.specs.Internal.Cut.{before_body, before_byte, before_end, bodies_of, cut}
-use Rattle.texting_robots.specs.Line.{without, without_front, AreLinesOf, LineValue}
+use Rattle.texting_robots.specs.Line.{without, without_bom, AreLinesOf, LineValue}
 use Rattle.texting_robots.proofs.CutLemmas.{byte_cases, cut_cons, pair_of}
 use Rattle.texting_robots.proofs.{LineLemmas.each_text_has_its_lines}
 
@@ -63,7 +63,7 @@ without_alone byte [] no_lf no_cr = refl
 without_alone byte (b ∷ text) no_lf no_cr =
     grind (arith, and_parts, cases_Bool, eqb-true, feed_stays, without_alone byte text no_lf no_cr)
 
-front_alone : (text : List ℕ) → without_front (crlf_to_lf text) ≡ crlf_to_lf (without_front text)
+front_alone : (text : List ℕ) → without_bom (crlf_to_lf text) ≡ crlf_to_lf (without_bom text)
 front_alone text = grind (arith, without_alone)
 
 same_parsed : (text : List ℕ) → parsed (crlf_to_lf text) ≡ parsed text

@@ -39,14 +39,14 @@ module _ (n : Bool) (position : ℕ) (text : List ℕ) where
   abbrev left : List LineValue
   left = lines_of (read_as n (drop k text))
 
-  pub tagged_past : (run : ℕ) (joins : Bool)
-      → tagged_from run joins position lines ≡ tagged_from run joins (position + k) left
-  tagged_past run joins = past_empty (tagged_from run joins) (λ p left. refl) n position text
+  pub tagged_past : (group : ℕ) (joins : Bool)
+      → tagged_from group joins position lines ≡ tagged_from group joins (position + k) left
+  tagged_past group joins = past_empty (tagged_from group joins) (λ p left. refl) n position text
 
-  pub named_past : (run : ℕ) (joins : Bool) (count : ℕ)
-      → named_from run joins position count lines ≡ named_from run joins (position + k) count left
-  named_past run joins count =
-      past_empty (λ p left. named_from run joins p count left) (λ p left. refl) n position text
+  pub named_past : (group : ℕ) (joins : Bool) (count : ℕ)
+      → named_from group joins position count lines ≡ named_from group joins (position + k) count left
+  named_past group joins count =
+      past_empty (λ p left. named_from group joins p count left) (λ p left. refl) n position text
 
   pub sitemaps_past : sitemaps_in lines ≡ sitemaps_in left
   sitemaps_past = past_empty (λ p left. sitemaps_in left) (λ p left. refl) n position text

@@ -7,7 +7,7 @@ use Rattle.texting_robots.specs.Examples.{Answers, GivesDelay, GivesRules}
 use Rattle.texting_robots.specs.Executable.{delay_for, file_lines, placed_rules}
 use Rattle.texting_robots.specs.Pattern.{IsOverlong, MatchesWith, collapsed, dollar, longest_with_dollar}
 use Rattle.texting_robots.specs.Rules.{AreRulesFor, IsDelayFor, PlacedRule, Rule}
-use Rattle.texting_robots.proofs.{BestLemmas.allowed_by, GivenLemmas.delay_is_computed}
+use Rattle.texting_robots.proofs.{BestLemmas.allowed_by, ExecutableLemmas.delay_is_computed}
 use Rattle.texting_robots.proofs.BestLemmas.{answered, deciding_rule, line_by, matches, matches_decides}
 use Rattle.texting_robots.proofs.MainTheoremLemmas.{computed_are, has_lines}
 

@@ -23,7 +23,7 @@ use Rattle.texting_robots.specs.{Pattern.Matches, Cost.cost_of, Cost.looks_of, R
 use Rattle.texting_robots.specs.{Verdict.IsVerdict, Verdict.robots_file, Rules.unplaced}
 use Rattle.texting_robots.specs.View.{LooksAtMost, ViewValue}
 use Rattle.std.proofs.lemmas.Bool.{cond_both, eqb-false, leb-true, cases_lt, cases_order, le-leb}
-use Rattle.texting_robots.specs.declared.rules.{Entry.Entry, Unsorted.Unsorted}
+use Rattle.texting_robots.specs.declared.rules.{RuleEntry.RuleEntry, RuleTable.RuleTable}
 use Rattle.std.proofs.Math.{Nat.mul-le-mul_left}
 use Rattle.texting_robots.specs.Decision.{IsDecidingRule, IsLongestMatch, LooksForRules, as_long_as}
 use Rattle.texting_robots.proofs.BestLemmas.{IsAbove, IsBest, IsPreferred, NoMatch, best_decides, longer}
@@ -170,11 +170,11 @@ pub within_looks : (p : List ℕ) (ends : Ends) (segments : List Segment) (borde
 within_looks p ends segments borders are n old new short all first =
     grind (arith, cond_both, eqb-false, leb-true)
 
-abbrev pub cost_upto : Unsorted → ℕ → ℕ → ℕ
+abbrev pub cost_upto : RuleTable → ℕ → ℕ → ℕ
 cost_upto all n at = cost_of (take at (rules_in all)) n
 
-module _ (all : Unsorted) (n at : ℕ) where
-  pub cost_more : (entry : Entry) → at < length all.entries.items
+module _ (all : RuleTable) (n at : ℕ) where
+  pub cost_more : (entry : RuleEntry) → at < length all.entries.items
       → entry ≡ get_or all.entries.items at entry
       → cost_upto all n (at + 1) ≡ cost_upto all n at + (1 + looks_of (pattern_of all entry) n)
   cost_more entry below is =
@@ -192,7 +192,7 @@ counts n (rule ∷ rules) =
     omega (arith, sum_by-cons (λ (r : PlacedRule). 1 + looks_of r.rule.0 n) rule rules, counts n rules)
 
 -- each of the rules from `from` to `to` costs one at least
-pub cost_counts : (all : Unsorted) (n from to : ℕ) → from ≤ to → to ≤ length all.entries.items
+pub cost_counts : (all : RuleTable) (n from to : ℕ) → from ≤ to → to ≤ length all.entries.items
     → cost_upto all n from + (to - from) ≤ cost_upto all n to
 cost_counts all n from to less within =
     let some = take to (rules_in all) in
@@ -218,32 +218,32 @@ at_most_more : (old new : ViewValue) (few many : ℕ) → few ≤ many → Looks
 at_most_more old new few many more is = grind arith
 
 -- the rules before this index were tried: none matches, and together they took no more than they cost
-pub record AreTried (all : Unsorted) (old new : ViewValue) (at : ℕ) : Type 0 where
+pub record AreTried (all : RuleTable) (old new : ViewValue) (at : ℕ) : Type 0 where
   pub text : new.text ≡ old.text
   pub before : (k : ℕ) → k < at → MatchesAt all k old.text → ⊥
   pub grows : old.looks ≤ new.looks
   pub spent : new.looks ≤ old.looks + cost_upto all (length old.text) at
 
-pub mask_within : (all : Unsorted) (entry : Entry) → IsEntryOf all entry → (text : List ℕ)
+pub mask_within : (all : RuleTable) (entry : RuleEntry) → IsEntryOf all entry → (text : List ℕ)
     → Matches (pattern_of all entry) text
     → AreWithin (mask_in (string_bytes all.text) entry) (pair_set text)
 mask_within all entry is text matches = grind (arith, beginning_within, within_both)
 
 -- rules whose masks exclude the text don't match it
-pub none_apart : (all : Unsorted) (text : List ℕ) (from to : ℕ) → AreEntries all
+pub none_apart : (all : RuleTable) (text : List ℕ) (from to : ℕ) → AreEntries all
     → HaveMasks (string_bytes all.text) all.entries.items all.masks.items
     → AreApart all.masks.items (pair_set text) from to → NoneBetween all text from to
 none_apart all text from to are masked apart = λ k above below matches.
     let (here, differs) = apart k above below in
     grind (arith, mask_within, are.known, differs)
 
-pub tried_to : (all : Unsorted) (old now new : ViewValue) (from to : ℕ)
+pub tried_to : (all : RuleTable) (old now new : ViewValue) (from to : ℕ)
     → NoneBetween all old.text from to → new.text ≡ now.text → now.looks ≤ new.looks
     → new.looks + cost_upto all (length old.text) from ≤ now.looks + cost_upto all (length old.text) to
     → AreTried all old now from → AreTried all old new to
 tried_to all old now new from to none same grows spent tried = grind (arith, cases_lt, tried.before, none)
 
-pub tried_more : (all : Unsorted) (old now new : ViewValue) (at : ℕ) (entry : Entry)
+pub tried_more : (all : RuleTable) (old now new : ViewValue) (at : ℕ) (entry : RuleEntry)
     → at < length all.entries.items → entry ≡ get_or all.entries.items at entry
     → ¬ Matches (pattern_of all entry) old.text → new.text ≡ now.text → now.looks ≤ new.looks
     → new.looks ≤ now.looks + (1 + looks_of (pattern_of all entry) (length old.text))
@@ -258,8 +258,8 @@ part_length : {X : Type 0} (xs : List X) (span : Span) → IsSpan xs span
 part_length xs span h =
     simp (length-take, length-drop) (omega arith)
 
-module _ (all : Unsorted) (known : All (IsEntryOf all) all.entries.items) where
-  abbrev entry_at : ℕ → Entry
+module _ (all : RuleTable) (known : All (IsEntryOf all) all.entries.items) where
+  abbrev entry_at : ℕ → RuleEntry
   entry_at k = get_or all.entries.items k no_entry
 
   abbrev placed : ℕ → PlacedRule

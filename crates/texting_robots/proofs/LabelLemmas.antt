@@ -16,12 +16,13 @@ use Rattle.std.proofs.Math.Bool.{or_comm, and-or_distrib_right, or-and_distrib_l
 use Rattle.std.proofs.{Math.Nat.add-zero, lemmas.Option.slice_get-get_or, Math.Nat.zero-add}
 use Rattle.texting_robots.specs.{declared.groups.GroupTracker.GroupTracker, Rules.Rule}
 use Rattle.texting_robots.specs.{Internal.Captured.is_captured, declared.labels.Membership.Membership}
-use Rattle.texting_robots.specs.Group.{group_name, is_agent, is_group, IsCaptured, is_agent_named, passes_at}
+use Rattle.texting_robots.specs.Group.{group_name, is_agent, is_member, IsCaptured, is_agent_named, passes_at}
 use Rattle.texting_robots.specs.Line.{Allow, Disallow, IsLineOf, LineValue, Raw, UserAgent}
 use Rattle.texting_robots.specs.Internal.Line.{line_of}
-use Rattle.texting_robots.specs.Labels.{is_own, label_at, labels_of, AreLabelsOf, AreOneRun, IsInGroup, Label}
+use Rattle.texting_robots.specs.Labels.{is_own, label_at, labels_of, AreLabelsOf, AreOneGroup, IsInGroup}
+use Rattle.texting_robots.specs.Labels.{Label}
 use Rattle.texting_robots.specs.Labels.{bodies_in, lines_in}
-use Rattle.texting_robots.specs.Labels.{IsInOwnGroup, HasMembership, next_group, membership_of}
+use Rattle.texting_robots.specs.Labels.{IsInOwnGroup, HasMembership, next_member, membership_of}
 use Rattle.texting_robots.specs.declared.labels.Membership.TheVariants.{Own, Other, Ungrouped}
 use Rattle.texting_robots.specs.Executable.{placed_in, placed_rules, rule_in}
 use Rattle.texting_robots.specs.Internal.Group.{captured_ahead, from_captured, if_captured, labels_from, step}
@@ -91,28 +92,28 @@ either_end test text k within meet none =
 
 -- ---- The membership of lines, as the iterator computes it.
 
--- `captured_ahead` is the test at the index of the next group line, or at the end if there is none
+-- `captured_ahead` is the test at the index of the next member, or at the end if there is none
 ahead_is : (name : List ℕ) (all : List LineValue) (tracker : GroupTracker) (position : ℕ)
     (lines : List LineValue)
     → IsWalkAt name all position tracker → drop position all ≡ lines
-    → captured_ahead name tracker lines ≡ is_captured name all (position + position_or_len is_group lines)
+    → captured_ahead name tracker lines ≡ is_captured name all (position + position_or_len is_member lines)
 ahead_is name all tracker position [] splits left = rw add-zero (sym splits.captured)
-ahead_is name all tracker position (line ∷ lines) splits left = elim (cases_Bool (is_group line)) [
+ahead_is name all tracker position (line ∷ lines) splits left = elim (cases_Bool (is_member line)) [
   | inl is ↦ rw (is, add-zero) (sym splits.captured)
   | inr isnt ↦
       let (at, next) = at_front all position line lines left in
-      let further = position_or_len is_group lines in
+      let further = position_or_len is_member lines in
       let there : position + (1 + further) ≡ (position + 1) + further = omega arith in
       let ahead = ahead_is name all (step name tracker line) (position + 1) lines
       (occurs_next name all position tracker line at splits) next in
       rw (isnt, there) (rw isnt at ahead)
 ]
 
--- what is known about the next group line stays known after a line that isn't one
+-- what is known about the next member stays known after a line that isn't one
 pub known_next : (name : List ℕ) (tracker : GroupTracker) (line : LineValue) (lines rest : List LineValue)
     (known : Bool)
     → lines ≡ line ∷ rest → captured_ahead name tracker lines ≡ known
-    → IfSome (then_some (not (is_group line)) known)
+    → IfSome (then_some (not (is_member line)) known)
     (λ ahead. captured_ahead name (step name tracker line) rest ≡ ahead)
 known_next name tracker line lines rest known next is = grind (arith, cases_Bool)
 
@@ -170,7 +171,7 @@ own_rules agent bodies = grind (arith, captured_walked, labels_are, own_left)
 -- ---- Each line has the membership that the specification states by indices of lines.
 
 not_both : (lines : List LineValue) (k : ℕ) → passes_at is_agent lines k ≡ true
-    → ¬ (passes_at is_group lines k ≡ true)
+    → ¬ (passes_at is_member lines k ≡ true)
 not_both [] k agent group = cc
 not_both (UserAgent value ∷ lines) zero agent group = cc
 not_both (line ∷ lines) zero agent group = cc
@@ -188,17 +189,17 @@ and_given x y first second = grind arith
 
 pub record IsNext (lines : List LineValue) (position next : ℕ) : Type 0 where
   pub from : position ≤ next
-  pub none : (k : ℕ) → position ≤ k → k < next → ¬ (passes_at is_group lines k ≡ true)
-  pub stop : (passes_at is_group lines next ≡ true) ⊎ (length lines ≤ next)
+  pub none : (k : ℕ) → position ≤ k → k < next → ¬ (passes_at is_member lines k ≡ true)
+  pub stop : (passes_at is_member lines next ≡ true) ⊎ (length lines ≤ next)
 
-is_next : (lines : List LineValue) (position : ℕ) → IsNext lines position (next_group lines position)
+is_next : (lines : List LineValue) (position : ℕ) → IsNext lines position (next_member lines position)
 is_next lines position = record {
   from = omega arith;
   none = λ k least less group.
       let there : position + (k - position) ≡ k = omega arith in
       let read = rw there at (get_or-drop position lines (k - position) (Raw [])) in
       grind (arith, fails_before_first, within, at);
-  stop = elim (cases_lt (next_group lines position) (length lines)) [
+  stop = elim (cases_lt (next_member lines position) (length lines)) [
     | inl less ↦ grind (arith, get_or-drop, length-drop, passes_at_first, at)
     | inr past ↦ inr past
   ];
@@ -208,30 +209,30 @@ is_next lines position = record {
     left = drop position lines
 
     at : (k : ℕ) → k < length lines
-        → passes_at is_group lines k ≡ is_group (slice_index_or lines k (Raw []))
+        → passes_at is_member lines k ≡ is_member (slice_index_or lines k (Raw []))
     at k less = rw (slice_get-get_or lines k (Raw []) less) refl
 
 module _ (name : List ℕ) (lines : List LineValue) (position next : ℕ) (is : IsNext lines position next) where
-  abbrev NamedInRun : Type 0
-  NamedInRun = (j : ℕ) × (passes_at (is_agent_named name) lines j ≡ true) × AreOneRun lines position j
+  abbrev NamedInGroup : Type 0
+  NamedInGroup = (j : ℕ) × (passes_at (is_agent_named name) lines j ≡ true) × AreOneGroup lines position j
 
   module _ (agent : passes_at is_agent lines position ≡ true) where
     agent_before : position < next
     agent_before = grind (arith, cases_lt, not_both, within)
 
-    run_named : IsCaptured name lines next → NamedInRun
-    run_named (inl none) = absurd (none position agent)
-    run_named (inr (j, below, named, apart)) = (j, named, run)
+    group_named : IsCaptured name lines next → NamedInGroup
+    group_named (inl none) = absurd (none position agent)
+    group_named (inr (j, below, named, apart)) = (j, named, together)
       where
-        apart_from : (k : ℕ) → k < position → passes_at is_group lines k ≡ true → k < j
+        apart_from : (k : ℕ) → k < position → passes_at is_member lines k ≡ true → k < j
         apart_from k before group = elim (cases_order k j) [
           | inl same ↦ absurd (not_both lines j (named_agent name lines j named) (rw same at group))
           | inr (inl less) ↦ less
           | inr (inr more) ↦ absurd (apart (k, position, more, before, agent_before, group, agent))
         ]
 
-        run : AreOneRun lines position j
-        run k group = elim (cases_lt k position) [
+        together : AreOneGroup lines position j
+        together k group = elim (cases_lt k position) [
           | inl before ↦ inl (before, apart_from k before group)
           | inr least ↦
               let first = agent_before in
@@ -241,41 +242,41 @@ module _ (name : List ℕ) (lines : List LineValue) (position next : ℕ) (is : 
               ]
         ]
 
-    named_before : (j : ℕ) → passes_at (is_agent_named name) lines j ≡ true → AreOneRun lines position j
+    named_before : (j : ℕ) → passes_at (is_agent_named name) lines j ≡ true → AreOneGroup lines position j
         → j < next
-    named_before j named run = grind (arith, agent_before, within)
+    named_before j named together = grind (arith, agent_before, within)
 
-    named_captures : NamedInRun → IsCaptured name lines next
-    named_captures (j, named, run) = grind (arith, named_before)
+    named_captures : NamedInGroup → IsCaptured name lines next
+    named_captures (j, named, together) = grind (arith, named_before)
 
-  group_stops : passes_at is_group lines position ≡ true → next ≡ position
+  group_stops : passes_at is_member lines position ≡ true → next ≡ position
   group_stops group = grind (arith, cases_lt)
 
 module _ (name : List ℕ) (lines : List LineValue) (position : ℕ) (line : LineValue)
     (at : slice_get lines position ≡ Some line) where
   abbrev next : ℕ
-  next = next_group lines position
+  next = next_member lines position
 
   -- a user-agent line is in the crawler's own group if the next rule or delay is captured, or one at the end
   -- of the file would be
-  own_decides : Decides ((is_agent line || is_group line) && is_captured name lines next)
+  own_decides : Decides ((is_agent line || is_member line) && is_captured name lines next)
       (IsInOwnGroup name lines position)
   own_decides =
       let is = is_next lines position in
       let test = is_captured name lines next in
       let captured = is_captured_decides name lines next in
-      let same : ((is_agent line || is_group line) && test)
-      ≡ ((passes_at is_group lines position && test) || (passes_at is_agent lines position && test))
+      let same : ((is_agent line || is_member line) && test)
+      ≡ ((passes_at is_member lines position && test) || (passes_at is_agent lines position && test))
       = grind (arith, and-or_distrib_right, or_comm) in
       Decides-at _ _ same (Decides-or _ _
       (grind (arith, and_given, itself, is))
       (Decides-like _ (grind arith)
       (grind arith)
       (and_given _ _ (itself (passes_at is_agent lines position)) (λ agent.
-      Decides-like _ (run_named name lines position next is agent)
+      Decides-like _ (group_named name lines position next is agent)
       (named_captures name lines position next is agent) captured))))
 
-  in_group_decides : Decides ((is_agent line || is_group line) && list_any is_agent
+  in_group_decides : Decides ((is_agent line || is_member line) && list_any is_agent
       (take (position + 1) lines))
       (IsInGroup lines position)
   in_group_decides = grind (arith, any_next, itself, or-and_distrib_left, taken_decides)

@@ -15,10 +15,10 @@ pub mod RulesLemmas
 pub mod EmptyLemmas
 pub mod LaneLemmas
 pub mod SiteLemmas
-pub mod SiteRunLemmas
+pub mod SiteGroupLemmas
 pub mod SiteNameLemmas
 pub mod SiteOwnLemmas
-pub mod LawLemmas
+pub mod TheoremLemmas
 pub mod NormalizedLemmas
 pub mod AllocationFreeLemmas
 pub mod SegmentLemmas
@@ -26,7 +26,7 @@ pub mod CollapseLemmas
 pub mod SearchLemmas
 pub mod FirstLemmas
 pub mod VerdictLemmas
-pub mod GivenLemmas
+pub mod ExecutableLemmas
 pub mod MainTheoremLemmas
 pub mod BestLemmas
 pub mod ExampleLemmas

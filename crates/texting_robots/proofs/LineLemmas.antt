@@ -13,7 +13,7 @@ use Rattle.texting_robots.specs.Statement.{IsAfterBlanks, IsAfterColon, IsStatem
 use Rattle.texting_robots.specs.Internal.Statement.{kind_by, skip_blanks, statement_of, tail_as, value_of}
 use Rattle.texting_robots.specs.Line.{AreFileBodiesOf, AreLinesOf, HoldRangesOf, HoldsRangeOf, IsLineOf, Raw}
 use Rattle.texting_robots.specs.Line.{IsLineWith, IsRangeOf, LineValue, CrawlDelay, Sitemap, UserAgent}
-use Rattle.texting_robots.specs.Line.{delay_in, is_raw, is_sitemap, nul_as_lf, without, without_front}
+use Rattle.texting_robots.specs.Line.{delay_in, is_raw, is_sitemap, nul_as_lf, without, without_bom}
 use Rattle.texting_robots.specs.Internal.Line.{delay_or_raw, line_of, line_with}
 use Rattle.texting_robots.proofs.DelayLemmas.{delay_of_is, is_delay_of}
 use Rattle.texting_robots.proofs.CutLemmas.{is_cut, only_cut}
@@ -79,9 +79,9 @@ only_lines (line ∷ lines) (body ∷ bodies) all =
 parsed_are_lines : (text : List ℕ) → AreLinesOf (parsed text) text
 parsed_are_lines text =
     record {
-      pairs = cut (without_front text);
-      is_cut = is_cut (without_front text);
-      each = are_lines (bodies_of (without_front text));
+      pairs = cut (without_bom text);
+      is_cut = is_cut (without_bom text);
+      each = are_lines (bodies_of (without_bom text));
     }
 
 pub each_text_has_its_lines : (text : List ℕ) (lines : List LineValue)
@@ -91,7 +91,7 @@ each_text_has_its_lines text lines = grind (arith, only_cut, only_lines, parsed_
 pub file_bodies_are : (text : List ℕ) (bodies : List (List ℕ)) → bodies ≡ file_bodies text
     → AreFileBodiesOf bodies text
 file_bodies_are text bodies same =
-    let rest = without_front (map nul_as_lf text) in (cut rest, is_cut rest, same)
+    let rest = without_bom (map nul_as_lf text) in (cut rest, is_cut rest, same)
 
 pub lines_of_file_bodies : (text : List ℕ) (bodies : List (List ℕ)) → bodies ≡ file_bodies text
     → AllZip IsLineOf (file_lines text) bodies
@@ -231,10 +231,10 @@ without_read : (byte : ℕ) (text : List ℕ) → byte ≢ 0 → byte ≢ lf
     → map nul_as_lf (without byte text) ≡ without byte (map nul_as_lf text)
 without_read byte text some other = grind (arith, read_other)
 
-pub front_read : (text : List ℕ) → map nul_as_lf (without_front text) ≡ without_front (map nul_as_lf text)
+pub front_read : (text : List ℕ) → map nul_as_lf (without_bom text) ≡ without_bom (map nul_as_lf text)
 front_read text = grind (arith, without_read)
 
-pub front_is_end : (text : List ℕ) → (taken : List ℕ) × (text ≡ taken ++ without_front text)
+pub front_is_end : (text : List ℕ) → (taken : List ℕ) × (text ≡ taken ++ without_bom text)
 front_is_end text =
     let one = taken_off 0xEF text in
     let two = taken_off 0xBB (without 0xEF text) in
@@ -247,11 +247,11 @@ parsed_ranges : (text : List ℕ) → HoldRangesOf (parsed text) text
 parsed_ranges text =
     let end = front_is_end text in
     record {
-      pairs = cut (without_front text);
-      is_cut = is_cut (without_front text);
+      pairs = cut (without_bom text);
+      is_cut = is_cut (without_bom text);
       whole = grind (arith, is_cut);
       each =
-          line_ranges (bodies_of (without_front text));
+          line_ranges (bodies_of (without_bom text));
     }
 
 pub lines_range : (text : List ℕ) (lines : List LineValue) → lines ≡ parsed text

@@ -20,8 +20,8 @@ use Rattle.texting_robots.specs.{Internal.Captured.is_captured, Internal.Group.p
 use Rattle.texting_robots.specs.{Internal.Robot.IsComputedRobot, declared.error.Error.Error}
 use Rattle.texting_robots.specs.Robot.{IsRobotOfFile, AnswerAlike, IsRobotOf, RobotValue, file_limit}
 use Rattle.texting_robots.proofs.CapturedLemmas.{cond_given, kept_next}
-use Rattle.texting_robots.proofs.GivenLemmas.{given_come, given_from, placed_held, sitemaps_are_computed}
-use Rattle.texting_robots.proofs.{GivenLemmas.delay_is_computed, LineLemmas.each_text_has_its_lines}
+use Rattle.texting_robots.proofs.ExecutableLemmas.{given_come, given_from, placed_held, sitemaps_are_computed}
+use Rattle.texting_robots.proofs.{ExecutableLemmas.delay_is_computed, LineLemmas.each_text_has_its_lines}
 use Rattle.texting_robots.proofs.RulesLemmas.{any_unplaced, rejected_wider, some_overlong}
 use Rattle.texting_robots.proofs.BestLemmas.{placed_of, none_denies, verdict_by}
 use Rattle.texting_robots.proofs.VerdictLemmas.{after_first, same_elements, longest_permuted, same_lines}

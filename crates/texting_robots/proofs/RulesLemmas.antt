@@ -7,7 +7,8 @@ use Rattle.std.specs.List.{All, Any, before_first, cons_option, filter_map, last
 use Rattle.std.specs.Option.{option_to_list, option_or, IfSome, IsSomeAnd}
 use Rattle.std.proofs.lemmas.List.{append-nil, get_or-map, get_or_at, length-map, Sums.take_while-cons}
 use Rattle.texting_robots.specs.{declared.error.Error.Error, Executable.rule_in, Executable.sitemap_in}
-use Rattle.texting_robots.specs.{Error.IsMemoryErrorOr, Group.is_agent, Group.is_group, Internal.Group.placed}
+use Rattle.texting_robots.specs.{Error.IsMemoryErrorOr, Group.is_agent, Group.is_member}
+use Rattle.texting_robots.specs.{Internal.Group.placed}
 use Rattle.texting_robots.specs.Line.{LineValue, delay_in, is_raw, is_sitemap}
 use Rattle.texting_robots.specs.{Pattern.IsOverlong}
 use Rattle.texting_robots.specs.Rules.{IsFirstOverlong, PlacedRule, Rule, unplaced}
@@ -19,7 +20,7 @@ no_sitemap line h = grind arith
 
 -- a user-agent line gives nothing, and neither does a line that isn't a directive
 pub nothing_in : (line : LineValue) → (is_agent line ≡ true) ⊎ (is_raw line ≡ true)
-    → (rule_in line ≡ None) × (sitemap_in line ≡ None) × (delay_in line ≡ None) × (is_group line ≡ false)
+    → (rule_in line ≡ None) × (sitemap_in line ≡ None) × (delay_in line ≡ None) × (is_member line ≡ false)
 nothing_in line is = grind arith
 
 pub rejected_wider : (P Q : Type 0) (e : Error) → (P → Q) → IsMemoryErrorOr P e → IsMemoryErrorOr Q e

@@ -7,7 +7,7 @@ use Rattle.std.proofs.lemmas.List.{drop_at, length-append, length-drop, map_push
 use Rattle.std.proofs.lemmas.List.{get_or_append_left, get_or_push, get_or-append-add, length_push, drop_all}
 use Rattle.std.proofs.lemmas.List.Elements.{All-head, All-push, All-tail, All-weaker}
 use Rattle.texting_robots.specs.declared.segments.{Ends.Ends, Segment.Segment, Span.Span}
-use Rattle.texting_robots.specs.declared.rules.{Entry.Entry}
+use Rattle.texting_robots.specs.declared.rules.{RuleEntry.RuleEntry}
 use Rattle.texting_robots.specs.Internal.Segments.{IsEntry, placed_at, ArePrefilter, AreSegments, IsSegment}
 use Rattle.texting_robots.specs.Internal.Segments.{IsSpan, part_of, Agrees, AreBorders, IsLongestBorder}
 use Rattle.texting_robots.specs.Internal.Segments.{IsRestAfterFirst, OccursNowhere, from_star, IsCutAtStar}
@@ -55,13 +55,13 @@ module _ (p : List ℕ) (ends : Ends) (segments : List Segment) (borders more : 
 
 module _ (text more_text : List ℕ) (segments more_segments : List Segment)
     (borders more_borders : List ℕ) where
-  abbrev IsOld : Entry → Type 0
+  abbrev IsOld : RuleEntry → Type 0
   IsOld = IsEntry text segments borders
 
-  abbrev IsNow : Entry → Type 0
+  abbrev IsNow : RuleEntry → Type 0
   IsNow = IsEntry (text ++ more_text) (segments ++ more_segments) (borders ++ more_borders)
 
-  entry_kept : (entry : Entry) → IsOld entry → IsNow entry
+  entry_kept : (entry : RuleEntry) → IsOld entry → IsNow entry
   entry_kept entry h =
       let one = part_kept text more_text entry.pattern h.pattern in
       let two = part_kept segments more_segments entry.segments h.searched in
@@ -72,31 +72,32 @@ module _ (text more_text : List ℕ) (segments more_segments : List Segment)
         needed = rw one h.needed;
       }
 
-  pub entries_pushed : (entries : List Entry) (entry : Entry) → All IsOld entries → IsNow entry
+  pub entries_pushed : (entries : List RuleEntry) (entry : RuleEntry) → All IsOld entries → IsNow entry
       → All IsNow (entries ++ entry ∷ [])
   entries_pushed entries entry known is =
       All-push IsNow entries entry (All-weaker IsOld IsNow entry_kept entries known) is
 
-module _ (text pattern : List ℕ) (segments searched : List Segment) (borders : List ℕ) (entry : Entry) where
-  pub record IsPushed : Type 0 where
-    pub pattern_span : IsNew text (text ++ pattern) entry.pattern
-    pub searched_span : IsNew segments (segments ++ searched) entry.segments
-    pub is_cut : AreSegments pattern entry.ends searched borders
-    pub needed : ArePrefilter pattern entry.prefilter
+module _ (text pattern : List ℕ) (segments searched : List Segment) (borders : List ℕ) (entry : RuleEntry)
+  where
+    pub record IsPushed : Type 0 where
+      pub pattern_span : IsNew text (text ++ pattern) entry.pattern
+      pub searched_span : IsNew segments (segments ++ searched) entry.segments
+      pub is_cut : AreSegments pattern entry.ends searched borders
+      pub needed : ArePrefilter pattern entry.prefilter
 
-  pub entry_new : IsPushed → IsEntry (text ++ pattern) (segments ++ searched) borders entry
-  entry_new is =
-      let one = part_new text pattern entry.pattern is.pattern_span in
-      let two = part_new segments searched entry.segments is.searched_span in
-      record {
-        pattern = span_new text pattern entry.pattern is.pattern_span;
-        searched = span_new segments searched entry.segments is.searched_span;
-        is_cut = rw (one, two) is.is_cut;
-        needed = rw one is.needed;
-      }
+    pub entry_new : IsPushed → IsEntry (text ++ pattern) (segments ++ searched) borders entry
+    entry_new is =
+        let one = part_new text pattern entry.pattern is.pattern_span in
+        let two = part_new segments searched entry.segments is.searched_span in
+        record {
+          pattern = span_new text pattern entry.pattern is.pattern_span;
+          searched = span_new segments searched entry.segments is.searched_span;
+          is_cut = rw (one, two) is.is_cut;
+          needed = rw one is.needed;
+        }
 
 module _ (text more : List ℕ) (segments : List Segment) (borders : List ℕ) where
-  rules_kept : (entries : List Entry) → All (IsEntry text segments borders) entries
+  rules_kept : (entries : List RuleEntry) → All (IsEntry text segments borders) entries
       → map (placed_at (text ++ more)) entries ≡ map (placed_at text) entries
   rules_kept [] known = refl
   rules_kept (entry ∷ entries) known =
@@ -105,7 +106,8 @@ module _ (text more : List ℕ) (segments : List Segment) (borders : List ℕ) w
       let rest = rules_kept entries (All-tail (IsEntry text segments borders) entry entries known) in
       rw (one, rest) refl
 
-  pub rules_pushed : (entries : List Entry) (entry : Entry) → All (IsEntry text segments borders) entries
+  pub rules_pushed : (entries : List RuleEntry) (entry : RuleEntry)
+      → All (IsEntry text segments borders) entries
       → IsNew text (text ++ more) entry.pattern
       → map (placed_at (text ++ more)) (entries ++ entry ∷ [])
       ≡ map (placed_at text) entries ++ record { rule = (more, entry.is_allow); line = entry.line } ∷ []

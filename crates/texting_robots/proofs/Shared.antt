@@ -33,6 +33,6 @@ pub use Rattle.texting_robots.proofs.ExampleLemmas.{any_overlong_decides, matchi
 pub use Rattle.texting_robots.proofs.ExampleLemmas.{overlong_decides}
 pub use Rattle.texting_robots.proofs.{CutFromFront.bodies_nil, CountLemmas.lines_within}
 pub use Rattle.texting_robots.proofs.{LabelLemmas.labels_hold, LaneLemmas.found_or_end}
-pub use Rattle.texting_robots.proofs.{LawLemmas.raw_changes_nothing, NormalizedLemmas.plain_stays}
-pub use Rattle.texting_robots.proofs.{CollapseLemmas.length_within, GivenLemmas.delay_is_computed}
-pub use Rattle.texting_robots.proofs.{GivenLemmas.sitemaps_are_computed}
+pub use Rattle.texting_robots.proofs.{TheoremLemmas.raw_changes_nothing, NormalizedLemmas.plain_stays}
+pub use Rattle.texting_robots.proofs.{CollapseLemmas.length_within, ExecutableLemmas.delay_is_computed}
+pub use Rattle.texting_robots.proofs.{ExecutableLemmas.sitemaps_are_computed}

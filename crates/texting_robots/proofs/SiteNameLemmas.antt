@@ -13,11 +13,12 @@ use Rattle.std.proofs.lemmas.{Grind.get_or-set_at, Option.get_or_from_slice_get,
 use Rattle.std.proofs.lemmas.{Option.slice_get-map, Option.slice_get_read, Option.slice_get_within}
 use Rattle.std.proofs.lemmas.Slice.{Eq.bytes_eq-Decides}
 use Rattle.texting_robots.specs.Internal.Site.{AreLinked, bucket_of, first_named, is_in}
-use Rattle.texting_robots.specs.Internal.Site.{Named, has_name, in_front, is_of, is_run_of, named_of, tag_at}
-use Rattle.texting_robots.specs.Internal.Site.{count_after, named, named_from, run_after}
+use Rattle.texting_robots.specs.Internal.Site.{Named, has_name, in_front, is_of, is_group_of, named_of}
+use Rattle.texting_robots.specs.Internal.Site.{tag_at}
+use Rattle.texting_robots.specs.Internal.Site.{count_after, named, named_from, group_after}
 use Rattle.texting_robots.specs.declared.site.lines.{KeptLine.KeptLine, AgentLine.AgentLine}
 use Rattle.texting_robots.specs.Agents.{agent_in, agents_in, each_once, is_among}
-use Rattle.texting_robots.specs.{Group.is_group, Line.LineValue, Line.UserAgent, Internal.Group.text_from}
+use Rattle.texting_robots.specs.{Group.is_member, Line.LineValue, Line.UserAgent, Internal.Group.text_from}
 
 -- ---- Lookup by name: the buckets of a hash table, and the lines that iterating over a bucket visits.
 
@@ -179,14 +180,14 @@ some_at names position within = (
   slice_get-get_or names position no_name within,
 )
 
-pub runs_from_first : (name : List ℕ) (names : List Named) (r : ℕ)
-    → is_run_of name (drop (first_named name names) names) r ≡ is_run_of name names r
-runs_from_first name [] r = refl
-runs_from_first name (n ∷ names) r = elim (cases_Bool (has_name name n)) [
+pub groups_from_first : (name : List ℕ) (names : List Named) (r : ℕ)
+    → is_group_of name (drop (first_named name names) names) r ≡ is_group_of name names r
+groups_from_first name [] r = refl
+groups_from_first name (n ∷ names) r = elim (cases_Bool (has_name name n)) [
   | inl is ↦ grind (arith, first_now)
   | inr isnt ↦
-      let other : (is_of name r n || is_run_of name names r) ≡ is_run_of name names r = rw isnt refl in
-      cc (first_later (has_name name) n names isnt, runs_from_first name names r)
+      let other : (is_of name r n || is_group_of name names r) ≡ is_group_of name names r = rw isnt refl in
+      cc (first_later (has_name name) n names isnt, groups_from_first name names r)
 ]
 
 pub later_at : {X : Type 0} (xs : List X) (k j : ℕ) (x : X) → slice_get (drop k xs) j ≡ Some x
@@ -212,20 +213,21 @@ kept_at text lines at line within is =
       within,
     ))
 
-pub front_line : (text : List ℕ) (lines : List KeptLine) (at run : ℕ) (line : KeptLine) → at < length lines
-    → line ≡ get_or lines at line → line.run ≡ run
-    → in_front run (drop at (map (tag_at text) lines))
-    ≡ tag_at text line ∷ in_front run (drop (at + 1) (map (tag_at text) lines))
-front_line text lines at run line within is same = grind (arith, eq-eqb, kept_at)
+pub front_line : (text : List ℕ) (lines : List KeptLine) (at group : ℕ) (line : KeptLine) → at < length lines
+    → line ≡ get_or lines at line → line.group ≡ group
+    → in_front group (drop at (map (tag_at text) lines))
+    ≡ tag_at text line ∷ in_front group (drop (at + 1) (map (tag_at text) lines))
+front_line text lines at group line within is same = grind (arith, eq-eqb, kept_at)
 
-pub front_other : (text : List ℕ) (lines : List KeptLine) (at run : ℕ) (line : KeptLine) → at < length lines
-    → line ≡ get_or lines at line → line.run ≢ run → in_front run (drop at (map (tag_at text) lines)) ≡ []
-front_other text lines at run line within is other =
-    ap (in_front run) (kept_at text lines at line within is) ∙ rw (ne_eqb line.run run other) refl
+pub front_other : (text : List ℕ) (lines : List KeptLine) (at group : ℕ) (line : KeptLine) → at < length lines
+    → line ≡ get_or lines at line → line.group ≢ group → in_front group (drop at (map (tag_at text) lines))
+    ≡ []
+front_other text lines at group line within is other =
+    ap (in_front group) (kept_at text lines at line within is) ∙ rw (ne_eqb line.group group other) refl
 
-pub front_past : (text : List ℕ) (lines : List KeptLine) (at run : ℕ) → length lines ≤ at
-    → in_front run (drop at (map (tag_at text) lines)) ≡ []
-front_past text lines at run past = grind (arith, length-map, past_end)
+pub front_past : (text : List ℕ) (lines : List KeptLine) (at group : ℕ) → length lines ≤ at
+    → in_front group (drop at (map (tag_at text) lines)) ≡ []
+front_past text lines at group past = grind (arith, length-map, past_end)
 
 pub first_within : (name : List ℕ) (names : List Named)
     → ltb (first_named name names) (length names) ≡ list_any (has_name name) names
@@ -248,16 +250,16 @@ first_within name (n ∷ names) =
 abbrev pub name_of : Named → List ℕ
 name_of n = n.name
 
-values_from : (run : ℕ) (joins : Bool) (position count : ℕ) (lines : List LineValue)
-    → map name_of (named_from run joins position count lines) ≡ filter_map agent_in lines
-values_from run joins position count [] = refl
-values_from run joins position count (UserAgent value ∷ lines) =
+values_from : (group : ℕ) (joins : Bool) (position count : ℕ) (lines : List LineValue)
+    → map name_of (named_from group joins position count lines) ≡ filter_map agent_in lines
+values_from group joins position count [] = refl
+values_from group joins position count (UserAgent value ∷ lines) =
     grind (
       arith,
-      values_from (run_after run joins (position + 1) (UserAgent value)) true (position + 1) count lines,
+      values_from (group_after group joins (position + 1) (UserAgent value)) true (position + 1) count lines,
     )
-values_from run joins position count (line ∷ lines) =
-    values_from run (not (is_group line) && joins) (position + 1) (count_after count line) lines
+values_from group joins position count (line ∷ lines) =
+    values_from group (not (is_member line) && joins) (position + 1) (count_after count line) lines
 
 pub values_are : (lines : List LineValue) → map name_of (named lines) ≡ filter_map agent_in lines
 values_are lines = values_from 0 false 0 0 lines

@@ -11,72 +11,74 @@ use Rattle.std.proofs.lemmas.List.{Elements.filter_agree, take_more, append-nil,
 use Rattle.texting_robots.specs.Rules.{IsFirstOverlong, PlacedRule}
 use Rattle.texting_robots.specs.{declared.error.Error.Error, Error.IsMemoryErrorOr, Executable.IsRejectionOf}
 use Rattle.texting_robots.specs.declared.error.Error.TheVariants as error
-use Rattle.texting_robots.specs.Group.{group_name, is_agent, is_group}
+use Rattle.texting_robots.specs.Group.{group_name, is_agent, is_member}
 use Rattle.texting_robots.specs.{Pattern.IsOverlong, Internal.Group.from_captured}
-use Rattle.texting_robots.specs.{declared.site.lines.Span.Span, declared.site.own.Position.Position}
+use Rattle.texting_robots.specs.{declared.site.lines.ByteRange.ByteRange, declared.site.own.Position.Position}
 use Rattle.texting_robots.specs.Robot.{IsRobotOf, RobotValue}
 use Rattle.texting_robots.specs.Executable.{captured_delays, captured_lines, file_lines, delay_for}
 use Rattle.texting_robots.specs.Executable.{placed_rules}
-use Rattle.texting_robots.proofs.{CapturedLemmas.captured_walked, GivenLemmas.delay_is_computed}
+use Rattle.texting_robots.proofs.{CapturedLemmas.captured_walked, ExecutableLemmas.delay_is_computed}
 use Rattle.texting_robots.proofs.{SiteNameLemmas.drop_is}
 use Rattle.texting_robots.proofs.MainTheoremLemmas.{rejected_of, rejection_is_computed}
 use Rattle.texting_robots.proofs.MainTheoremLemmas.{rules_are_computed}
 use Rattle.texting_robots.proofs.SiteLemmas.{delay_of_group, given_push, rule_of_group, none_later}
 use Rattle.texting_robots.specs.Line.{LineValue, UserAgent}
-use Rattle.texting_robots.specs.Internal.Site.{Named, Tagged, delay_of, in_front, is_run_of, named, listed}
+use Rattle.texting_robots.specs.Internal.Site.{Named, Tagged, delay_of, in_front, is_group_of, named, listed}
 use Rattle.texting_robots.specs.Internal.Site.{own_tagged, rejection_at, rule_of, tagged, tagged_from}
 use Rattle.texting_robots.specs.Internal.Site.{first_named, own_at}
 use Rattle.texting_robots.specs.Internal.Site.{AreOfFile, IsWholeWalk, is_later, own_from, has_name}
-use Rattle.texting_robots.proofs.SiteNameLemmas.{first_here, here, later_at, past_end, runs_from_first}
-use Rattle.texting_robots.proofs.SiteRunLemmas.{Ascends, names_ascend, no_names, none_above, of_run, starts}
-use Rattle.texting_robots.proofs.SiteRunLemmas.{some_names, tagged_ascends}
+use Rattle.texting_robots.proofs.SiteNameLemmas.{first_here, here, later_at, past_end, groups_from_first}
+use Rattle.texting_robots.proofs.SiteGroupLemmas.{Ascends, names_ascend, no_names, none_above, of_group}
+use Rattle.texting_robots.proofs.SiteGroupLemmas.{starts}
+use Rattle.texting_robots.proofs.SiteGroupLemmas.{some_names, tagged_ascends}
 
-run_first : (p : ℕ → Bool) (r : ℕ) (tags : List Tagged) → ((q : ℕ) → q ≤ r → p q ≡ false) → Ascends tags
-    → filter (λ t. (t.run == r) || p t.run) tags ≡ of_run r tags ++ filter (λ t. p t.run) tags
-run_first p r [] none ascends = refl
-run_first p r (t ∷ tags) none (first, rest) = elim (eqb_tells t.run r) [
-  | inl (is, same) ↦ rw (is, none t.run (omega arith)) (ap (λ ts. t ∷ ts) (run_first p r tags none rest))
-  | inr (isnt, other) ↦ rw isnt (elim (cases_Bool (p t.run)) [
+group_first : (p : ℕ → Bool) (r : ℕ) (tags : List Tagged) → ((q : ℕ) → q ≤ r → p q ≡ false) → Ascends tags
+    → filter (λ t. (t.group == r) || p t.group) tags ≡ of_group r tags ++ filter (λ t. p t.group) tags
+group_first p r [] none ascends = refl
+group_first p r (t ∷ tags) none (first, rest) = elim (eqb_tells t.group r) [
+  | inl (is, same) ↦ rw (is, none t.group (omega arith)) (ap (λ ts. t ∷ ts) (group_first p r tags none rest))
+  | inr (isnt, other) ↦ rw isnt (elim (cases_Bool (p t.group)) [
     | inl has ↦
-        let above : r < t.run = grind (arith, cases_Bool, ltb-false, ltb-true, r, none) in
-        let nothing = none_above r t.run tags above first in
-        grind (arith, p, run_first p r tags none rest)
-    | inr hasnt ↦ rw hasnt (run_first p r tags none rest)
+        let above : r < t.group = grind (arith, cases_Bool, ltb-false, ltb-true, r, none) in
+        let nothing = none_above r t.group tags above first in
+        grind (arith, p, group_first p r tags none rest)
+    | inr hasnt ↦ rw hasnt (group_first p r tags none rest)
   ])
 ]
 
-later_next : (name : List ℕ) (run : ℕ) (n : Named) (names : List Named) (r : ℕ) → has_name name n ≡ true
-    → run < n.run → ((q : ℕ) → q < n.run → is_run_of name names q ≡ false)
-    → is_later name run (n ∷ names) r ≡ ((r == n.run) || is_later name n.run names r)
-later_next name run n names r has above none = elim (eqb_tells r n.run) [
+later_next : (name : List ℕ) (group : ℕ) (n : Named) (names : List Named) (r : ℕ) → has_name name n ≡ true
+    → group < n.group → ((q : ℕ) → q < n.group → is_group_of name names q ≡ false)
+    → is_later name group (n ∷ names) r ≡ ((r == n.group) || is_later name n.group names r)
+later_next name group n names r has above none = elim (eqb_tells r n.group) [
   | inl (is, same) ↦ grind (arith, eq-eqb, lt-ltb)
-  | inr (isnt, other) ↦ rw (isnt, has, ne_eqb n.run r (λ same. other (sym same))) (elim (cases_Bool
-      (ltb n.run r)) [
-        | inl is_less ↦ rw (is_less, lt-ltb run r (let less = ltb-true n.run r is_less in omega arith)) refl
-        | inr isnt_less ↦ rw (isnt_less, none r (let least = ltb-false n.run r isnt_less in omega arith))
-            (and-false (ltb run r))
+  | inr (isnt, other) ↦ rw (isnt, has, ne_eqb n.group r (λ same. other (sym same))) (elim (cases_Bool
+      (ltb n.group r)) [
+        | inl is_less ↦ rw (is_less, lt-ltb group r (let less = ltb-true n.group r is_less in omega arith))
+            refl
+        | inr isnt_less ↦ rw (isnt_less, none r (let least = ltb-false n.group r isnt_less in omega arith))
+            (and-false (ltb group r))
       ])
 ]
 
-later_same : (name : List ℕ) (run : ℕ) (n : Named) (names : List Named) (r : ℕ) → n.run ≤ run
-    → is_later name run (n ∷ names) r ≡ is_later name run names r
-later_same name run n names r least = grind (arith, and-false, cases_Bool, ltb-true, ne_eqb)
+later_same : (name : List ℕ) (group : ℕ) (n : Named) (names : List Named) (r : ℕ) → n.group ≤ group
+    → is_later name group (n ∷ names) r ≡ is_later name group names r
+later_same name group n names r least = grind (arith, and-false, cases_Bool, ltb-true, ne_eqb)
 
 none_below : (name : List ℕ) (names : List Named) (least q : ℕ)
-    → ((j : ℕ) (m : Named) → slice_get names j ≡ Some m → least ≤ m.run) → q < least
-    → is_run_of name names q ≡ false
+    → ((j : ℕ) (m : Named) → slice_get names j ≡ Some m → least ≤ m.group) → q < least
+    → is_group_of name names q ≡ false
 none_below name [] least q above below = refl
 none_below name (n ∷ names) least q above below =
-    rw (ne_eqb n.run q (λ same. (let here = above 0 n refl in omega arith)), and-false (has_name name n))
+    rw (ne_eqb n.group q (λ same. (let here = above 0 n refl in omega arith)), and-false (has_name name n))
     (none_below name names least q (λ j m at. above (suc j) m at) below)
 
-runs_after : (name : List ℕ) (names : List Named) (name_index next r : ℕ)
+groups_after : (name : List ℕ) (names : List Named) (name_index next r : ℕ)
     → next ≡ name_index + 1 + first_named name (drop (name_index + 1) names)
-    → is_run_of name (drop next names) r ≡ is_run_of name (drop (name_index + 1) names) r
-runs_after name names name_index next r are =
+    → is_group_of name (drop next names) r ≡ is_group_of name (drop (name_index + 1) names) r
+groups_after name names name_index next r are =
     cc (
       drop-drop (first_named name (drop (name_index + 1) names)) (name_index + 1) names,
-      runs_from_first name (drop (name_index + 1) names) r,
+      groups_from_first name (drop (name_index + 1) names) r,
     )
 
 pub first_kept : (name : List ℕ) (name_index next : ℕ) (names : List Named)
@@ -88,54 +90,55 @@ first_kept name name_index next names are =
       first_here (has_name name) (drop (name_index + 1) names),
     )
 
-pub next_run : (name : List ℕ) (run name_index next : ℕ) (names : List Named) (tags rest : List Tagged)
+pub next_group : (name : List ℕ) (group name_index next : ℕ) (names : List Named) (tags rest : List Tagged)
     (n : Named)
     → slice_get names name_index ≡ Some n → first_named name (drop name_index names) ≡ 0
     → AreOfFile names tags
-    → run < n.run → in_front run rest ≡ []
+    → group < n.group → in_front group rest ≡ []
     → next ≡ name_index + 1 + first_named name (drop (name_index + 1) names)
-    → own_from name n.run (drop n.start tags) (drop next names) tags
-    ≡ own_from name run rest (drop name_index names) tags
-next_run name run name_index next names tags rest n at first (lines, named_is, tagged_is) above gone are =
+    → own_from name n.group (drop n.start tags) (drop next names) tags
+    ≡ own_from name group rest (drop name_index names) tags
+next_group name group name_index next names tags rest n at first (lines, named_is, tagged_is) above gone are =
     let after = drop (name_index + 1) names in
     let left = drop_is names name_index n at in
     let has : has_name name n ≡ true = here (has_name name) n after (rw left at first) in
     let there : slice_get (named lines) name_index
     ≡ Some n = cc in
-    let none = λ (q : ℕ) (below : q < n.run). none_below name after n.run q
+    let none = λ (q : ℕ) (below : q < n.group). none_below name after n.group q
     (grind (arith, later_at, names_ascend, name_index, names))
     below in
-    let front : in_front n.run (drop n.start tags) ≡ of_run n.run tags =
-    subst (λ (ts : List Tagged). in_front n.run (drop n.start ts) ≡ of_run n.run ts) (sym tagged_is)
+    let front : in_front n.group (drop n.start tags) ≡ of_group n.group tags =
+    subst (λ (ts : List Tagged). in_front n.group (drop n.start ts) ≡ of_group n.group ts) (sym tagged_is)
     (starts lines name_index n there).lines in
     let ascends : Ascends tags = grind (arith, tagged_ascends) in
-    let later = λ (t : Tagged). later_next name run n after t.run has above none in
-    let passed : (q : ℕ) → q ≤ n.run → is_later name n.run after q ≡ false =
-    λ q least. rw (le-ltb n.run q least) refl in
+    let later = λ (t : Tagged). later_next name group n after t.group has above none in
+    let passed : (q : ℕ) → q ≤ n.group → is_later name n.group after q ≡ false =
+    λ q least. rw (le-ltb n.group q least) refl in
     cc (
-      filter_agree _ _ (λ (t : Tagged). ap (λ b. ltb n.run t.run && b)
-          (runs_after name names name_index next t.run are)) tags,
-      run_first (is_later name n.run after) n.run tags passed ascends,
+      filter_agree _ _ (λ (t : Tagged). ap (λ b. ltb n.group t.group && b)
+          (groups_after name names name_index next t.group are)) tags,
+      group_first (is_later name n.group after) n.group tags passed ascends,
       filter_agree _ _ later tags,
     )
 
-pub same_run : (name : List ℕ) (run name_index next : ℕ) (names : List Named) (tags rest : List Tagged)
+pub same_group : (name : List ℕ) (group name_index next : ℕ) (names : List Named) (tags rest : List Tagged)
     (n : Named)
-    → slice_get names name_index ≡ Some n → n.run ≤ run
+    → slice_get names name_index ≡ Some n → n.group ≤ group
     → next ≡ name_index + 1 + first_named name (drop (name_index + 1) names)
-    → own_from name run rest (drop next names) tags ≡ own_from name run rest (drop name_index names) tags
-same_run name run name_index next names tags rest n at least are =
-    grind (arith, drop_is, filter_agree, later_same, runs_after)
+    → own_from name group rest (drop next names) tags ≡ own_from name group rest (drop name_index names) tags
+same_group name group name_index next names tags rest n at least are =
+    grind (arith, drop_is, filter_agree, later_same, groups_after)
 
-none_pass : (p : ℕ → Bool) (tags : List Tagged) → ((q : ℕ) → p q ≡ false) → filter (λ t. p t.run) tags ≡ []
+none_pass : (p : ℕ → Bool) (tags : List Tagged) → ((q : ℕ) → p q ≡ false) → filter (λ t. p t.group) tags ≡ []
 none_pass p [] none = refl
-none_pass p (t ∷ tags) none = rw (none t.run) (none_pass p tags none)
+none_pass p (t ∷ tags) none = rw (none t.group) (none_pass p tags none)
 
-pub at_end : (name : List ℕ) (run name_index : ℕ) (names : List Named) (tags rest : List Tagged)
-    → slice_get names name_index ≡ None → in_front run rest ≡ [] → own_from name run rest
+pub at_end : (name : List ℕ) (group name_index : ℕ) (names : List Named) (tags rest : List Tagged)
+    → slice_get names name_index ≡ None → in_front group rest ≡ [] → own_from name group rest
     (drop name_index names) tags ≡ []
-at_end name run name_index names tags rest out gone =
-    rw (gone, past names name_index out) (none_pass (is_later name run []) tags (λ q. and-false (ltb run q)))
+at_end name group name_index names tags rest out gone =
+    rw (gone, past names name_index out)
+    (none_pass (is_later name group []) tags (λ q. and-false (ltb group q)))
   where
     past : {X : Type 0} (xs : List X) (i : ℕ) → slice_get xs i ≡ None → drop i xs ≡ []
     past [] zero out = refl
@@ -143,18 +146,18 @@ at_end name run name_index names tags rest out gone =
     past (x ∷ xs) zero out = cc
     past (x ∷ xs) (suc i) out = past xs i out
 
-no_run : (name : List ℕ) (lines : List LineValue) → is_run_of name (named lines) 0 ≡ false
-no_run name lines = grind (arith, none_later)
+no_group : (name : List ℕ) (lines : List LineValue) → is_group_of name (named lines) 0 ≡ false
+no_group name lines = grind (arith, none_later)
 
 later_than_none : (name : List ℕ) (lines : List LineValue) (r : ℕ)
-    → (ltb 0 r && is_run_of name (named lines) r) ≡ is_run_of name (named lines) r
-later_than_none name lines r = grind (arith, lt-ltb, no_run)
+    → (ltb 0 r && is_group_of name (named lines) r) ≡ is_group_of name (named lines) r
+later_than_none name lines r = grind (arith, lt-ltb, no_group)
 
 pub own_named : (name : List ℕ) (lines : List LineValue)
     → own_from name 0 [] (drop (first_named name (named lines)) (named lines)) (tagged lines)
     ≡ own_tagged name lines
 own_named name lines = filter_agree _ _
-    (grind (arith, later_than_none, runs_from_first, lines)) (tagged lines)
+    (grind (arith, later_than_none, groups_from_first, lines)) (tagged lines)
 
 pub own_unnamed : (name : List ℕ) (names : List Named) (tags : List Tagged) (name_index : ℕ) → names ≡ []
     → own_from name 0 tags (drop name_index names) tags ≡ in_front 0 tags
@@ -168,22 +171,22 @@ own_unnamed name names tags name_index none =
     nothing (x ∷ xs) i none = cc
 
 pub whole_walk : (name : List ℕ) (position : Position) (names : List Named) (tags : List Tagged)
-    → position.name_index ≡ first_named name names → position.run ≡ 0 → (length names ≡ 0 → position.at ≡ 0)
+    → position.name_index ≡ first_named name names → position.group ≡ 0 → (length names ≡ 0 → position.at ≡ 0)
     → (0 < length names → length tags ≤ position.at)
     → IsWholeWalk name names tags (own_at name position names tags)
 whole_walk name position [] tags first at_zero unnamed some = grind (arith, own_unnamed)
 whole_walk name position (n ∷ names) tags first at_zero unnamed some = grind (arith, own_named, past_end)
 
-added : {X : Type 0} (is_group : Bool) (given : Tagged → Option X) (tag : Tagged) (tags : List Tagged)
-    (here : Option X) → given tag ≡ here → (is_group ≡ false → here ≡ None)
+added : {X : Type 0} (is_member : Bool) (given : Tagged → Option X) (tag : Tagged) (tags : List Tagged)
+    (here : Option X) → given tag ≡ here → (is_member ≡ false → here ≡ None)
     → cons_option here (filter_map given tags)
-    ≡ filter_map given (cons_option (cond is_group (Some tag) None) tags)
-added is_group given tag tags here fits none = grind arith
+    ≡ filter_map given (cons_option (cond is_member (Some tag) None) tags)
+added is_member given tag tags here fits none = grind arith
 
 all_from : {X : Type 0} (given : ℕ × LineValue → Option X) (of_tag : Tagged → Option X)
-    → ((name_index run : ℕ) (line : LineValue)
-    → of_tag (record { number = name_index + 1; line = line; run = run }) ≡ given (name_index, line))
-    → ((name_index : ℕ) (line : LineValue) → is_group line ≡ false → given (name_index, line) ≡ None)
+    → ((name_index group : ℕ) (line : LineValue)
+    → of_tag (record { number = name_index + 1; line = line; group = group }) ≡ given (name_index, line))
+    → ((name_index : ℕ) (line : LineValue) → is_member line ≡ false → given (name_index, line) ≡ None)
     → (name : List ℕ) (name_index : ℕ) (lines : List LineValue) → list_any is_agent lines ≡ false
     → from_captured given name (record { captured = true; named = false }) name_index lines
     ≡ filter_map of_tag (tagged_from 0 false name_index lines)
@@ -192,10 +195,10 @@ all_from given of_tag fits none name name_index (UserAgent value ∷ lines) with
 all_from given of_tag fits none name name_index (line ∷ lines) without =
     grind (arith, added, all_from given of_tag fits none name (name_index + 1) lines without)
 
-front_next : (is_group : Bool) (tag : Tagged) (tags : List Tagged) → (tag.run == 0) ≡ true
+front_next : (is_member : Bool) (tag : Tagged) (tags : List Tagged) → (tag.group == 0) ≡ true
     → in_front 0 tags ≡ tags
-    → let all = cons_option (cond is_group (Some tag) None) tags in in_front 0 all ≡ all
-front_next is_group tag tags first same = grind arith
+    → let all = cons_option (cond is_member (Some tag) None) tags in in_front 0 all ≡ all
+front_next is_member tag tags first same = grind arith
 
 front_all : (name_index : ℕ) (lines : List LineValue) → list_any is_agent lines ≡ false
     → in_front 0 (tagged_from 0 false name_index lines) ≡ tagged_from 0 false name_index lines
@@ -205,9 +208,9 @@ front_all name_index (line ∷ lines) without =
     grind (arith, front_next, front_all (name_index + 1) lines without)
 
 found_in_all : {X : Type 0} (given : ℕ × LineValue → Option X) (of_tag : Tagged → Option X)
-    → ((name_index run : ℕ) (line : LineValue)
-    → of_tag (record { number = name_index + 1; line = line; run = run }) ≡ given (name_index, line))
-    → ((name_index : ℕ) (line : LineValue) → is_group line ≡ false → given (name_index, line) ≡ None)
+    → ((name_index group : ℕ) (line : LineValue)
+    → of_tag (record { number = name_index + 1; line = line; group = group }) ≡ given (name_index, line))
+    → ((name_index : ℕ) (line : LineValue) → is_member line ≡ false → given (name_index, line) ≡ None)
     → (name : List ℕ) (lines : List LineValue) → list_any is_agent lines ≡ false
     → filter_map given (captured_lines name lines) ≡ filter_map of_tag (in_front 0 (tagged lines))
 found_in_all given of_tag fits none name lines without = grind (arith, all_from, captured_walked, front_all)
@@ -231,7 +234,7 @@ given_whole given all name [] tags walk lines named_is tagged_is whole unnamed s
 given_whole given all name (n ∷ names) tags walk lines named_is tagged_is whole unnamed some =
     grind (arith, some_names)
 
-pub listed_more : (text : List ℕ) (sitemaps : List Span) (i : ℕ) (d : Span) → i < length sitemaps
+pub listed_more : (text : List ℕ) (sitemaps : List ByteRange) (i : ℕ) (d : ByteRange) → i < length sitemaps
     → filter_map (listed text) (take (i + 1) sitemaps)
     ≡ filter_map (listed text) (take i sitemaps) ++ option_to_list (listed text (get_or sitemaps i d))
 listed_more text sitemaps i d within =

@@ -10,7 +10,7 @@ use Rattle.std.proofs.lemmas.List.Sorted.{Contains-permutation, IsPermutation-ma
 use Rattle.std.proofs.lemmas.List.Sorted.{IsPermutation-sym, ranks_by, sorted_far}
 use Rattle.texting_robots.specs.Decision.{IsBetter, IsDecidingLine, IsLongestMatch}
 use Rattle.texting_robots.specs.{Pattern.Matches, Order.IsBefore, Order.pattern_cmp, Rules.PlacedRule}
-use Rattle.texting_robots.specs.{declared.rules.Entry.Entry, Rules.Rule, Rules.unplaced}
+use Rattle.texting_robots.specs.{declared.rules.RuleEntry.RuleEntry, Rules.Rule, Rules.unplaced}
 use Rattle.texting_robots.specs.Verdict.{IsDenied, IsVerdict, robots_file}
 use Rattle.std.specs.Ordering.{MatchOrdering, nat_cmp, ordering_then, is_lt}
 use Rattle.std.proofs.lemmas.Cmp.{back_total, by_ranked, nat_cmp_total, nat_list_cmp_total, on_total, ranked}
@@ -237,13 +237,13 @@ transitive p q r first second =
 
 -- ---- The order of sorted entries.
 
-abbrev pub is_before : Entry → Entry → Bool
+abbrev pub is_before : RuleEntry → RuleEntry → Bool
 is_before a b = is_lt (entry_cmp a b)
 
 pub weak : IsStrictWeakOrder is_before
 weak =
     let rank = back_total (on_total rank_in nat_cmp_total) in
-    ranks_by (then_total rank (on_total line_in nat_cmp_total)) (λ (e : Entry). e)
+    ranks_by (then_total rank (on_total line_in nat_cmp_total)) (λ (e : RuleEntry). e)
 
 -- of two entries with ranks `m` and `n` and lines `i` and `j`, the second isn't before the first
 abbrev IsNoEarlier : ℕ → ℕ → ℕ → ℕ → Type 0
@@ -255,10 +255,10 @@ higher m n i j h = grind (arith, cases_lt, cmp_less)
 earlier : (n i j : ℕ) → IsNoEarlier n n i j → i ≤ j
 earlier n i j h = grind (arith, cases_lt, cmp_less, cmp_same)
 
-goes_before : (first second : Entry) → is_before second first ≡ false → GoesBefore first second
+goes_before : (first second : RuleEntry) → is_before second first ≡ false → GoesBefore first second
 goes_before first second h = grind (arith, earlier, higher)
 
-pub pairs_sorted : (entries : List Entry) → IsSortedBy is_before entries → AllPairs GoesBefore entries
+pub pairs_sorted : (entries : List RuleEntry) → IsSortedBy is_before entries → AllPairs GoesBefore entries
 pairs_sorted entries sorted i j d before within =
     goes_before _ _ (sorted_far is_before weak entries sorted i j d (omega arith) within)
 

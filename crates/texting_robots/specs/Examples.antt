@@ -180,8 +180,7 @@ groups =
     ++ codes "user-agent: BarBot\ndisallow: /\nallow: /y/\n\n\nallow: /w/\n"
     ++ codes "user-agent: BazBot\n\nuser-agent: FooBot\nallow: /z/\ndisallow: /"
 
--- groups with one name are merged; an empty line ends neither group nor run; a rule above all applies to no
--- crawler
+-- groups with one name are merged; an empty line doesn't end a group; a rule above all applies to no crawler
 abbrev pub merged_groups : Type 0
 merged_groups =
     GivesRules (codes "FooBot") groups
@@ -215,9 +214,9 @@ GivesDelay agent file delay = HasLines file (λ lines. IsDelayFor agent lines (S
 abbrev pub rejected_delay : List ℕ
 rejected_delay = codes "User-Agent: D\nCrawl-Delay: -1.25\nUser-Agent: E\nCrawl-Delay: 8"
 
--- an ignored line doesn't end a run of user-agent lines, so this delay is that of both
-abbrev pub raw_in_a_run : Type 0
-raw_in_a_run = GivesDelay (codes "D") rejected_delay 8000000
+-- an ignored line doesn't end the user-agent lines of a group, so this delay is that of both
+abbrev pub raw_in_a_group : Type 0
+raw_in_a_group = GivesDelay (codes "D") rejected_delay 8000000
 
 abbrev pub two_delays : List ℕ
 two_delays = codes "Crawl-Delay: 5\nCrawl-Delay: 6"

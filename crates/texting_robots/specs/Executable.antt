@@ -5,15 +5,15 @@ use Rattle.std.specs.Prelude.{take, if◌then◌else◌}
 use Rattle.std.specs.List.{before_first, enumerate_from, filter_map, last_or, list_any}
 use Rattle.std.specs.{Option.option_or, Str.is_utf8}
 use Rattle.texting_robots.specs.{Group.group_name, Group.is_agent, Escape.escaped, Robot.IsFileRejected}
-use Rattle.texting_robots.specs.{Robot.file_limit, declared.error.Rejection.Rejection}
-use Rattle.texting_robots.specs.declared.error.Rejection.TheVariants.{Memory, Overlong}
-use Rattle.texting_robots.specs.Line.{LineValue, Allow, Disallow, Sitemap, delay_in, nul_as_lf, without_front}
+use Rattle.texting_robots.specs.{Robot.file_limit, declared.error.RobotError.RobotError}
+use Rattle.texting_robots.specs.declared.error.RobotError.TheVariants.{Memory, Overlong}
+use Rattle.texting_robots.specs.Line.{LineValue, Allow, Disallow, Sitemap, delay_in, nul_as_lf, without_bom}
 use Rattle.texting_robots.specs.Rules.{IsFirstOverlong, PlacedRule, Rule, placed, unplaced}
 use Rattle.texting_robots.specs.Internal.{Captured.is_captured, Cut.bodies_of, Line.lines_of}
 pub use Rattle.texting_robots.specs.Internal.{Cut.cut, Delay.delay_of, Captured.is_captured}
 
 abbrev pub parsed : List ℕ → List LineValue
-parsed text = lines_of (without_front text)
+parsed text = lines_of (without_bom text)
 
 -- the lines of a file, in which each NUL is read as LF
 abbrev pub file_lines : List ℕ → List LineValue
@@ -21,7 +21,7 @@ file_lines text = parsed (map nul_as_lf text)
 
 -- the contents of these lines, without their terminators
 abbrev pub file_bodies : List ℕ → List (List ℕ)
-file_bodies text = bodies_of (without_front (map nul_as_lf text))
+file_bodies text = bodies_of (without_bom (map nul_as_lf text))
 
 abbrev pub lines_read : List ℕ → List LineValue
 lines_read file = file_lines (take file_limit file)
@@ -73,7 +73,7 @@ abbrev pub sitemaps_in : List LineValue → List (List ℕ)
 sitemaps_in lines = filter_map sitemap_in lines
 
 -- why there is no robot for this crawler and this file; an allocation can fail at any time
-abbrev pub IsRejectionOf : List ℕ → List ℕ → Rejection → Type 0
+abbrev pub IsRejectionOf : List ℕ → List ℕ → RobotError → Type 0
 IsRejectionOf agent file (Overlong line) =
     IsFileRejected agent file × IsFirstOverlong (placed_rules agent (file_lines file)) line
 IsRejectionOf agent file Memory = ⊤

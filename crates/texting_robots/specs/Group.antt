@@ -8,12 +8,12 @@ abbrev pub is_agent : LineValue → Bool
 is_agent (UserAgent value) = true
 is_agent _ = false
 
--- an Allow, a Disallow or a Crawl-delay: a group line
-abbrev pub is_group : LineValue → Bool
-is_group (Allow value) = true
-is_group (Disallow value) = true
-is_group (CrawlDelay delay) = true
-is_group _ = false
+-- an Allow, a Disallow or a Crawl-delay: a member of a group
+abbrev pub is_member : LineValue → Bool
+is_member (Allow value) = true
+is_member (Disallow value) = true
+is_member (CrawlDelay delay) = true
+is_member _ = false
 
 -- a user-agent line whose value, in lowercase, is this name
 abbrev pub is_agent_named : List ℕ → LineValue → Bool
@@ -29,19 +29,19 @@ group_name agent lines =
 abbrev pub passes_at : (LineValue → Bool) → List LineValue → ℕ → Bool
 passes_at test lines at = option_map_or test (slice_get lines at) false
 
--- between these two positions there is a group line, and a user-agent line after it
-abbrev pub HasNewRun : List LineValue → ℕ → ℕ → Type 0
-HasNewRun lines j i =
+-- between these two positions another group begins: there is a member, and a user-agent line after it
+abbrev pub HasNewGroup : List LineValue → ℕ → ℕ → Type 0
+HasNewGroup lines j i =
     (k : ℕ) × (l : ℕ) × (j < k) × (k < l) × (l < i)
-    × IsTrue (passes_at is_group lines k) × IsTrue (passes_at is_agent lines l)
+    × IsTrue (passes_at is_member lines k) × IsTrue (passes_at is_agent lines l)
 
--- a user-agent line above the position has the name, and no new run of user-agent lines begins in between
+-- a user-agent line above the position has the name, and no other group begins in between
 abbrev pub IsNamedBefore : List ℕ → List LineValue → ℕ → Type 0
 IsNamedBefore name lines i =
-    (j : ℕ) × (j < i) × IsTrue (passes_at (is_agent_named name) lines j) × ¬ (HasNewRun lines j i)
+    (j : ℕ) × (j < i) × IsTrue (passes_at (is_agent_named name) lines j) × ¬ (HasNewGroup lines j i)
 
--- a group line at this position is captured for this group name: there is no user-agent line, or the nearest
--- run of user-agent lines above the position contains the name
+-- a member at this position is captured for this group name: there is no user-agent line, or one of its group
+-- has the name
 abbrev pub IsCaptured : List ℕ → List LineValue → ℕ → Type 0
 IsCaptured name lines i =
     ((k : ℕ) → ¬ IsTrue (passes_at is_agent lines k)) ⊎ IsNamedBefore name lines i

@@ -2,7 +2,7 @@
 -- below them, up to the next user-agent line. Other lines belong to no group and separate nothing.
 use Rattle.std.specs.Prelude.{ℕ, ◌+◌, Bool, List, [], ◌∷◌, ◌++◌, bytes_eq, if◌then◌else◌}
 use Rattle.std.specs.{List.list_any, Str.str_to_ascii_lowercase}
-use Rattle.texting_robots.specs.{Group.is_group, Line.LineValue, Line.UserAgent}
+use Rattle.texting_robots.specs.{Group.is_member, Line.LineValue, Line.UserAgent}
 
 -- the names of a group, and its rules and delays, each with the position of its line, counted from 0
 pub record GroupValue : Type 0 where
@@ -24,7 +24,7 @@ abbrev pub with_line : ℕ → LineValue → Grouped → Grouped
 with_line position (UserAgent name) below =
     record { above = []; groups = with_name (position, name) below.above below.groups }
 with_line position line below = record {
-  above = if is_group line then (position, line) ∷ below.above else below.above;
+  above = if is_member line then (position, line) ∷ below.above else below.above;
   groups = below.groups;
 }
 

@@ -6,7 +6,7 @@ use Rattle.texting_robots.specs.{declared.labels.LabeledLine.LabeledLine, Line.L
 use Rattle.texting_robots.specs.{declared.labels.Membership.Membership, Internal.Captured.is_captured}
 use Rattle.texting_robots.specs.{Internal.Line.line_of}
 use Rattle.texting_robots.specs.declared.labels.Membership.TheVariants.{Own, Other, Ungrouped}
-use Rattle.texting_robots.specs.Group.{IsCaptured, is_agent, is_agent_named, is_group, passes_at}
+use Rattle.texting_robots.specs.Group.{IsCaptured, is_agent, is_agent_named, is_member, passes_at}
 
 -- a line with its number, counted from 1, its membership and its content
 pub record Label : Type 0 where
@@ -21,23 +21,24 @@ lines_in labels = map (λ (label : Label). label.line) labels
 abbrev pub bodies_in : List Label → List (List ℕ)
 bodies_in labels = map (λ (label : Label). label.body) labels
 
--- each group line (an Allow, a Disallow or a Crawl-delay) is above both positions, or below both
-abbrev pub AreOneRun : List LineValue → ℕ → ℕ → Type 0
-AreOneRun lines i j =
-    (k : ℕ) → IsTrue (passes_at is_group lines k) → ((k < i) × (k < j)) ⊎ ((i < k) × (j < k))
+-- each member (an Allow, a Disallow or a Crawl-delay) is above both positions, or below both
+abbrev pub AreOneGroup : List LineValue → ℕ → ℕ → Type 0
+AreOneGroup lines i j =
+    (k : ℕ) → IsTrue (passes_at is_member lines k) → ((k < i) × (k < j)) ⊎ ((i < k) × (j < k))
 
--- a captured group line, or a user-agent line whose run, which no group line interrupts, contains the name
+-- a captured member, or a user-agent line of a group with the name, so that no member is between the two
+-- lines
 abbrev pub IsInOwnGroup : List ℕ → List LineValue → ℕ → Type 0
 IsInOwnGroup name lines position =
-    (IsTrue (passes_at is_group lines position) × IsCaptured name lines position)
+    (IsTrue (passes_at is_member lines position) × IsCaptured name lines position)
     ⊎ (IsTrue (passes_at is_agent lines position)
-    × (j : ℕ) × IsTrue (passes_at (is_agent_named name) lines j) × AreOneRun lines position j)
+    × (j : ℕ) × IsTrue (passes_at (is_agent_named name) lines j) × AreOneGroup lines position j)
 
--- a user-agent line, or a group line below one
+-- a user-agent line, or a member below one
 abbrev pub IsInGroup : List LineValue → ℕ → Type 0
 IsInGroup lines position =
     IsTrue (passes_at is_agent lines position)
-    ⊎ (IsTrue (passes_at is_group lines position)
+    ⊎ (IsTrue (passes_at is_member lines position)
     × (j : ℕ) × (j < position) × IsTrue (passes_at is_agent lines j))
 
 -- the membership of the line at the position, for a group name
@@ -55,15 +56,15 @@ pub record AreLabelsOf (name : List ℕ) (lines : List LineValue) (labels : List
 
 -- ---- labels as a function; by the theorem `each_line_has_its_label` it agrees with `AreLabelsOf`
 
--- the position of the first group line from this one on, or the number of lines
-abbrev pub next_group : List LineValue → ℕ → ℕ
-next_group lines at = at + position_or_len is_group (drop at lines)
+-- the position of the first member from this one on, or the number of lines
+abbrev pub next_member : List LineValue → ℕ → ℕ
+next_member lines at = at + position_or_len is_member (drop at lines)
 
--- a user-agent line is treated like the next group line
+-- a user-agent line is treated like the next member
 abbrev pub membership_of : List ℕ → List LineValue → ℕ × LineValue → Membership
 membership_of name lines p =
-    if not (is_agent p.1 || is_group p.1) then Ungrouped
-    else if is_captured name lines (next_group lines p.0) then Own
+    if not (is_agent p.1 || is_member p.1) then Ungrouped
+    else if is_captured name lines (next_member lines p.0) then Own
     else if list_any is_agent (take (p.0 + 1) lines) then Other
     else Ungrouped
 

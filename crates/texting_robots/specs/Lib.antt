@@ -20,7 +20,7 @@ pub mod Robot
 pub mod Prepared
 pub mod AllocationFree
 pub mod Address
-pub mod Laws
+pub mod Theorems
 pub mod MainTheorem
 pub mod Executable
 pub mod OwnLines

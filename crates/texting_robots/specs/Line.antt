@@ -45,13 +45,13 @@ without byte [] = []
 without byte (first ∷ text) = if first == byte then text else first ∷ text
 
 -- the text without a byte order mark: without a leading EF, then a leading BB, then a leading BF
-abbrev pub without_front : List ℕ → List ℕ
-without_front text = without 0xBF (without 0xBB (without 0xEF text))
+abbrev pub without_bom : List ℕ → List ℕ
+without_bom text = without 0xBF (without 0xBB (without 0xEF text))
 
 -- the lines of the contents in the text's cut, without the byte order mark
 pub record AreLinesOf (lines : List LineValue) (text : List ℕ) : Type 0 where
   pub pairs : List Pair
-  pub is_cut : IsCut pairs (without_front text)
+  pub is_cut : IsCut pairs (without_bom text)
   pub each : AllZip IsLineOf lines (map (λ pair. pair.body) pairs)
 
 abbrev pub nul_as_lf : ℕ → ℕ
@@ -63,7 +63,7 @@ AreFileLinesOf lines text = AreLinesOf lines (map nul_as_lf text)
 
 -- the contents of the file's lines: those of the same cut
 abbrev pub AreFileBodiesOf : List (List ℕ) → List ℕ → Type 0
-AreFileBodiesOf bodies text = (pairs : List Pair) × IsCut pairs (without_front (map nul_as_lf text))
+AreFileBodiesOf bodies text = (pairs : List Pair) × IsCut pairs (without_bom (map nul_as_lf text))
     × (bodies ≡ map (λ pair. pair.body) pairs)
 
 -- P holds for the list of the file's lines
@@ -93,7 +93,7 @@ HoldsRangeOf line body = IfSome (value_in line) (λ value. IsRangeOf value body)
 -- the bytes of each line are a range of its content; the pairs are the text without its byte order mark
 pub record HoldRangesOf (lines : List LineValue) (text : List ℕ) : Type 0 where
   pub pairs : List Pair
-  pub is_cut : IsCut pairs (without_front text)
+  pub is_cut : IsCut pairs (without_bom text)
   pub whole : IsSuffix (joined pairs) text
   pub each : AllZip HoldsRangeOf lines (map (λ pair. pair.body) pairs)
 

@@ -1,18 +1,17 @@
--- The group lines that apply to a crawler, by value.
+-- The members that apply to a crawler, by value.
 use Rattle.std.specs.Prelude.{ℕ, Option}
 use Rattle.texting_robots.specs.{Executable.rule_in, Rules.PlacedRule, Rules.placed, Line.LineValue}
-use Rattle.texting_robots.specs.{Line.by_value, Line.delay_in, declared.site.lines.GroupLine.GroupLine}
+use Rattle.texting_robots.specs.{Line.by_value, Line.delay_in, declared.site.lines.MemberLine.MemberLine}
 
--- a group line, its number, counted from 1, and the number of the first line of the run of user-agent lines
--- above it, or 0 if there is none
+-- a member, its number, counted from 1, and the number of the first line of its group, or 0 if there is none
 pub record Tagged : Type 0 where
   pub number : ℕ
   pub line : LineValue
-  pub run : ℕ
+  pub group : ℕ
 
--- a group line by value, wherever its bytes are in memory
-abbrev pub tag_of : GroupLine → Tagged
-tag_of group = record { number = group.number; line = by_value group.line; run = group.run }
+-- a member by value, wherever its bytes are in memory
+abbrev pub tag_of : MemberLine → Tagged
+tag_of member = record { number = member.number; line = by_value member.line; group = member.group }
 
 abbrev pub rule_of : Tagged → Option PlacedRule
 rule_of t = placed t.number (rule_in t.line)

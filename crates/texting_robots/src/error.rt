@@ -18,7 +18,7 @@ pub enum Error {
 
 /// Why a site has no robot for a crawler.
 #[derive(Debug, Drop)]
-pub enum Rejection {
+pub enum RobotError {
     /// `Error::InvalidRule`: the crawler's first rule that is too long is in the line with this number.
     Overlong(usize),
     /// `Error::Memory`.
@@ -52,27 +52,27 @@ impl<T: Drop> From<AllocFailed<T>> for Error {
     }
 }
 
-impl From<Rejection> for Error {
+impl From<RobotError> for Error {
     ghost use Rattle.std.specs.Prelude.{◌≡◌};
     ghost use Rattle.texting_robots.specs.{Error.error_of};
 
     ghost from_gives = { λ rejection e. e ≡ error_of rejection };
 
-    fn from(rejection: Rejection) -> Error {
+    fn from(rejection: RobotError) -> Error {
         match rejection {
-            Rejection::Overlong(_) => Error::InvalidRule,
-            Rejection::Memory => Error::Memory,
+            RobotError::Overlong(_) => Error::InvalidRule,
+            RobotError::Memory => Error::Memory,
         }
     }
 }
 
-impl From<AllocError> for Rejection {
+impl From<AllocError> for RobotError {
     ghost use Rattle.std.specs.Prelude.{◌≡◌};
-    ghost use Rattle.texting_robots.specs.declared.error.Rejection.TheVariants.{Memory};
+    ghost use Rattle.texting_robots.specs.declared.error.RobotError.TheVariants.{Memory};
 
     ghost from_gives = { λ _ rejection. rejection ≡ Memory };
 
-    fn from(_: AllocError) -> Rejection {
-        Rejection::Memory
+    fn from(_: AllocError) -> RobotError {
+        RobotError::Memory
     }
 }

@@ -1,6 +1,6 @@
-//! Which lines apply to a crawler. A group line is an Allow, a Disallow or a Crawl-delay; it is captured if
-//! it applies to the crawler. A first pass finds the group name. A tracker that reads the lines in order then
-//! finds the captured ones.
+//! Which lines apply to a crawler. A member of a group is an Allow, a Disallow or a Crawl-delay; it is
+//! captured if it applies to the crawler. A first pass finds the group name. A tracker that reads the lines
+//! in order then finds the captured ones.
 ghost use Rattle.std.specs.Prelude.{◌≡◌, ◌||◌, not, false};
 ghost use Rattle.std.specs.{Str.str_to_ascii_lowercase};
 ghost use Rattle.texting_robots.specs.{Group.group_name, Labels.is_named, Line.by_value};
@@ -64,9 +64,9 @@ pub(crate) fn group_for<'a>(agent: &'a [u8], lines: LazyLines<'_>) -> Group<'a>
 /// The state while the lines are read from first to last.
 #[derive(Clone, Copy)]
 pub(crate) struct GroupTracker {
-    /// Whether a group line at this position would be captured.
+    /// Whether a member at this position would be captured.
     pub(crate) captured: bool,
-    /// Whether a user-agent line since the last group line has the group name.
+    /// Whether a user-agent line since the last member has the group name.
     pub(crate) named: bool,
 }
 
@@ -100,14 +100,14 @@ impl GroupTracker {
         }
     }
 
-    /// Whether the next group line is captured. If none is left: whether one after the last line would be.
+    /// Whether the next member is captured. If none is left: whether one after the last line would be.
     pub(crate) fn ahead(self, name: &[u8], left: LazyLines<'_>) -> bool
         ensures { result ≡ captured_ahead (str_to_ascii_lowercase name.now) self left.entry }
     {
         let mut tracker = self;
         for line in left {
             let line = line.read();
-            if line.is_group() {
+            if line.is_member() {
                 return tracker.captured;
             }
             tracker.step(name, line);

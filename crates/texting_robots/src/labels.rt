@@ -1,5 +1,5 @@
 //! The lines of a file with their membership in a crawler's group, for programs that show a site owner what
-//! each line does. A group line is an Allow, a Disallow or a Crawl-delay.
+//! each line does. A member of a group is an Allow, a Disallow or a Crawl-delay.
 ghost use Rattle.std.specs.Prelude.{◌≡◌, ◌≤◌, length};
 ghost use Rattle.std.specs.Iterator.{YieldsFirstBy, item_count};
 ghost use Rattle.texting_robots.specs.{Group.group_name, Line.by_value, Internal.Group.membership_by};
@@ -13,13 +13,13 @@ use std::marker::Model;
 /// Whether a line belongs to a crawler's group.
 #[derive(Clone, Copy, PartialEq, Eq, Debug)]
 pub enum Membership {
-    /// In the crawler's group: a group line that applies to the crawler, or a user-agent line of a run that contains
-    /// the group name, even if no group line follows.
+    /// In the crawler's group: a member that applies to the crawler, or a user-agent line of a group with the
+    /// group name, even if no member follows.
     Own,
-    /// In another group: any other group line below a user-agent line, or any other user-agent line.
+    /// In another group: any other member below a user-agent line, or any other user-agent line.
     Other,
-    /// In no group: an ignored line, a sitemap, or a group line above all user-agent lines, which may still
-    /// have the crawler's delay. If a file has no user-agent line, all group lines are `Own`.
+    /// In no group: an ignored line, a sitemap, or a member above all user-agent lines, which may still have
+    /// the crawler's delay. If a file has no user-agent line, all members are `Own`.
     Ungrouped,
 }
 
@@ -43,7 +43,7 @@ pub struct LabeledLineIter<'n, 'a> {
     tracker: GroupTracker,
     /// Whether a user-agent line was returned.
     begun: bool,
-    /// If known: whether the next group line applies to the crawler, or, if none is left, whether one would.
+    /// If known: whether the next member applies to the crawler, or, if none is left, whether one would.
     ahead: Option<bool>,
 }
 
@@ -65,7 +65,7 @@ impl<'n, 'a> Model for LabeledLineIter<'n, 'a> {
 fn membership_of(captured: bool, begun: bool, line: Line<'_>) -> Membership
     ensures { result ≡ membership_by captured begun (by_value line.entry) }
 {
-    let of_group = line.is_group() || matches!(line, Line::UserAgent(_));
+    let of_group = line.is_member() || matches!(line, Line::UserAgent(_));
     if of_group && captured {
         Membership::Own
     } else if of_group && begun {
@@ -92,7 +92,7 @@ impl<'n, 'a> Iterator for LabeledLineIter<'n, 'a> {
         self.position += 1;
         self.tracker.step(self.name, line);
         self.begun = self.begun || matches!(line, Line::UserAgent(_));
-        self.ahead = (!line.is_group()).then_some(captured);
+        self.ahead = (!line.is_member()).then_some(captured);
         Some(LabeledLine {
             number: self.position,
             membership: membership_of(captured, self.begun, line),

@@ -9,8 +9,8 @@ ghost use Rattle.texting_robots.specs.{declared.parser.statement.Kind.Kind, Deci
 ghost use Rattle.texting_robots.specs.{Decision.IsDecidingLine, Statement.IsStatement, Verdict.robots_file};
 ghost use Rattle.texting_robots.specs.{Delay.IsDelay, Groups.lines_for, Order.pattern_cmp, Verdict.IsVerdict};
 ghost use Rattle.texting_robots.specs.{Cut.IsCut, Cut.Pair, Groups.groups, Order.IsBefore};
-ghost use Rattle.texting_robots.specs.Group.{IsCaptured, group_name, is_agent, is_group};
-ghost use Rattle.texting_robots.specs.Laws.{IsSameKind, Same, SameButSitemaps, crlf_to_lf};
+ghost use Rattle.texting_robots.specs.Group.{IsCaptured, group_name, is_agent, is_member};
+ghost use Rattle.texting_robots.specs.Theorems.{IsSameKind, Same, SameButSitemaps, crlf_to_lf};
 ghost use Rattle.texting_robots.specs.Line.{AreFileLinesOf, AreLinesOf, HoldRangesOf, LineValue, delay_in};
 ghost use Rattle.texting_robots.specs.Line.{IsLineOf, is_raw, is_sitemap};
 ghost use Rattle.texting_robots.specs.Labels.{AreLabelsOf, Label, bodies_in, labels_of};
@@ -233,7 +233,7 @@ pub fn examples_of_groups()
     ensures merged_groups { example.merged_groups }
     ensures no_agents { example.no_agents }
     ensures values { example.values }
-    ensures raw_in_a_run { example.raw_in_a_run }
+    ensures raw_in_a_group { example.raw_in_a_group }
     ensures which_delay { example.which_delay }
 {}
 
@@ -278,7 +278,7 @@ pub fn example_of_a_file()
 /// name, in file order: the specification by positions agrees with the groups of RFC 9309.
 pub fn captured_by_groups()
     ensures lines { (name : List ℕ) (lines : List LineValue) (position : ℕ) (line : LineValue)
-        → list_any is_agent lines ≡ true → slice_get lines position ≡ Some line → IsTrue (is_group line)
+        → list_any is_agent lines ≡ true → slice_get lines position ≡ Some line → IsTrue (is_member line)
         → IsCaptured name lines position ↔ Contains (lines_for name (groups lines)) (position, line) }
     ensures rules { (agent : List ℕ) (lines : List LineValue) → list_any is_agent lines ≡ true
         → placed_rules agent lines ≡ filter_map placed_in (lines_for (group_name agent lines) (groups lines)) }

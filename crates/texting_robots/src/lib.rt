@@ -30,22 +30,22 @@
 #![tactic(auto)]
 
 pub mod address;
+mod builder;
 mod decision;
 mod error;
 mod escape;
 mod groups;
 mod haystack;
+mod in_file;
 pub mod labels;
 mod lanes;
 pub mod laws;
 mod matching;
 pub mod minregex;
 mod normalized;
-mod one_agent;
 pub mod parser;
 mod prefilter;
 mod prepared;
-mod reading;
 pub mod robot;
 mod rules;
 mod segments;
@@ -53,9 +53,9 @@ pub mod site;
 pub mod view;
 
 pub use address::{get_robots_url, robots_url_of};
-pub use error::{Error, Rejection, TooCostly};
+pub use error::{Error, RobotError, TooCostly};
 pub use escape::push_escaped_bytes;
-pub use one_agent::allowed_in_file;
+pub use in_file::allowed_in_file;
 pub use prepared::match_target;
 pub use robot::{Decision, Robot};
 pub use site::Site;

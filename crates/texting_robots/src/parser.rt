@@ -5,10 +5,10 @@ ghost use Rattle.std.specs.Iterator.{YieldsFirst, YieldsFirstBy, item_count};
 ghost use Rattle.std.specs.{List.AllZip, Str.str_to_ascii_lowercase};
 ghost use Rattle.texting_robots.specs.Executable.{file_bodies, file_lines, parsed};
 ghost use Rattle.texting_robots.specs.Internal.{Cut.bodies_of, Cut.read_as, Line.line_of, Line.line_with};
-ghost use Rattle.texting_robots.specs.{Group.is_agent, Group.is_agent_named, Group.is_group, Labels.is_named};
+ghost use Rattle.texting_robots.specs.{Group.is_agent, Group.is_agent_named, Group.is_member, Labels.is_named};
 ghost use Rattle.texting_robots.specs.Line.{AreFileBodiesOf, AreFileLinesOf, AreLinesOf, HoldRangesOf};
 ghost use Rattle.texting_robots.specs.Line.{IsLineOf, by_value, delay_in, is_raw, is_sitemap, nul_as_lf, value_in};
-ghost use Rattle.texting_robots.specs.Line.{without_front};
+ghost use Rattle.texting_robots.specs.Line.{without_bom};
 
 mod agents;
 mod cut;
@@ -59,8 +59,8 @@ impl<'a> Line<'a> {
         }
     }
 
-    pub(crate) fn is_group(self) -> bool
-        ensures { result ≡ is_group (by_value self.entry) }
+    pub(crate) fn is_member(self) -> bool
+        ensures { result ≡ is_member (by_value self.entry) }
     {
         matches!(
             self,
@@ -284,8 +284,8 @@ impl<'a> Iterator for LineIter<'a> {
     }
 }
 
-pub(crate) fn without_front<'a>(text: &'a [u8]) -> &'a [u8]
-    ensures value { result.now ≡ without_front text.now }
+pub(crate) fn without_bom<'a>(text: &'a [u8]) -> &'a [u8]
+    ensures value { result.now ≡ without_bom text.now }
     ensures end { (front : List ℕ) × (text.now ≡ front ++ result.now) }
 {
     let text = text.strip_prefix(b"\xEF").unwrap_or(text);
@@ -305,7 +305,7 @@ pub fn lines<'a>(input: &'a [u8]) -> LineIter<'a>
     LineIter {
         lazy: LazyLines {
             bodies: BodyIter {
-                rest: without_front(input),
+                rest: without_bom(input),
                 nul_ends: false,
             },
         },
@@ -322,7 +322,7 @@ pub fn file_bodies<'a>(input: &'a [u8]) -> BodyIter<'a>
     ensures count { length result ≤ length input.now }
 {
     BodyIter {
-        rest: without_front(input),
+        rest: without_bom(input),
         nul_ends: true,
     }
 }

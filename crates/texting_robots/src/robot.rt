@@ -8,11 +8,11 @@ ghost use Rattle.texting_robots.specs.Decision.{IsDecidingLine, IsDecisionOn, Lo
 ghost use Rattle.texting_robots.specs.Robot.{IsFileRejected, IsRobotOfFile, file_limit};
 ghost use Rattle.texting_robots.specs.Rules.{HasNoRulesOrSitemaps, unplaced};
 
+use crate::builder::read_file;
 pub use crate::decision::Decision;
 use crate::error::{Error, TooCostly};
 use crate::prefilter::bigrams::BigramSet;
 use crate::prepared::{match_target, prepare, target};
-use crate::reading::read_file;
 use crate::rules::Rules;
 use crate::view::View;
 use std::alloc::{AllocError, Global};
@@ -158,16 +158,16 @@ impl Robot {
         ensures without_memory { IsAllocationFree url.now → IsOk result }
     {
         let text = prepare(alloc, url)?;
-        Ok(self.decision_prepared(text.as_str()))
+        Ok(self.decide_prepared(text.as_str()))
     }
 
     /// Whether the crawler may fetch the URL with this match target, and the line that decides. No
     /// comparisons are counted. It doesn't allocate.
-    pub fn decision_prepared(&self, text: &str) -> Decision
+    pub fn decide_prepared(&self, text: &str) -> Decision
         ensures verdict { IsVerdict (unplaced self.now.rules) text.now result.allowed }
         ensures line { IsDecidingLine self.now.rules text.now result.line }
     {
-        self.rules.decide_uncounted(text.as_bytes())
+        self.rules.decide(text.as_bytes())
     }
 
     /// Whether the crawler may fetch the URL whose match target is the text of the view. It doesn't allocate.
@@ -188,7 +188,7 @@ impl Robot {
         ensures looks { LooksForRules self.now.rules view.old view.new }
         ensures cost { view.new.looks ≤ view.old.looks + cost_of self.now.rules (length view.old.text) }
     {
-        self.rules.decide(view)
+        self.rules.decision(view)
     }
 
     /// What [`Robot::decision`] costs at most for a text of this length: its looks, and one for each rule.
@@ -214,7 +214,7 @@ impl Robot {
         ensures ample { cost_of self.now.rules (length view.old.text) ≤ budget
             → view.old.looks + cost_of self.now.rules (length view.old.text) < 2 ^ 64 → IsOk result }
     {
-        self.rules.decide_within(view, None, budget)
+        self.rules.decision_within(view, None, budget)
     }
 
     /// The same for a view of `text`. A rule with a pair of adjacent bytes after a `*` that the text doesn't contain
@@ -223,7 +223,7 @@ impl Robot {
     /// # Errors
     ///
     /// As for [`Robot::decision_within`].
-    pub fn decision_of_text(
+    pub fn decision_of_target(
         &self,
         text: &str,
         view: &mut View<'_>,
@@ -239,6 +239,6 @@ impl Robot {
             → view.old.looks + cost_of self.now.rules (length text.now) < 2 ^ 64 → IsOk result }
     {
         let pairs = BigramSet::of(text.as_bytes());
-        self.rules.decide_within(view, Some(pairs), budget)
+        self.rules.decision_within(view, Some(pairs), budget)
     }
 }

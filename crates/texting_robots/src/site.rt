@@ -18,15 +18,15 @@ mod names;
 mod own;
 mod rules;
 
-use crate::error::{Error, Rejection};
+use crate::builder::{as_text, push_text};
+use crate::error::{Error, RobotError};
 use crate::escape::holds_escaped;
 use crate::parser::Line;
-use crate::reading::{as_text, push_text};
 use crate::robot::{FILE_LIMIT, Robot};
-use crate::rules::{Rules, Unsorted};
-pub use lines::GroupLine;
-use lines::{KeptLine, SiteLines, Span};
-use names::Names;
+use crate::rules::{RuleTable, Rules};
+pub use lines::MemberLine;
+use lines::{ByteRange, KeptLine, SiteLines};
+use names::NameIndex;
 pub use own::OwnLines;
 pub use rules::{SiteRule, SiteRules};
 use std::alloc::{AllocError, Global};
@@ -37,10 +37,10 @@ use std::marker::Model;
 #[derive(Drop)]
 pub struct Site {
     text: Vec<u8>,
-    /// The group lines (Allow, Disallow and Crawl-delay), in file order.
+    /// The members (Allow, Disallow and Crawl-delay), in file order.
     lines: Vec<KeptLine>,
-    names: Names,
-    sitemaps: Vec<Span>,
+    names: NameIndex,
+    sitemaps: Vec<ByteRange>,
     /// The last one above the first user-agent line.
     early: Option<u64>,
 }
@@ -88,12 +88,12 @@ fn push_sitemap(alloc: Global, sitemaps: &mut Vec<String>, line: Line<'_>) -> Re
     }
 }
 
-fn rejection_at(line: usize, error: Error) -> Rejection
+fn rejection_at(line: usize, error: Error) -> RobotError
     ensures { result ≡ rejection_at line error }
 {
     match error {
-        Error::InvalidRule => Rejection::Overlong(line),
-        Error::InvalidRobots | Error::Memory => Rejection::Memory,
+        Error::InvalidRule => RobotError::Overlong(line),
+        Error::InvalidRobots | Error::Memory => RobotError::Memory,
     }
 }
 
@@ -112,10 +112,10 @@ impl Site {
     {
         let text = txt[..limit.min(txt.len())].to_vec(alloc)?;
         let lines = SiteLines::read(alloc, &text)?;
-        let names = Names::new(alloc, lines.agent_lines)?;
+        let names = NameIndex::new(alloc, lines.agent_lines)?;
         Ok(Site {
             text,
-            lines: lines.group_lines,
+            lines: lines.member_lines,
             names,
             sitemaps: lines.sitemaps,
             early: lines.early,
@@ -128,7 +128,10 @@ impl Site {
         ensures { length self.now ≤ result }
     {
         let lines = self.lines.capacity().saturating_mul(size_of::<KeptLine>());
-        let sitemaps = self.sitemaps.capacity().saturating_mul(size_of::<Span>());
+        let sitemaps = self
+            .sitemaps
+            .capacity()
+            .saturating_mul(size_of::<ByteRange>());
         size_of::<Site>()
             .saturating_add(self.text.capacity())
             .saturating_add(lines)
@@ -184,7 +187,7 @@ impl Site {
         Ok(agents)
     }
 
-    /// The group lines that apply to the crawler, in file order. It doesn't allocate.
+    /// The members that apply to the crawler, in file order. It doesn't allocate.
     pub fn own_lines<'s, 'n>(&'s self, agent: &'n str) -> OwnLines<'s, 'n>
         ensures rules { filter_map rule_of result ≡ placed_rules agent.now (file_lines self.now) }
         ensures delays { filter_map delay_of result ≡ captured_delays agent.now (file_lines self.now) }
@@ -201,14 +204,14 @@ impl Site {
         }
     }
 
-    fn own_rules(&self, alloc: Global, agent: &str) -> Result<Unsorted, Rejection>
+    fn own_rules(&self, alloc: Global, agent: &str) -> Result<RuleTable, RobotError>
         ensures known { IfOk result AreEntries }
         ensures rules { IfOk result (λ own. rules_in own ≡ placed_rules agent.now (file_lines self.now)) }
         ensures accepted { IfOk result (λ own. All (λ placed. ¬ IsOverlong placed.rule.0) (rules_in own)) }
         ensures rejected { IfErr result (IsRejectionOf agent.now self.now) }
         ensures without_memory { placed_rules agent.now (file_lines self.now) ≡ [] → IsOk result }
     {
-        let mut own = Unsorted::new(alloc);
+        let mut own = RuleTable::new(alloc);
         for rule in self.rules(agent) {
             if let Err(error) = own.push(
                 rule.value,
@@ -222,9 +225,10 @@ impl Site {
         Ok(own)
     }
 
-    /// The robot of [`Robot::new`] for the crawler with the product token `agent`, but without sitemaps, or the
-    /// reason why there is none. Only group lines that apply to this crawler are parsed. Only rules are allocated.
-    pub fn robot_without_sitemaps(&self, alloc: Global, agent: &str) -> Result<Robot, Rejection>
+    /// The robot of [`Robot::new`] for the crawler with the product token `agent`, but without sitemaps, or
+    /// the reason why there is none. Only members that apply to this crawler are parsed. Only rules are
+    /// allocated.
+    pub fn robot_without_sitemaps(&self, alloc: Global, agent: &str) -> Result<Robot, RobotError>
         ensures robot { IfOk result (IsRobotWithoutSitemaps agent.now self.now) }
         ensures rejected { IfErr result (IsRejectionOf agent.now self.now) }
         ensures without_memory { HasLines self.now (λ lines. AreRulesFor agent.now lines []) → IsOk result }
@@ -238,7 +242,7 @@ impl Site {
     }
 
     /// The robot of [`Robot::new`] for the crawler with the product token `agent`, or the reason why there is none.
-    pub fn robot(&self, alloc: Global, agent: &str) -> Result<Robot, Rejection>
+    pub fn robot(&self, alloc: Global, agent: &str) -> Result<Robot, RobotError>
         ensures robot { IfOk result (IsRobotOfFile agent.now self.now) }
         ensures rejected { IfErr result (IsRejectionOf agent.now self.now) }
         ensures without_memory { HasLines self.now (HasNoRulesOrSitemaps agent.now) → IsOk result }

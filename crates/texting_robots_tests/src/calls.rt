@@ -187,7 +187,7 @@ fn decides(robot: &Robot, text: &str, allowed: bool, line: Option<usize>) -> boo
     let want = Decision { allowed, line };
     let mut view = View::new(text);
     robot.decision(&mut view) == want
-        && robot.decision_prepared(text) == want
+        && robot.decide_prepared(text) == want
         && robot.allowed_view(&mut view) == allowed
         && robot.allowed_prepared(text) == allowed
         && view.len() == text.len()

@@ -1,5 +1,5 @@
 //! A writer of which only the flush fails, as no output of a process does.
-use robots_io::streams::{WriteFault, write_out};
+use robots_io::streams::{WriteError, write_out};
 use std::io::{self, ErrorKind, Write};
 
 #[derive(Drop)]
@@ -19,13 +19,13 @@ impl Write for Sink {
     }
 }
 
-const FAULTS: &[(ErrorKind, WriteFault)] = &[
-    (ErrorKind::BrokenPipe, WriteFault::Closed),
-    (ErrorKind::WriteZero, WriteFault::Write),
+const FAULTS: &[(ErrorKind, WriteError)] = &[
+    (ErrorKind::BrokenPipe, WriteError::Closed),
+    (ErrorKind::WriteZero, WriteError::Write),
 ];
 
 #[test]
-fn a_failed_flush_is_a_fault(rt: HostRuntime) {
+fn a_failed_flush_is_an_error(rt: HostRuntime) {
     for (kind, fault) in FAULTS {
         let mut sink = Sink {
             held: Vec::new(rt.alloc()),

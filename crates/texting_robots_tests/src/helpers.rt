@@ -57,7 +57,7 @@ pub fn check_target(rt: &impl Abort, robot: &Robot, text: &str, verdict: i64) {
     let (mut view, mut other) = (View::new(text), View::new(text));
     let answers = [robot.allowed_prepared(text), robot.allowed_view(&mut view)];
     check_equal(rt, text, &answers, &[want.allowed; 2]);
-    let decisions = [robot.decision_prepared(text), robot.decision(&mut other)];
+    let decisions = [robot.decide_prepared(text), robot.decision(&mut other)];
     check_equal(rt, text, &decisions, &[want; 2]);
 }
 

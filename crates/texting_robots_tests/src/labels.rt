@@ -8,7 +8,7 @@ use texting_robots::parser::{file_bodies, file_lines};
 const FILE: &[u8] =
     b"Disallow: /x\nUser-agent: a\nUser-agent: B\nDisallow: /y\nUser-agent: c\nAllow: /z";
 
-/// A delay ends a run of user-agent lines. The last run has no rule.
+/// A delay ends the user-agent lines of a group. The last group has no rule.
 const DELAYED: &[u8] = b"User-agent: a\nCrawl-delay: 1\nUser-agent: b\nAllow: /\nUser-agent: a\n";
 
 /// A crawler, a file, whether it names the crawler, and a character for each line: `+` in the crawler's

@@ -55,7 +55,7 @@ fn check_looks(rt: &impl Abort, robot: &Robot, text: &str, allowed: bool, least:
     let (mut view, mut other) = (View::new(text), View::new(text));
     check_equal(rt, "view", &robot.allowed_view(&mut view), &allowed);
     let decision = robot.decision(&mut other);
-    check_equal(rt, "decision", &decision, &robot.decision_prepared(text));
+    check_equal(rt, "decision", &decision, &robot.decide_prepared(text));
     check_equal(rt, "decision", &decision.allowed, &allowed);
     check_equal(rt, "looks", &other.seen(), &view.seen());
     let seen = view.seen();

@@ -14,8 +14,8 @@ type CrawlerCase = (
 /// A rule's value and pattern, whether it is an Allow, and the number of its line.
 type RuleCase = (&'static str, &'static str, bool, usize);
 
-/// Two runs of user-agent lines with a common name, a group for all others, and a name in two runs. The first two lines
-/// are above all user-agent lines. A value that isn't UTF-8 is no rule, and an empty Disallow is an Allow of `/`.
+/// Two groups with a common name, a group for all others, and a name in two groups. The first two lines are
+/// above all user-agent lines. A value that isn't UTF-8 is no rule, and an empty Disallow is an Allow of `/`.
 const FILE: &[u8] =
     b"Crawl-delay: 7\nDisallow: /nobody\nUser-agent: Alpha\nUser-agent: BETA\nDisallow: /a\nCrawl-delay: 2\n\
     User-agent: beta\nAllow: /b\nUser-agent: *\nDisallow: /\nuser-agent: ALPHA\nDisallow: /\xc3\xa9\nDisallow: /\xff\nDisallow:";

@@ -1,9 +1,10 @@
 -- Expectations as the code finds and handles them.
 use Rattle.std.specs.Prelude.{◌≡◌, ◌==◌, ℕ, ◌<◌, true, false, Err, List, Ok, length, option_map, slice_index}
 use Rattle.std.specs.Prelude.{string_bytes, map, ◌⊎◌, Bool, ◌∷◌, Option, Some, None, Contains, slice_index_or}
-use Rattle.audit_core.specs.{declared.fault.Entry.Entry, declared.fault.Fault.Fault, Fault.MalformedLine}
+use Rattle.audit_core.specs.{declared.error.EntryKind.EntryKind, declared.error.Error.Error}
+use Rattle.audit_core.specs.{Error.MalformedLine}
 use Rattle.audit_core.specs.{Internal.IsReading}
-use Rattle.audit_core.specs.declared.fault.Fault.TheVariants.{Empty, Malformed, Memory}
+use Rattle.audit_core.specs.declared.error.Error.TheVariants.{Empty, Malformed, Memory}
 use Rattle.audit_expect.specs.{declared.expect.Expectation.Expectation, declared.checks.Checked.Checked}
 use Rattle.audit_expect.specs.{declared.expectations.AgentReading.AgentReading}
 use Rattle.audit_expect.specs.Expect.{ExpectationValue, LineOf, is_in}
@@ -27,10 +28,10 @@ line_by value (Ok entry) = Ok (option_map value entry)
 line_by value (Err malformed) = Err malformed
 
 -- the error names these malformed lines, of which there are some, or an allocation failed
-abbrev pub AreMalformed : List ℕ → List MalformedLine → Fault → Type 0
+abbrev pub AreMalformed : List ℕ → List MalformedLine → Error → Type 0
 AreMalformed name malformed (Malformed file lines) =
     (string_bytes file ≡ name) × (lines.items ≡ malformed) × ((length malformed == 0) ≡ false)
-AreMalformed name malformed fault = fault ≡ Memory
+AreMalformed name malformed error = error ≡ Memory
 
 -- the first `end` bytes of the text contain no separator
 abbrev pub HasNone : List ℕ → List ℕ → ℕ → Type 0
@@ -43,9 +44,9 @@ pub record IsFirstSeparator (separators text : List ℕ) (place : ℕ) : Type 0 
   pub before : HasNone separators text place
 
 -- the error names this file, which has no such entries, or an allocation failed
-abbrev pub IsWithoutEntries : List ℕ → Entry → Fault → Type 0
+abbrev pub IsWithoutEntries : List ℕ → EntryKind → Error → Type 0
 IsWithoutEntries name entry (Empty file other) = (string_bytes file ≡ name) × (other ≡ entry)
-IsWithoutEntries name entry fault = fault ≡ Memory
+IsWithoutEntries name entry error = error ≡ Memory
 
 abbrev pub checked_value : Checked → CheckedValue
 checked_value checked = record {

@@ -1,5 +1,5 @@
 use Rattle.std.proofs.Common.{◌≡◌, ℕ, List, None, subst}
-use Rattle.audit_core.specs.Content.{content_flaw}
+use Rattle.audit_core.specs.NotRobots.{content_flaw}
 use Rattle.robots_audit.proofs.read_robots.Goals as goal
 
 pub returns : goal.returns

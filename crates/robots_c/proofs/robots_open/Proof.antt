@@ -2,7 +2,7 @@ use Rattle.c_calls.proofs.Borrowing.{◌≡◌, ℕ, [], ◌∷◌, refl, ‵, �
 use Rattle.c_calls.proofs.Borrowing as m
 use Rattle.c_calls.proofs.Keeping.{id⊢, ℤ, ◌≢◌}
 use Rattle.c_calls.proofs.Keeping as d
-use Rattle.c_calls.specs.{File.bytes_read, Kept.Robots, Status.HasFaultAt, Status.IsWhyNoRobot}
+use Rattle.c_calls.specs.{File.bytes_read, Kept.Robots, Status.HasErrorAt, Status.IsWhyNoRobot}
 use Rattle.c_calls.proofs.handle.opened.Met.{met}
 use Rattle.robots_c.proofs.robots_open.Statement.{statement}
 use Rattle.c_calls.specs.contracts.handle.opened as callee
@@ -19,7 +19,7 @@ robots_open_spec 𝓤 𝓛 𝓜 𝓡 wired =
     let W : Type 0 = m.Lasts callee.ended κs given_at in let V : Type 0 = m.Lasts self.ended z.0.0 a in
     let made : W → m.Ptr → V = λ w p. (tt, (tt, (tt, (p, (w.1.1.1.1.0, tt))))) in
     let rest : ℤ → m.Ptr → ℕ → d.SProp 𝓤 = λ r p n. d.sep 𝓤 (m.fact 𝓤 (r ≢ d.pos 0 → p ≡ out.now))
-    (m.fact 𝓤 (HasFaultAt (IsWhyNoRobot a.1.0.now (bytes_read a.1.1.0.now)) r line.now n)) in
+    (m.fact 𝓤 (HasErrorAt (IsWhyNoRobot a.1.0.now (bytes_read a.1.1.0.now)) r line.now n)) in
     let E : ℤ → V → d.SProp 𝓤 = m.ensured_by self.ended (self.clauses 𝓛 𝓜.mem 𝓡.returns) z.0.0 a z.1 in
     m.qed 𝓛 ((‵ (m.tokens 4 z.0.0 z.0.1) ⊛ ‵ (m.owns (m.types_at S.params z.0.0) a vs)) ∷ m.raw (d.emp 𝓤) ∷
     []) ∵

@@ -2,7 +2,7 @@
 use Rattle.std.specs.Prelude.{ℕ, ◌+◌, Bool, false, not, ◌&&◌, ◌||◌, List, [], ◌∷◌, Option, Some, None}
 use Rattle.std.specs.Prelude.{if◌then◌else◌, map}
 use Rattle.std.specs.{List.cons_option, List.list_any, Str.is_utf8}
-use Rattle.texting_robots.specs.{declared.groups.GroupTracker.GroupTracker, Group.is_agent, Group.is_group}
+use Rattle.texting_robots.specs.{declared.groups.GroupTracker.GroupTracker, Group.is_agent, Group.is_member}
 use Rattle.texting_robots.specs.{Group.is_agent_named, Internal.Line.line_of, Line.LineValue}
 use Rattle.texting_robots.specs.{declared.labels.Membership.Membership}
 use Rattle.texting_robots.specs.{Labels.Label, Labels.is_own, Executable.rule_in, Rules.PlacedRule}
@@ -15,7 +15,7 @@ start_of lines = record { captured = not (list_any is_agent lines); named = fals
 abbrev pub step : List ℕ → GroupTracker → LineValue → GroupTracker
 step name tracker line = record {
   captured = if is_agent line then is_agent_named name line || tracker.named else tracker.captured;
-  named = is_agent_named name line || (not (is_group line) && tracker.named);
+  named = is_agent_named name line || (not (is_member line) && tracker.named);
 }
 
 abbrev pub if_captured : {X : Type 0} → GroupTracker → Option X → Option X
@@ -32,16 +32,16 @@ from_captured given name tracker position (line ∷ lines) =
 abbrev pub text_from : List ℕ → Option (List ℕ)
 text_from value = if is_utf8 value then Some value else None
 
--- whether the first group line of these, or one at the end, is captured
+-- whether the first member of these, or one at the end, is captured
 abbrev pub captured_ahead : List ℕ → GroupTracker → List LineValue → Bool
 captured_ahead name tracker [] = tracker.captured
 captured_ahead name tracker (line ∷ lines) =
-    if is_group line then tracker.captured else captured_ahead name (step name tracker line) lines
+    if is_member line then tracker.captured else captured_ahead name (step name tracker line) lines
 
--- `captured`: the next group line is captured; `begun`: this line or one above is a user-agent line
+-- `captured`: the next member is captured; `begun`: this line or one above is a user-agent line
 abbrev pub membership_by : Bool → Bool → LineValue → Membership
 membership_by captured begun line =
-    if not (is_agent line || is_group line) then Ungrouped
+    if not (is_agent line || is_member line) then Ungrouped
     else if captured then Own else if begun then Other else Ungrouped
 
 -- the labels of the lines with the contents that are left; `before`: a user-agent line is above them

@@ -12,7 +12,7 @@ use Rattle.texting_robots.specs.declared.prefilter.head.{Head.Head}
 use Rattle.texting_robots.specs.declared.prefilter.bigrams.{BigramSet.BigramSet}
 use Rattle.std.specs.Ordering.{flip_args, nat_cmp, on, then_cmp}
 use Rattle.std.specs.declared.cmp.{Ordering.Ordering}
-use Rattle.texting_robots.specs.declared.rules.{Entry.Entry, Unsorted.Unsorted}
+use Rattle.texting_robots.specs.declared.rules.{RuleEntry.RuleEntry, RuleTable.RuleTable}
 pub use Rattle.texting_robots.specs.Pattern.{is_wildcard}
 
 -- at most two looks were taken for each byte that was left before and no longer is
@@ -233,52 +233,53 @@ ArePrefilter pattern prefilter = (text : List ℕ) → Matches pattern text → 
 
 -- ---- Rules by their ranges of shared vectors.
 
-abbrev pub len_of : Entry → ℕ
+abbrev pub len_of : RuleEntry → ℕ
 len_of entry = entry.pattern.end - entry.pattern.start
 
 abbrev pub rank : ℕ → Bool → ℕ
 rank len allows = 2 * len + (if allows then 1 else 0)
 
 -- the ranges contain a pattern, its segments, with failure tables in `borders`, and its prefilter
-pub record IsEntry (text : List ℕ) (segments : List Segment) (borders : List ℕ) (entry : Entry) : Type 0 where
+pub record IsEntry (text : List ℕ) (segments : List Segment) (borders : List ℕ) (entry : RuleEntry)
+    : Type 0 where
   pub pattern : IsSpan text entry.pattern
   pub searched : IsSpan segments entry.segments
   pub is_cut : AreSegments (part_of text entry.pattern) entry.ends (part_of segments entry.segments) borders
   pub needed : ArePrefilter (part_of text entry.pattern) entry.prefilter
 
-abbrev pub IsEntryOf : Unsorted → Entry → Type 0
+abbrev pub IsEntryOf : RuleTable → RuleEntry → Type 0
 IsEntryOf all entry = IsEntry (string_bytes all.text) all.segments.items all.borders.items entry
 
 -- each entry is one of these vectors, and there are no more masks than entries
-pub record AreEntries (all : Unsorted) : Type 0 where
+pub record AreEntries (all : RuleTable) : Type 0 where
   pub known : All (IsEntryOf all) all.entries.items
   pub masks : length all.masks.items ≤ length all.entries.items
 
-abbrev pub pattern_of : Unsorted → Entry → List ℕ
+abbrev pub pattern_of : RuleTable → RuleEntry → List ℕ
 pattern_of all entry = part_of (string_bytes all.text) entry.pattern
 
-abbrev pub placed_at : List ℕ → Entry → PlacedRule
+abbrev pub placed_at : List ℕ → RuleEntry → PlacedRule
 placed_at text entry = record { rule = (part_of text entry.pattern, entry.is_allow); line = entry.line }
 
-abbrev pub rules_in : Unsorted → List PlacedRule
+abbrev pub rules_in : RuleTable → List PlacedRule
 rules_in all = map (placed_at (string_bytes all.text)) all.entries.items
 
-abbrev pub rank_in : Entry → ℕ
+abbrev pub rank_in : RuleEntry → ℕ
 rank_in entry = rank (len_of entry) entry.is_allow
 
-abbrev pub line_in : Entry → ℕ
+abbrev pub line_in : RuleEntry → ℕ
 line_in entry = entry.line
 
-abbrev pub entry_cmp : Entry → Entry → Ordering
+abbrev pub entry_cmp : RuleEntry → RuleEntry → Ordering
 entry_cmp = then_cmp (flip_args (on rank_in nat_cmp)) (on line_in nat_cmp)
 
 -- the higher rank is first, and for the same rank the earlier line
-pub record GoesBefore (first second : Entry) : Type 0 where
+pub record GoesBefore (first second : RuleEntry) : Type 0 where
   pub higher : rank_in second ≤ rank_in first
   pub earlier : rank_in second ≡ rank_in first → first.line ≤ second.line
 
 -- a default, for positions without an entry
-abbrev pub no_entry : Entry
+abbrev pub no_entry : RuleEntry
 no_entry =
     let none : Span = record { start = 0; end = 0 } in
     record {
@@ -291,27 +292,27 @@ no_entry =
     }
 
 -- the bigrams of the prefilter, and those of at most nine bytes before the first wildcard
-abbrev pub mask_in : List ℕ → Entry → ℕ
+abbrev pub mask_in : List ℕ → RuleEntry → ℕ
 mask_in text entry =
     bit_or entry.prefilter.pairs.bits
     (pair_set (take (min entry.ends.first_len 9) (part_of text entry.pattern)))
 
-abbrev pub HaveMasks : List ℕ → List Entry → List ℕ → Type 0
+abbrev pub HaveMasks : List ℕ → List RuleEntry → List ℕ → Type 0
 HaveMasks text entries masks =
     EachIndex masks (λ k. slice_index masks k ≡ mask_in text (slice_index_or entries k no_entry))
 
-abbrev pub MatchesAt : Unsorted → ℕ → List ℕ → Type 0
+abbrev pub MatchesAt : RuleTable → ℕ → List ℕ → Type 0
 MatchesAt all at text =
     Matches (pattern_of all (slice_index_or all.entries.items at no_entry)) text
 
 -- no rule of this range matches
-abbrev pub NoneBetween : Unsorted → List ℕ → ℕ → ℕ → Type 0
+abbrev pub NoneBetween : RuleTable → List ℕ → ℕ → ℕ → Type 0
 NoneBetween all text from to = (k : ℕ) → from ≤ k → k < to → ¬ MatchesAt all k text
 
-abbrev pub NoneMatches : Unsorted → List ℕ → Type 0
+abbrev pub NoneMatches : RuleTable → List ℕ → Type 0
 NoneMatches all text = (k : ℕ) → k < length all.entries.items → ¬ MatchesAt all k text
 
-abbrev pub IsFirstMatch : Unsorted → List ℕ → ℕ → Type 0
+abbrev pub IsFirstMatch : RuleTable → List ℕ → ℕ → Type 0
 IsFirstMatch all text at =
     (at < length all.entries.items) × MatchesAt all at text
     × ((k : ℕ) → k < at → ¬ MatchesAt all k text)

@@ -8,14 +8,14 @@ ghost use Rattle.texting_robots.specs.Decision.{IsDecidingLine, IsDecisionOn};
 ghost use Rattle.texting_robots.specs.Internal.Segments.{AreEntries, ArePairsOf, HaveMasks};
 ghost use Rattle.texting_robots.specs.Internal.Segments.{IsFirstMatch, NoneBetween, NoneMatches, rules_in};
 
-use super::{NO_RULE, Rules, Unsorted};
+use super::{NO_RULE, RuleTable, Rules};
 use crate::decision::Decision;
 use crate::error::TooCostly;
 use crate::prefilter::bigrams::BigramSet;
 use crate::prefilter::first_near;
 use crate::view::View;
 
-impl Unsorted {
+impl RuleTable {
     /// The index `at`, or a later one if the rules before it can't match a text with these bigrams.
     fn near(&self, at: usize, pairs: Option<BigramSet>) -> usize
         requires known { AreEntries self.now }
@@ -92,15 +92,15 @@ impl Rules {
         ensures { result ≡ seen_of (cost_of self.now len) }
     {
         let mut cost: u64 = 0;
-        for entry in &self.unsorted.entries {
-            let looks = self.unsorted.pattern(entry).most_looks(len);
+        for entry in &self.table.entries {
+            let looks = self.table.pattern(entry).most_looks(len);
             cost = cost.saturating_add(1).saturating_add(looks);
         }
         cost
     }
 
     #[inline(never)]
-    pub(crate) fn decide_within(
+    pub(crate) fn decision_within(
         &self,
         view: &mut View<'_>,
         pairs: Option<BigramSet>,
@@ -118,8 +118,8 @@ impl Rules {
             return Ok(NO_RULE);
         }
         let limit = view.seen().saturating_add(budget);
-        match self.unsorted.first_within(view, pairs, limit)? {
-            Some(at) => Ok(self.unsorted.decision_at(at)),
+        match self.table.first_within(view, pairs, limit)? {
+            Some(at) => Ok(self.table.decision_at(at)),
             None => Ok(NO_RULE),
         }
     }

@@ -13,7 +13,7 @@ use std::marker::Model;
 /// There are as many buckets as lines. A look-up compares the name with those of one bucket, usually one or
 /// two. The hash function is fixed, so someone can write a file whose names are all in one bucket.
 #[derive(Drop)]
-pub(crate) struct Names {
+pub(crate) struct NameIndex {
     lines: Vec<AgentLine>,
     /// For each bucket the index of its first line, or the number of lines.
     heads: Vec<usize>,
@@ -21,7 +21,7 @@ pub(crate) struct Names {
     nexts: Vec<usize>,
 }
 
-impl Model for Names {
+impl Model for NameIndex {
     ghost use Rattle.std.specs.Prelude.{List, map};
     ghost use Rattle.texting_robots.specs.Internal.Site.{AreLinked, Named, named_of};
 
@@ -66,7 +66,7 @@ fn link(lines: &[AgentLine], heads: &mut [usize], nexts: &mut [usize])
     }
 }
 
-impl Names {
+impl NameIndex {
     pub(crate) fn new(alloc: Global, lines: Vec<AgentLine>) -> Result<Self, AllocError>
         ensures { IfOk result (λ names. names ≡ map named_of lines.items) }
     {
@@ -74,7 +74,7 @@ impl Names {
         let mut heads = vec![in alloc; count; count]?;
         let mut nexts = vec![in alloc; count; count]?;
         link(&lines, &mut heads, &mut nexts);
-        Ok(Names {
+        Ok(NameIndex {
             lines,
             heads,
             nexts,

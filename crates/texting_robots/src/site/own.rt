@@ -4,28 +4,28 @@ ghost use Rattle.std.specs.{Iterator.YieldsFirstBy, Iterator.item_count, Str.str
 ghost use Rattle.texting_robots.specs.{Internal.Site.AreOfFile, OwnLines.tag_of};
 ghost use Rattle.texting_robots.specs.Internal.Site.{IsWalk, IsWholeWalk, own_at, in_front, tag_at};
 
-use crate::site::lines::{GroupLine, KeptLine};
-use crate::site::names::Names;
+use crate::site::lines::{KeptLine, MemberLine};
+use crate::site::names::NameIndex;
 use std::marker::Model;
 
 #[derive(Clone, Copy)]
 pub(crate) struct Position {
     /// The index of the next user-agent line with the group name, or the number of user-agent lines.
     pub(crate) name_index: usize,
-    /// The run whose group lines are next.
-    pub(crate) run: usize,
-    /// The index of the next of these group lines, if one is left.
+    /// The group whose members are next.
+    pub(crate) group: usize,
+    /// The index of the next of these members, if one is left.
     pub(crate) at: usize,
 }
 
-/// An iterator over the group lines that apply to a crawler, in file order. It doesn't allocate.
+/// An iterator over the members that apply to a crawler, in file order. It doesn't allocate.
 ///
-/// It goes from one user-agent line with the group name to the next, and returns the group lines of its run.
+/// It goes from one user-agent line with the group name to the next, and returns the members of its group.
 #[derive(Drop)]
 pub struct OwnLines<'s, 'n> {
     text: &'s [u8],
     lines: &'s [KeptLine],
-    names: &'s Names,
+    names: &'s NameIndex,
     /// The group name.
     name: &'n [u8],
     position: Position,
@@ -46,17 +46,17 @@ impl<'s, 'n> Model for OwnLines<'s, 'n> {
         (map (tag_at s.text.now) s.lines.now) };
 }
 
-fn line_of_run<'t>(
+fn line_of_group<'t>(
     text: &'t [u8],
     lines: &[KeptLine],
     at: usize,
-    run: usize,
-) -> Option<GroupLine<'t>>
-    ensures { MatchOption result (in_front run (drop at (map (tag_at text.now) lines.now)) ≡ []) (λ line. (at < length lines.now)
-        × (in_front run (drop at (map (tag_at text.now) lines.now)) ≡ tag_of line ∷ in_front run (drop (at + 1) (map (tag_at text.now) lines.now)))) }
+    group: usize,
+) -> Option<MemberLine<'t>>
+    ensures { MatchOption result (in_front group (drop at (map (tag_at text.now) lines.now)) ≡ []) (λ line. (at < length lines.now)
+        × (in_front group (drop at (map (tag_at text.now) lines.now)) ≡ tag_of line ∷ in_front group (drop (at + 1) (map (tag_at text.now) lines.now)))) }
 {
     match lines.get(at) {
-        Some(line) if line.run == run => Some(line.read(text)),
+        Some(line) if line.group == group => Some(line.read(text)),
         _ => None,
     }
 }
@@ -64,10 +64,10 @@ fn line_of_run<'t>(
 fn next_line<'t>(
     text: &'t [u8],
     lines: &[KeptLine],
-    names: &Names,
+    names: &NameIndex,
     name: &[u8],
     start: Position,
-) -> Option<(GroupLine<'t>, Position)>
+) -> Option<(MemberLine<'t>, Position)>
     requires { IsWalk (str_to_ascii_lowercase name.now) start names.now (map (tag_at text.now) lines.now) }
     ensures { MatchOption result
         (own_at (str_to_ascii_lowercase name.now) start names.now (map (tag_at text.now) lines.now) ≡ [])
@@ -76,32 +76,32 @@ fn next_line<'t>(
         ≡ tag_of next.0 ∷ own_at (str_to_ascii_lowercase name.now) next.1 names.now (map (tag_at text.now) lines.now))) }
 {
     let mut name_index = start.name_index;
-    let mut run = start.run;
+    let mut group = start.group;
     let mut at = start.at;
     loop {
-        if let Some(line) = line_of_run(text, lines, at, run) {
+        if let Some(line) = line_of_group(text, lines, at, group) {
             let at = at + 1;
             return Some((
                 line,
                 Position {
                     name_index,
-                    run,
+                    group,
                     at,
                 },
             ));
         }
         let named = names.lines().get(name_index)?;
         name_index = names.after(name_index, name);
-        if named.run > run {
-            run = named.run;
+        if named.group > group {
+            group = named.group;
             at = named.start;
         }
     }
 }
 
-/// In a file without user-agent lines all group lines apply to every crawler. Group lines above the first
-/// user-agent line apply to none.
-fn first_line(lines: &[KeptLine], names: &Names) -> usize
+/// In a file without user-agent lines all members apply to every crawler. Members above the first user-agent
+/// line apply to none.
+fn first_line(lines: &[KeptLine], names: &NameIndex) -> usize
     ensures unnamed { length names.now ≡ 0 → result ≡ 0 }
     ensures named { 0 < length names.now → length lines.now ≤ result }
 {
@@ -116,7 +116,7 @@ impl<'s, 'n> OwnLines<'s, 'n> {
     pub(super) fn new(
         text: &'s [u8],
         lines: &'s [KeptLine],
-        names: &'s Names,
+        names: &'s NameIndex,
         name: &'n [u8],
     ) -> Self
         requires { AreOfFile names.now (map (tag_at text.now) lines.now) }
@@ -124,7 +124,7 @@ impl<'s, 'n> OwnLines<'s, 'n> {
     {
         let position = Position {
             name_index: names.first(name),
-            run: 0,
+            group: 0,
             at: first_line(lines, names),
         };
         OwnLines {
@@ -138,13 +138,13 @@ impl<'s, 'n> OwnLines<'s, 'n> {
 }
 
 impl<'s, 'n> Iterator for OwnLines<'s, 'n> {
-    type Item = GroupLine<'s>;
+    type Item = MemberLine<'s>;
 
     ghost next_gives = { YieldsFirstBy tag_of (λ s. s) };
 
     ghost remaining = { item_count (λ s. s) };
 
-    fn next(&mut self) -> Option<GroupLine<'s>> {
+    fn next(&mut self) -> Option<MemberLine<'s>> {
         let (line, position) = next_line(
             self.text,
             self.lines,

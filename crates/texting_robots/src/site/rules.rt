@@ -3,10 +3,10 @@ ghost use Rattle.std.specs.Prelude.{◌≡◌, IfOk, string_bytes};
 ghost use Rattle.std.specs.Iterator.{YieldsFirst, item_count};
 ghost use Rattle.texting_robots.specs.{Executable.rule_with, OwnLines.rule_of, OwnLines.tag_of, Rules.placed};
 
+use crate::builder::as_text;
 use crate::escape::{holds_escaped, push_escaped};
 use crate::parser::Line;
-use crate::reading::as_text;
-use crate::site::lines::GroupLine;
+use crate::site::lines::MemberLine;
 use crate::site::own::OwnLines;
 use std::alloc::{AllocError, Global};
 use std::marker::Model;
@@ -71,7 +71,7 @@ fn rule_with<'s>(value: &'s [u8], is_allow: bool, line: usize) -> Option<SiteRul
     })
 }
 
-fn rule_in<'s>(line: &GroupLine<'s>) -> Option<SiteRule<'s>>
+fn rule_in<'s>(line: &MemberLine<'s>) -> Option<SiteRule<'s>>
     ensures { result ≡ rule_of (tag_of line.now) }
 {
     match line.line {

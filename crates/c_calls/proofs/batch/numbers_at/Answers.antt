@@ -4,13 +4,13 @@ use Rattle.std.proofs.lemmas.List.{drop_all, drop_more, Elements.All-head}
 use Rattle.c_calls.proofs.NumberLemmas.{all_so_far, count_pieces, one_more_end, only_memory}
 use Rattle.c_calls.proofs.batch.numbers_at.Goals as goal
 
-pub returns-in_err-number-clause-fault : goal.returns-in_err-number-clause-fault
-returns-in_err-number-clause-fault c =
+pub returns-in_err-number-clause-error : goal.returns-in_err-number-clause-error
+returns-in_err-number-clause-error c =
     let failed = c.from_residual-in_err-number in
     let p = err_from_is_err_and failed.result failed.ensures.1 in
     let left = drop_more c.args.ends.now c.loop-end.end-index 0 c.loop-end-test.true in
     let so = rw left at c.loop-end.invariant in
-    rw (p.1, p.2) (only_memory _ _ (All-head IsUtf8 _ _ so.utf8) c.in_err-number.ensures.fault)
+    rw (p.1, p.2) (only_memory _ _ (All-head IsUtf8 _ _ so.utf8) c.in_err-number.ensures.error)
 
 pub loop-end-preserved : goal.loop-end-preserved
 loop-end-preserved c =

@@ -8,9 +8,9 @@ returns-in-Ok-clause-ok c =
     let (is, utf8) = c.in_ok-agent.ensures.ok in
     (utf8, (search rules, _, rw (is, ← c.robot.view_is) at c.in-Ok.ensures.robot))
 
-pub returns-in_err-robot_without_sitemaps-in-Err-InvalidRule-clause-fault :
-    goal.returns-in_err-robot_without_sitemaps-in-Err-InvalidRule-clause-fault
-returns-in_err-robot_without_sitemaps-in-Err-InvalidRule-clause-fault c =
+pub returns-in_err-robot_without_sitemaps-in-Err-InvalidRule-clause-error :
+    goal.returns-in_err-robot_without_sitemaps-in-Err-InvalidRule-clause-error
+returns-in_err-robot_without_sitemaps-in-Err-InvalidRule-clause-error c =
     let (is, utf8) = c.in_ok-agent.ensures.ok in
     let rejected = c.in_err-robot_without_sitemaps-in-Err-InvalidRule in
     let returned = c.from_residual-in_err-robot_without_sitemaps-in-Err-InvalidRule in

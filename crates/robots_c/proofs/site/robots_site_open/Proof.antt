@@ -4,7 +4,7 @@ use Rattle.c_calls.proofs.Keeping.{id⊢, ℤ, ◌≢◌}
 use Rattle.c_calls.proofs.Keeping as d
 use Rattle.c_calls.specs.File.{bytes_read}
 use Rattle.c_calls.specs.Kept.{Sites}
-use Rattle.c_calls.specs.Status.{HasFault, IsWhyNoSite}
+use Rattle.c_calls.specs.Status.{HasError, IsWhyNoSite}
 use Rattle.c_calls.specs.contracts.site.opened as callee
 use Rattle.c_calls.proofs.site.opened.Met.{met}
 use Rattle.robots_c.proofs.site.robots_site_open.Statement.{statement}
@@ -21,7 +21,7 @@ robots_site_open_spec 𝓤 𝓛 𝓜 𝓡 wired =
     let W : Type 0 = m.Lasts callee.ended κs given_at in let V : Type 0 = m.Lasts self.ended z.0.0 a in
     let made : W → m.Ptr → V = λ w p. (tt, (tt, (p, tt))) in
     let rest : ℤ → m.Ptr → d.SProp 𝓤 = λ r p. d.sep 𝓤 (m.fact 𝓤 (r ≢ d.pos 0
-    → p ≡ out.now)) (m.fact 𝓤 (HasFault IsWhyNoSite r)) in
+    → p ≡ out.now)) (m.fact 𝓤 (HasError IsWhyNoSite r)) in
     let E : ℤ → V → d.SProp 𝓤 = m.ensured_by self.ended (self.clauses 𝓛 𝓜.mem 𝓡.returns) z.0.0 a z.1 in
     m.qed 𝓛 ((‵ (m.tokens 2 z.0.0 z.0.1) ⊛ ‵ (m.owns (m.types_at S.params z.0.0) a vs)) ∷ m.raw (d.emp 𝓤) ∷
     []) ∵

@@ -7,13 +7,13 @@ pub returns-then-can_be_removed : goal.returns-then-can_be_removed
 returns-then-can_be_removed c =
     let lines = file_lines c.args.site.now in
     let can = c.if-can_be_removed.ensures in
-    let found = c.in_ok-findings.findings in
-    let settled = rw c.as_slice.ensures.value at c.in_ok-findings.ensures.settled in
+    let found = c.in_ok-progress.progress in
+    let settled = rw c.as_slice.ensures.value at c.in_ok-progress.ensures.settled in
     let free = rw c.deref.ensures.value at (can.free refl) in
     are_found_in c.args.site.now found.found c.in_ok-rules.rules.items c.in_ok-rules.ensures.items
     (are_found lines found.found found.stays c.in_ok-rules.rules.items c.in_ok-rules.ensures.items
     free (λ agent has. settled agent (c.in_ok-crawlers.ensures agent has))
-    (c.in_ok-rules.ensures.reasons lines c.in_ok-findings.ensures.reasons)
+    (c.in_ok-rules.ensures.reasons lines c.in_ok-progress.ensures.reasons)
     (rw c.text.ensures at (can.keep refl)))
     (rw c.text.ensures at (can.front refl))
 

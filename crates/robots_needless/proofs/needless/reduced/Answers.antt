@@ -18,7 +18,7 @@ loop-rule-preserved-in-Goes-1 c =
       reducing = rule_gone c.loop-rule.invariant.reducing kept c.pop.new.self.items c.in-Some.rule
           (ap (λ rest. kept ++ rest) c.in-Some.ensures.items) reason new
           (rw (c.in-Goes.is, c.deref.ensures.value, c.deref-in-Some.ensures.value) at c.in_ok-reason.ensures)
-          (subst (λ (r : PlacedRule). Updates nat_cmp c.loop-rule.findings.found new r.line (Some reason))
+          (subst (λ (r : PlacedRule). Updates nat_cmp c.loop-rule.progress.found new r.line (Some reason))
           c.rule.view_is c.in_ok-insert-in-Goes.ensures.updates);
       stays = c.loop-rule.invariant.stays;
     }

@@ -4,8 +4,8 @@ use Rattle.robots_needless.proofs.needless.reduced.Given as goal
 
 abbrev pub invariant-loop-rule : goal.invariant-loop-rule
 invariant-loop-rule l = record {
-  reducing : IsReducing l.fn.rules.items (l.kept.items ++ l.rest.items) l.fn.findings.found l.findings.found;
-  stays : l.findings.stays ≡ l.fn.findings.stays;
+  reducing : IsReducing l.fn.rules.items (l.kept.items ++ l.rest.items) l.fn.progress.found l.progress.found;
+  stays : l.progress.stays ≡ l.fn.progress.stays;
 }
 
 abbrev pub decreases-loop-rule : goal.decreases-loop-rule

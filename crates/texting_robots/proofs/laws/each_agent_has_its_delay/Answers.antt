@@ -1,4 +1,4 @@
-use Rattle.texting_robots.proofs.GivenLemmas.{delay_is_computed}
+use Rattle.texting_robots.proofs.ExecutableLemmas.{delay_is_computed}
 use Rattle.texting_robots.proofs.laws.each_agent_has_its_delay.Goals as goal
 
 pub returns : goal.returns

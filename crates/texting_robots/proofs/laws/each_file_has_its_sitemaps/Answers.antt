@@ -1,4 +1,4 @@
-use Rattle.texting_robots.proofs.GivenLemmas.{sitemaps_are_computed}
+use Rattle.texting_robots.proofs.ExecutableLemmas.{sitemaps_are_computed}
 use Rattle.texting_robots.proofs.laws.each_file_has_its_sitemaps.Goals as goal
 
 pub returns : goal.returns

@@ -6,7 +6,7 @@ use Rattle.texting_robots.specs.Examples.{ferris_lines, ferris_robot}
 use Rattle.texting_robots.specs.{Pattern.collapsed}
 use Rattle.texting_robots.specs.Internal.{Cut.cut, Delay.delay_of, Line.line_of, Statement.statement_of}
 use Rattle.texting_robots.proofs.ExampleLemmas.{answers, any_overlong_decides}
-use Rattle.texting_robots.proofs.GivenLemmas.{delay_is_computed, sitemaps_are_computed}
+use Rattle.texting_robots.proofs.ExecutableLemmas.{delay_is_computed, sitemaps_are_computed}
 use Rattle.texting_robots.proofs.MainTheoremLemmas.{computed_are, rejection_is_computed}
 use Rattle.texting_robots.proofs.LineLemmas.{lines_are}
 use lib.Utf8.{encode}

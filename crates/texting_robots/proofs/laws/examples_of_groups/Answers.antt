@@ -25,7 +25,7 @@ returns c = record {
   merged_groups = (gives_rules _ groups, gives_rules _ groups, gives_rules _ groups);
   no_agents = gives_rules _ one_rule;
   values = gives_rules _ three_values;
-  raw_in_a_run = gives_delay (codes "D") rejected_delay 8000000 refl;
+  raw_in_a_group = gives_delay (codes "D") rejected_delay 8000000 refl;
   which_delay = (
     gives_delay (codes "BobBot") two_delays 5000000 refl,
     gives_delay (codes "BobBot") early_delays 2000000 refl,

@@ -1,4 +1,4 @@
-use Rattle.texting_robots.proofs.LawLemmas.{uncaptured_reaches_nothing}
+use Rattle.texting_robots.proofs.TheoremLemmas.{uncaptured_reaches_nothing}
 use Rattle.texting_robots.proofs.laws.uncaptured_reaches_nothing.Goals as goal
 
 pub returns : goal.returns

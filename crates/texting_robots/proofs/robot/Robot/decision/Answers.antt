@@ -5,5 +5,5 @@ use Rattle.texting_robots.proofs.robot.Robot.decision.Goals as goal
 pub returns-clause-verdict : goal.returns-clause-verdict
 returns-clause-verdict c =
     subst (λ (rules : List PlacedRule).
-    IsVerdict (unplaced rules) c.args.view.now.text c.decide.result.allowed)
-    (ap (λ (robot : RobotValue). robot.rules) c.self.view_is) c.decide.ensures.verdict
+    IsVerdict (unplaced rules) c.args.view.now.text c.decision.result.allowed)
+    (ap (λ (robot : RobotValue). robot.rules) c.self.view_is) c.decision.ensures.verdict

@@ -7,7 +7,7 @@ use Rattle.texting_robots.proofs.rules.Rules.cost.Goals as goal
 
 pub loop-entry-preserved : goal.loop-entry-preserved
 loop-entry-preserved c =
-    let all = c.self.inside.unsorted in
+    let all = c.self.inside.table in
     let at = c.loop-entry.entry-index in
     let n = c.args.len in
     let entry = get_or all.entries.items at no_entry in

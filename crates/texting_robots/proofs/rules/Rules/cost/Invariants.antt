@@ -4,4 +4,4 @@ use Rattle.texting_robots.proofs.FirstLemmas.{cost_upto}
 use Rattle.texting_robots.proofs.rules.Rules.cost.Given as goal
 
 abbrev pub invariant-loop-entry : goal.invariant-loop-entry
-invariant-loop-entry l = l.cost ≡ seen_of (cost_upto l.self-inside.unsorted l.len l.entry-index)
+invariant-loop-entry l = l.cost ≡ seen_of (cost_upto l.self-inside.table l.len l.entry-index)

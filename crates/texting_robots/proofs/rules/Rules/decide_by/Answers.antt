@@ -7,14 +7,14 @@ pub returns-in-Some : goal.returns-in-Some
 returns-in-Some g c = record {
   verdict = grind (arith, iff_false, c.decision_at.ensures);
   line = grind (arith, iff_false, c.decision_at.ensures);
-  looks = rw (← c.self.view_is) (first_looks c.self.inside.unsorted c.self.invariant.0.known
+  looks = rw (← c.self.view_is) (first_looks c.self.inside.table c.self.invariant.0.known
       c.self.invariant.1 _ _ c.in-Some.at c.in-Some.ensures.some c.in-Some.ensures.looks);
   cost = search rules;
 }
 
 pub returns-in-None : goal.returns-in-None
 returns-in-None g c =
-    let none = none_occurs c.self.inside.unsorted c.self.invariant.0.known _ c.in-None.ensures.none in
+    let none = none_occurs c.self.inside.table c.self.invariant.0.known _ c.in-None.ensures.none in
     record {
       verdict = rw (← c.self.view_is) (none_denies _ _ none);
       line = rw (← c.self.view_is) (inr none);

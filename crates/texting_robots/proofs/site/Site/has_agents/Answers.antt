@@ -1,6 +1,6 @@
 use Rattle.std.proofs.Common.{arith}
 use Rattle.std.proofs.lemmas.List.{length-map}
-use Rattle.texting_robots.proofs.SiteRunLemmas.{has_names}
+use Rattle.texting_robots.proofs.SiteGroupLemmas.{has_names}
 use Rattle.texting_robots.proofs.site.Site.has_agents.Goals as goal
 
 pub returns : goal.returns

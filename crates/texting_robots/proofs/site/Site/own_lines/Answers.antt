@@ -1,7 +1,7 @@
 use Rattle.std.proofs.Common.{◌≡◌, ℕ, List, map, subst}
 use Rattle.texting_robots.specs.Executable.{file_lines}
 use Rattle.texting_robots.specs.Internal.Site.{delay_of, rule_of, tag_at, tagged}
-use Rattle.texting_robots.proofs.SiteLemmas.{delays_of_runs, rules_of_runs}
+use Rattle.texting_robots.proofs.SiteLemmas.{delays_of_own, rules_of_own}
 use Rattle.texting_robots.proofs.SiteOwnLemmas.{delays_of_all, given_whole, rules_of_all}
 use Rattle.texting_robots.proofs.site.Site.own_lines.Goals as goal
 
@@ -15,7 +15,7 @@ returns c =
     (cc) kept in
     record {
       rules = given_whole rule_of _ _ _ _ _ lines named_is tagged_is c.new.ensures (rules_of_all agent lines)
-          (λ some. rw c.group_name.ensures (rules_of_runs agent lines some));
+          (λ some. rw c.group_name.ensures (rules_of_own agent lines some));
       delays = given_whole delay_of _ _ _ _ _ lines named_is tagged_is c.new.ensures
-          (delays_of_all agent lines) (λ some. rw c.group_name.ensures (delays_of_runs agent lines some));
+          (delays_of_all agent lines) (λ some. rw c.group_name.ensures (delays_of_own agent lines some));
     }

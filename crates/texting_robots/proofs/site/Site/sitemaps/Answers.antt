@@ -2,7 +2,7 @@ use Rattle.std.proofs.Common.{ap, arith, map, ◌∙◌}
 use Rattle.std.proofs.lemmas.List.{take_all}
 use Rattle.std.specs.List.{filter_map}
 use Rattle.texting_robots.specs.{Executable.file_lines, Internal.Site.listed, Rules.AreSitemapsOf}
-use Rattle.texting_robots.proofs.{GivenLemmas.sitemaps_are_computed, MainTheoremLemmas.has_lines}
+use Rattle.texting_robots.proofs.{ExecutableLemmas.sitemaps_are_computed, MainTheoremLemmas.has_lines}
 use Rattle.texting_robots.proofs.SiteOwnLemmas.{listed_more}
 use Rattle.texting_robots.proofs.site.Site.sitemaps.Goals as goal
 

@@ -3,7 +3,7 @@ use Rattle.std.proofs.lemmas.{List.length-map, Option.slice_get_past}
 use Rattle.std.specs.{Str.str_to_ascii_lowercase}
 use Rattle.texting_robots.specs.Internal.Site.{named_of, tag_at}
 use Rattle.texting_robots.proofs.SiteNameLemmas.{agent_at}
-use Rattle.texting_robots.proofs.SiteOwnLemmas.{at_end, first_kept, next_run, same_run}
+use Rattle.texting_robots.proofs.SiteOwnLemmas.{at_end, first_kept, next_group, same_group}
 use Rattle.texting_robots.proofs.site.own.next_line.Goals as goal
 
 pub loop-line-init : goal.loop-line-init
@@ -20,23 +20,24 @@ returns-in_err-named c =
     let none = slice_get_past c.args.names.now c.loop-line.name_index
     (omega (arith, past, length-map c.lines.result.now named_of, ap length c.lines.ensures)) in
     rw c.from_residual.ensures (sym c.loop-line.invariant.left
-    ∙ at_end name c.loop-line.run c.loop-line.name_index c.args.names.now tags (drop c.loop-line.at tags) none
+    ∙ at_end name c.loop-line.group c.loop-line.name_index c.args.names.now tags (drop c.loop-line.at tags)
+    none
     c.in_default.ensures)
 
 pub after-name_index-requires-clause-here : goal.after-name_index-requires-clause-here
 after-name_index-requires-clause-here c = c.loop-line.invariant.first
 
-pub loop-line-preserved-then-named-run : goal.loop-line-preserved-then-named-run
-loop-line-preserved-then-named-run c =
+pub loop-line-preserved-then-named-group : goal.loop-line-preserved-then-named-group
+loop-line-preserved-then-named-group c =
     let name = str_to_ascii_lowercase c.args.name.now in
     let tags = map (tag_at c.args.text.now) c.args.lines.now in
     let (_, is, _, (within, _), _) = c.in_ok-named.ensures.lookup in
     let at = agent_at c.lines.result.now c.args.names.now c.loop-line.name_index _ c.lines.ensures within
     is in
     record {
-      left = next_run name c.loop-line.run c.loop-line.name_index c.after-name_index.result
+      left = next_group name c.loop-line.group c.loop-line.name_index c.after-name_index.result
           c.args.names.now tags
-          (drop c.loop-line.at tags) _ at c.loop-line.invariant.first c.requires.1 c.if-named-run.true
+          (drop c.loop-line.at tags) _ at c.loop-line.invariant.first c.requires.1 c.if-named-group.true
           c.in_default.ensures c.after-name_index.ensures ∙ c.loop-line.invariant.left;
       first = first_kept name c.loop-line.name_index c.after-name_index.result c.args.names.now
           c.after-name_index.ensures;
@@ -50,9 +51,9 @@ loop-line-preserved c =
     let at = agent_at c.lines.result.now c.args.names.now c.loop-line.name_index _ c.lines.ensures within
     is in
     record {
-      left = same_run name c.loop-line.run c.loop-line.name_index c.after-name_index.result
+      left = same_group name c.loop-line.group c.loop-line.name_index c.after-name_index.result
           c.args.names.now tags
-          (drop c.loop-line.at tags) _ at c.if-named-run.false c.after-name_index.ensures
+          (drop c.loop-line.at tags) _ at c.if-named-group.false c.after-name_index.ensures
           ∙ c.loop-line.invariant.left;
       first = first_kept name c.loop-line.name_index c.after-name_index.result c.args.names.now
           c.after-name_index.ensures;

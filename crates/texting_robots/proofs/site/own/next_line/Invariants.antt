@@ -8,7 +8,7 @@ invariant-loop-line l =
     let name = str_to_ascii_lowercase l.name in
     let tags = map (tag_at l.text) l.lines in
     record {
-      left : own_from name l.run (drop l.at tags) (drop l.name_index l.names) tags
+      left : own_from name l.group (drop l.at tags) (drop l.name_index l.names) tags
           ≡ own_at name l.fn.start l.names tags;
       first : first_named name (drop l.name_index l.names) ≡ 0;
     }

@@ -6,7 +6,7 @@ use Rattle.std.proofs.Math.Seq.{drop-append_seam, take-append_seam}
 use Rattle.std.specs.List.{filter_map, last_or, list_any}
 use Rattle.texting_robots.specs.{Executable.file_lines, Group.is_agent, Line.LineValue, Line.delay_in}
 use Rattle.texting_robots.specs.Internal.{Cut.empty_lines, Cut.read_as, Line.line_of, Line.lines_of}
-use Rattle.texting_robots.specs.Internal.Site.{count_after, early_after, joins_after, line_at, run_after}
+use Rattle.texting_robots.specs.Internal.Site.{count_after, early_after, joins_after, line_at, group_after}
 use Rattle.texting_robots.proofs.EmptyLemmas.{agents_past, delay_past, named_past, sitemaps_past, tagged_past}
 use Rattle.texting_robots.proofs.{CutFromFront.bodies_nil, LineLemmas.front_read, RulesLemmas.before_agents}
 use Rattle.texting_robots.proofs.{RulesLemmas.given_more, SiteLemmas.agents_more, SiteLemmas.early_more}
@@ -17,16 +17,16 @@ loop-rest-init c =
     let empty = c.new-lines.ensures in
     let text = c.args.text.now in
     let lines = file_lines text in
-    let first = c.without_front-rest.ensures in
-    let left : lines_of (read_as true c.without_front-rest.result.now) ≡ lines =
+    let first = c.without_bom-rest.ensures in
+    let left : lines_of (read_as true c.without_bom-rest.result.now) ≡ lines =
     ap (λ t. lines_of (read_as true t)) first.value ∙ ap lines_of (front_read text) in
     let last = λ (front : List LineValue). cond (list_any is_agent lines)
     (last_or None (filter_map delay_in front)) None in
     let (front, end) = first.end in
-    rw (left, empty.lines, empty.names, empty.sitemaps, empty.early, empty.begun, empty.run, empty.joins)
+    rw (left, empty.lines, empty.names, empty.sitemaps, empty.early, empty.begun, empty.group, empty.joins)
     (record {
       end = (front, end);
-      count = omega (arith, ap length end, length-append front c.without_front-rest.result.now);
+      count = omega (arith, ap length end, length-append front c.without_bom-rest.result.now);
       lines_are = refl;
       names_are = refl;
       sitemaps_are = refl;
@@ -61,16 +61,16 @@ loop-rest-preserved c =
     let begun = c.loop-rest.lines.begun in
     let early = c.loop-rest.lines.early in
     let number = c.loop-rest.number + 1 in
-    let run = run_after c.loop-rest.lines.run c.loop-rest.lines.joins number (line_of body) in
+    let group = group_after c.loop-rest.lines.group c.loop-rest.lines.joins number (line_of body) in
     let joins = joins_after c.loop-rest.lines.joins (line_of body) in
-    let count = count_after (length c.loop-rest.lines.group_lines.items) (line_of body) in
+    let count = count_after (length c.loop-rest.lines.member_lines.items) (line_of body) in
     let empty = c.empty_lines-empty.ensures in
     let k = empty_lines true after in
     let above = front ++ (body ++ ending) in
     rw (
       c.split_at.ensures.back,
       empty.value,
-      added.run,
+      added.group,
       added.joins,
       added.count,
       added.early,
@@ -90,9 +90,9 @@ loop-rest-preserved c =
         rw empty.value at empty.within,
         length-drop k after,
       );
-      lines_are = rw (← tagged_past true number after run joins)
+      lines_are = rw (← tagged_past true number after group joins)
           (given_more _ _ _ _ added.lines ∙ rw next at so_far.lines_are);
-      names_are = rw (← named_past true number after run joins count)
+      names_are = rw (← named_past true number after group joins count)
           (given_more _ _ _ _ added.names ∙ rw next at so_far.names_are);
       sitemaps_are = rw (← sitemaps_past true number after)
           (given_more _ _ _ _ added.sitemaps ∙ rw next at so_far.sitemaps_are);

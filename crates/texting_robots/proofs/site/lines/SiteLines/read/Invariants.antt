@@ -12,15 +12,15 @@ abbrev pub invariant-loop-rest : goal.invariant-loop-rest
 invariant-loop-rest l =
     let lines = file_lines l.text in
     let left = lines_of (read_as true l.rest) in
-    let run = l.lines.run in
+    let group = l.lines.group in
     let joins = l.lines.joins in
     record {
       end : (front : List ℕ) × (l.text ≡ front ++ l.rest);
       count : l.number + length l.rest ≤ length l.text;
-      lines_are : map (tag_at l.text) l.lines.group_lines.items ++ tagged_from run joins l.number left
+      lines_are : map (tag_at l.text) l.lines.member_lines.items ++ tagged_from group joins l.number left
           ≡ tagged lines;
       names_are : map named_of l.lines.agent_lines.items
-          ++ named_from run joins l.number (length l.lines.group_lines.items) left ≡ named lines;
+          ++ named_from group joins l.number (length l.lines.member_lines.items) left ≡ named lines;
       sitemaps_are : filter_map (listed l.text) l.lines.sitemaps.items ++ sitemaps_in left
           ≡ sitemaps_in lines;
       agents : (l.lines.begun || list_any is_agent left) ≡ list_any is_agent lines;

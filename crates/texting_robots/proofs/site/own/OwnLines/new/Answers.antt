@@ -11,7 +11,7 @@ invariant_of-result c = grind (arith, first_here)
 pub returns : goal.returns
 returns c =
     whole_walk (str_to_ascii_lowercase c.args.name.now)
-    (record { name_index = c.first.result; run = 0; at = c.first_line.result }) c.args.names.now
+    (record { name_index = c.first.result; group = 0; at = c.first_line.result }) c.args.names.now
     (map (tag_at c.args.text.now) c.args.lines.now) c.first.ensures refl c.first_line.ensures.unnamed
     (λ some. omega (
       arith,

@@ -1,5 +1,0 @@
-use Rattle.audit_json.proofs.JsonLemmas.{literal_shown}
-use Rattle.audit_json.proofs.laws.no_text_becomes_a_link.Goals as goal
-
-pub returns : goal.returns
-returns c = literal_shown

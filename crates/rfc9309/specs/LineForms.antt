@@ -1,0 +1,40 @@
+-- What the lines of a file that this library reads have to look like for the file to follow the grammar of
+-- RFC 9309 (`IsFile`). All conditions but the last are about single lines, and about the bytes between them.
+use Rattle.std.specs.Prelude.{◌≡◌, ◌≢◌, ◌⊎◌, ℕ, All, Contains, List, [], ◌∷◌, ◌++◌}
+use Rattle.std.specs.List.{AllZip}
+use Rattle.texting_robots.specs.{Cut.lf, Executable.file_bodies, Line.without_bom}
+use Rattle.rfc9309.specs.Rfc9309 as rfc
+
+-- only spaces, tabs and a comment; a user-agent line; an Allow or a Disallow; a delay; a sitemap; a record
+-- with another name
+pub data Form : Type 0 where
+  Empty Agent Rule Delay Sitemap Other : Form
+
+-- the line includes its terminator
+abbrev pub IsLine : Form → List ℕ → Type 0
+IsLine Empty line = rfc.IsEmptyLine line
+IsLine Agent line = (token : List ℕ) × rfc.IsStartGroupLine token line
+IsLine Rule line = (member : rfc.Member) × (rfc.IsRule member line ⊎ rfc.IsStarRule member line)
+IsLine Delay line = (member : rfc.Member) × rfc.IsDelayLine member line
+IsLine Sitemap line = (address : List ℕ) × rfc.IsSitemapLine address line
+IsLine Other line = rfc.IsOtherLine line
+
+-- with LF after the content, it is such a line; another terminator, or none at the end of the file, makes no
+-- difference
+abbrev pub HasForm : Form → List ℕ → Type 0
+HasForm form body = IsLine form (body ++ lf ∷ [])
+
+-- each rule is below a user-agent line
+abbrev pub AreRulesBelowAgents : List Form → Type 0
+AreRulesBelowAgents forms = (above below : List Form) → forms ≡ above ++ Rule ∷ below → Contains above Agent
+
+-- The lines of the text have these forms, one for each line.
+-- - `no_nul`: this library reads NUL as a line terminator, but the grammar doesn't have it;
+-- - `bom`: what is skipped at the start of the text is a complete byte order mark, or nothing;
+-- - `each`: the content of each line has its form;
+-- - `below`: each rule is below a user-agent line.
+pub record AreForms (forms : List Form) (text : List ℕ) : Type 0 where
+  pub no_nul : All (λ byte. byte ≢ 0) text
+  pub bom : (bom : List ℕ) × rfc.IsBom bom × (text ≡ bom ++ without_bom text)
+  pub each : AllZip HasForm forms (file_bodies text)
+  pub below : AreRulesBelowAgents forms

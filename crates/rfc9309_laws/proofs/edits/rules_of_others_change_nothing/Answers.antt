@@ -1,8 +1,0 @@
-use Rattle.rfc9309_laws.proofs.EditLemmas.{rejected_same, robot_same}
-use Rattle.rfc9309_laws.proofs.edits.rules_of_others_change_nothing.Goals as goal
-
-pub returns : goal.returns
-returns c = record {
-  robot = λ agent file other robot is. robot_same agent file other is robot;
-  rejection = rejected_same;
-}

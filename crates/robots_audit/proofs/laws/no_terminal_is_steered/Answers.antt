@@ -1,8 +1,0 @@
-use Rattle.robots_audit.proofs.MessageLemmas.{answer_safe, safe_printable}
-use Rattle.robots_audit.proofs.laws.no_terminal_is_steered.Goals as goal
-
-pub returns : goal.returns
-returns c = record {
-  safe = λ by_default matches answer is. (answer_safe by_default matches answer is).report;
-  printable = safe_printable;
-}

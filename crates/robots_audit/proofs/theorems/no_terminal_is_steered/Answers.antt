@@ -1,0 +1,8 @@
+use Rattle.robots_audit.proofs.MessageLemmas.{answer_safe, safe_printable}
+use Rattle.robots_audit.proofs.theorems.no_terminal_is_steered.Goals as goal
+
+pub returns : goal.returns
+returns c = record {
+  safe = λ by_default matches answer is. (answer_safe by_default matches answer is).report;
+  printable = safe_printable;
+}

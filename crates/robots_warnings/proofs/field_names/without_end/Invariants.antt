@@ -1,9 +1,0 @@
-use Rattle.std.proofs.Common.{◌≡◌, length}
-use Rattle.robots_warnings.specs.FieldNames.{without_end}
-use Rattle.robots_warnings.proofs.field_names.without_end.Given as goal
-
-abbrev pub invariant-loop-rest : goal.invariant-loop-rest
-invariant-loop-rest l = without_end l.rest ≡ without_end l.text
-
-abbrev pub decreases-loop-rest : goal.decreases-loop-rest
-decreases-loop-rest l = length l.rest

@@ -1,0 +1,10 @@
+use Rattle.std.proofs.Common.{◌≡◌, ◌++◌, ℕ, List, rules, subst, sym}
+use Rattle.texting_robots.proofs.LineLemmas.{front_is_end}
+use Rattle.texting_robots.proofs.parser.without_bom.Goals as goal
+
+pub returns-clause-value : goal.returns-clause-value
+returns-clause-value c = search rules
+
+pub returns-clause-end : goal.returns-clause-end
+returns-clause-end c = subst (λ rest. (front : List ℕ) × (c.args.text.now ≡ front ++ rest))
+    (sym (returns-clause-value c)) (front_is_end c.args.text.now)

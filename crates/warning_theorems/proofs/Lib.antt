@@ -1,0 +1,8 @@
+-- Theorems about warnings and audits.
+pub mod PathLemmas
+pub mod ConflictLemmas
+pub mod EmptyDisallowLemmas
+pub mod RepeatedLemmas
+pub mod GroupLemmas
+pub mod TheoremLemmas
+pub mod WarningLemmas

@@ -1,0 +1,294 @@
+//! Theorems about the specification, each written as the contract of an empty function.
+ghost use Rattle.std.specs.Prelude.{◌&&◌, ◌||◌, [], All, Any, Bool, codes, Contains, false, if◌then◌else◌, ℕ};
+ghost use Rattle.std.specs.Prelude.{IfOk, IsSome, IsTrue, List, nat_eq, not, slice_get, Some, take, true};
+ghost use Rattle.std.specs.Prelude.{◌+◌, ◌↔◌, ◌∷◌, ◌≡◌, ◌≢◌, ◌≤◌, length};
+ghost use Rattle.std.specs.List.{count_by, list_any, starts_with};
+ghost use Rattle.std.specs.Str.{byte, is_utf8, IsUtf8, str_to_ascii_lowercase};
+ghost use Rattle.texting_robots.specs.{Callers.Allow, Labels.IsInOwnGroup, Verdict.robots_file};
+ghost use Rattle.texting_robots.specs.Callers.{AreLabelsOf, AreRulesFor, Disallow, escaped, HoldsRule, Label};
+ghost use Rattle.texting_robots.specs.Callers.{file_limit, file_lines, is_named, IsDecidingLine, IsDenied};
+ghost use Rattle.texting_robots.specs.Callers.{IsFileRejected, IsRobotOfFile, IsVerdict, LineValue, Matches};
+ghost use Rattle.texting_robots.specs.Callers.{Rule, PlacedRule, RobotValue, agents_in, bodies_in, delay_for};
+ghost use Rattle.texting_robots.specs.Callers.{lines_read, bodies_read, rules_for, unplaced, UserAgent};
+ghost use Rattle.robots_needless.specs.Blocks.{HaveSameRobot, IsLeftOf};
+ghost use Rattle.robots_needless.specs.Needless.{lines_without, numbers_of};
+ghost use Rattle.rfc9309.specs.Rfc9309.{Group, IsFile, IsProductToken};
+ghost use Rattle.rfc9309.specs.Matching.{all_stay, normal_uri};
+ghost use Rattle.warning_theorems.specs.{Audit.without_reach, Syntax.IsRobotStated, Verdict.IsStandardVerdict};
+ghost use Rattle.robots_warnings.specs.Conflicts.{IsConflict, IsOverruled, conflict, overruled, is_empty_at};
+ghost use Rattle.robots_warnings.specs.Conflicts.{overruled_for, IsEmptyDisallow, stated_rules};
+ghost use Rattle.robots_warnings.specs.Closed.{line_closing, opened_paths, opens_little};
+ghost use Rattle.robots_warnings.specs.Closed.{replacing, star_count};
+ghost use Rattle.robots_warnings.specs.{Contents.is_cut_to_root, Crawlers.names_past_limit};
+ghost use Rattle.robots_warnings.specs.{Positions.is_above_agents, Repeated.repeated, Targets.has_odd_target};
+ghost use Rattle.robots_warnings.specs.{Targets.written_target, Urls.is_unparsable, Urls.begins_as_url};
+ghost use Rattle.robots_warnings.specs.{Warnings.position_warnings, Warnings.warned_at, Rules.begins_oddly};
+ghost use Rattle.robots_warnings.specs.{declared.table.Cause.TheVariants.TwoDelays, Rules.has_dollar_inside};
+ghost use Rattle.audit_core.specs.Audit.{AuditValue, IsAuditOf};
+ghost use Rattle.audit_core.specs.{Target.asked_target, Request.RequestValue};
+ghost use Rattle.rfc9309.specs.Conformance.{conformance_of, has_syntax, has_verdicts};
+ghost use Rattle.warning_theorems.specs.Examples as example;
+
+use std::alloc::Global;
+use texting_robots::{Error, Robot};
+
+/// Without `--needless`, a request and a file have at most one audit; with it, one for each list of needless
+/// rules. Only what a crawler may fetch can be said or not, as it isn't always decided.
+pub fn each_file_has_one_audit()
+    ensures one { (requested : RequestValue) (file : List ℕ) (audit other : AuditValue)
+        → requested.has_needless ≡ false
+        → IsAuditOf requested file audit → IsAuditOf requested file other
+        → without_reach audit ≡ without_reach other }
+    ensures same { (requested : RequestValue) (file : List ℕ) (audit other : AuditValue)
+        → (is : IsAuditOf requested file audit) → (too : IsAuditOf requested file other)
+        → is.needless ≡ too.needless → without_reach audit ≡ without_reach other }
+{}
+
+/// Every request and file have an audit.
+pub fn each_file_has_an_audit()
+    ensures { (requested : RequestValue) (file : List ℕ) → (audit : AuditValue)
+        × IsAuditOf requested file audit }
+{}
+
+/// The lines that an audit with `--needless` warns of as needless can be deleted together: if exactly these
+/// are deleted, every verdict is the same, on any text, for each crawler.
+pub fn needless_lines_decide_nothing()
+    ensures named { (requested : RequestValue) (file : List ℕ) (audit : AuditValue)
+        → (is : IsAuditOf requested file audit)
+        → (agent name : List ℕ) → Contains (codes "*" ∷ agents_in (lines_read file)) name
+        → str_to_ascii_lowercase agent ≡ str_to_ascii_lowercase name → (text : List ℕ) (answer : Bool)
+        → IsVerdict (rules_for agent (lines_read file)) text answer
+        ↔ IsVerdict (rules_for agent (lines_without (numbers_of is.needless.rules) (lines_read file)))
+        text answer }
+    ensures others { (requested : RequestValue) (file : List ℕ) (audit : AuditValue)
+        → (is : IsAuditOf requested file audit)
+        → (agent : List ℕ) → is_named agent (lines_read file) ≡ false → (text : List ℕ) (answer : Bool)
+        → IsVerdict (rules_for agent (lines_read file)) text answer
+        ↔ IsVerdict (rules_for agent (lines_without (numbers_of is.needless.rules) (lines_read file)))
+        text answer }
+{}
+
+/// If exactly these lines are deleted from the file, with their line ends, `Robot::new` gives each crawler
+/// the same as before: every verdict, the delay, the sitemaps, and whether the file is rejected. A byte order
+/// mark that the file begins with may stay, or be deleted too.
+pub fn needless_lines_can_be_deleted()
+    ensures { (requested : RequestValue) (file left : List ℕ) (audit : AuditValue) (agent : List ℕ)
+        → (is : IsAuditOf requested file audit) → is.needless.rules ≢ []
+        → IsLeftOf (numbers_of is.needless.rules) file left
+        → IsUtf8 agent → HaveSameRobot agent (take file_limit file) (take file_limit left) }
+{}
+
+/// A report says that the file has RFC 9309 syntax exactly if it has at most 512,000 bytes, all of which
+/// follow the standard's grammar with the extensions of `rfc9309` (`syntax`). Then each crawler for
+/// which it isn't rejected gets the rules, the delay and the sitemaps that it states, where a Crawl-delay
+/// ends a list of user-agent lines (`robot`).
+pub fn syntax_is_that_of_the_standard()
+    ensures syntax { (requested : RequestValue) (file : List ℕ) (audit : AuditValue)
+        → IsAuditOf requested file audit
+        → (has_syntax audit.syntax ≡ true)
+        ↔ ((length file ≤ file_limit) × ((groups : List Group) × IsFile groups file)) }
+    ensures robot { (requested : RequestValue) (file : List ℕ) (audit : AuditValue)
+        → IsAuditOf requested file audit → has_syntax audit.syntax ≡ true → (agent : List ℕ)
+        (robot : RobotValue) → IsRobotOfFile agent (take file_limit file) robot
+        → IsRobotStated agent file robot }
+{}
+
+/// If a report says that verdicts are those of RFC 9309, the verdict of each crawler with a product token, on
+/// each path and query in normal form, is the standard's, if reserved octets stay (`verdicts`), and the file
+/// isn't rejected for it (`accepted`).
+pub fn verdicts_are_those_of_the_standard()
+    ensures verdicts { (requested : RequestValue) (file : List ℕ) (audit : AuditValue)
+        → IsAuditOf requested file audit → has_verdicts audit.syntax ≡ true → (agent : List ℕ)
+        (groups : List Group) → IsProductToken agent → IsFile groups file → (uri : List ℕ)
+        (robot : RobotValue) (answer : Bool) → normal_uri all_stay uri ≡ uri
+        → IsRobotOfFile agent (take file_limit file) robot
+        → IsVerdict (unplaced robot.rules) uri answer ↔ IsStandardVerdict groups agent uri answer }
+    ensures accepted { (requested : RequestValue) (file : List ℕ) (audit : AuditValue)
+        → IsAuditOf requested file audit → has_verdicts audit.syntax ≡ true → (agent : List ℕ)
+        (groups : List Group) → IsProductToken agent → IsFile groups file
+        → ¬ IsFileRejected agent (take file_limit file) }
+{}
+
+/// The same of this library's answer about a file, for the product token `agent`, whatever its bytes.
+pub fn allowed_by_the_standard(
+    alloc: Global,
+    agent: &str,
+    file: &[u8],
+    uri: &str,
+) -> Result<bool, Error>
+    ensures { IfOk result (λ answer. has_verdicts (conformance_of file.now) ≡ true → (groups : List Group)
+        → IsFile groups file.now → normal_uri all_stay uri.now ≡ uri.now
+        → IsStandardVerdict groups agent.now uri.now answer) }
+{
+    let robot = Robot::new(alloc, agent, file)?;
+    Ok(robot.allowed_prepared(uri))
+}
+
+/// Files with the verdicts of the standard, in which a line is in the way of that, or that aren't in the
+/// grammar.
+pub fn examples_of_syntax()
+    ensures { example.syntax }
+{}
+
+/// `allowed-and-disallowed` is given for a line exactly if it has a Disallow that applies to one of the
+/// crawlers reported on, and an Allow with the same pattern, other than an empty Disallow, applies to that
+/// crawler too, where `/` and `*` are the same. Its message names the line of such an Allow.
+pub fn allowed_and_disallowed()
+    ensures given { (is_empty : ℕ → Bool) (agents : List (List ℕ)) (lines : List LineValue) (number other : ℕ)
+        → conflict is_empty agents lines number ≡ Some other
+        → Any (λ agent. IsConflict is_empty agent lines number other) agents }
+    ensures found { (is_empty : ℕ → Bool) (agents : List (List ℕ)) (lines : List LineValue) (agent : List ℕ)
+        (number other : ℕ) → Contains agents agent → IsConflict is_empty agent lines number other
+        → IsSome (conflict is_empty agents lines number) }
+{}
+
+/// That Disallow decides no verdict for the crawler: none at all if the patterns are equal, and none on a
+/// path if they are `/` and `*`.
+pub fn allowed_and_disallowed_never_decides()
+    ensures same { (is_empty : ℕ → Bool) (agent : List ℕ) (lines : List LineValue) (rules : List PlacedRule)
+        (number other : ℕ) (text : List ℕ) → (is : IsConflict is_empty agent lines number other)
+        → is.allowed ≡ is.pattern → AreRulesFor agent lines rules
+        → ¬ IsDecidingLine rules text (Some number) }
+    ensures path { (is_empty : ℕ → Bool) (agent : List ℕ) (lines : List LineValue) (rules : List PlacedRule)
+        (number other : ℕ) (path : List ℕ) → IsConflict is_empty agent lines number other
+        → AreRulesFor agent lines rules → ¬ IsDecidingLine rules (byte "/" ∷ path) (Some number) }
+{}
+
+/// The numbers of empty Disallows, as the warnings have them, are those of the Disallows without a value.
+pub fn empty_disallows()
+    ensures { (name file : List ℕ) (labels : List Label) (number : ℕ)
+        → AreLabelsOf name (lines_read file) labels
+        → bodies_in labels ≡ bodies_read file
+        → IsTrue (is_empty_at labels number) ↔ IsEmptyDisallow (bodies_read file) number }
+{}
+
+/// `empty-disallow` is given for a line exactly if it is an empty Disallow that applies to one of the
+/// crawlers reported on, a Disallow of `/` or `*` applies to that crawler too, and each Allow of these that
+/// applies to it is an empty Disallow. Its message names the line of such a Disallow.
+pub fn empty_disallow()
+    ensures given { (is_empty : ℕ → Bool) (agents : List (List ℕ)) (lines : List LineValue) (number other : ℕ)
+        → overruled is_empty agents lines number ≡ Some other
+        → Any (λ agent. IsOverruled is_empty agent lines number other) agents }
+    ensures found { (is_empty : ℕ → Bool) (agents : List (List ℕ)) (lines : List LineValue) (agent : List ℕ)
+        (number other : ℕ) → Contains agents agent → IsOverruled is_empty agent lines number other
+        → IsSome (overruled is_empty agents lines number) }
+{}
+
+/// If no line has `empty-disallow` because of the rules of a crawler, every verdict is the same for it where
+/// an empty Disallow is no rule, as for RFC 9309 and Google.
+pub fn without_empty_disallows()
+    ensures { (is_empty : ℕ → Bool) (agent file : List ℕ) (rules : List PlacedRule)
+        → ((number : ℕ) → IsTrue (is_empty number) ↔ IsEmptyDisallow (bodies_read file) number)
+        → ((number : ℕ) → overruled_for is_empty (lines_read file) number agent ≡ None)
+        → AreRulesFor agent (lines_read file) rules → (text : List ℕ) (answer : Bool)
+        → IsVerdict (unplaced rules) text answer
+        ↔ IsVerdict (unplaced (stated_rules is_empty rules)) text answer }
+{}
+
+/// If `closes-everything` is given because of the rules of a crawler, every path is denied to it, unless it
+/// begins with `/robots.txt` or with the path of a sitemap that the file lists, or an Allow matches it that
+/// opens little.
+pub fn closes_everything()
+    ensures { (agent : List ℕ) (lines : List LineValue) (rules : List PlacedRule) (number : ℕ) (text : List ℕ)
+        → line_closing lines agent ≡ Some number → AreRulesFor agent lines rules
+        → list_any (starts_with nat_eq (byte "/" ∷ text)) (opened_paths lines) ≡ false
+        → ((pattern : List ℕ) → Contains (unplaced rules) (pattern, true) → opens_little pattern ≡ true
+        → ¬ Matches pattern (byte "/" ∷ text))
+        → IsDenied (unplaced rules) (byte "/" ∷ text) }
+{}
+
+/// A rule with `repeated-rule` decides no verdict, for any crawler. The labels may be those for another one.
+pub fn repeated_rule()
+    ensures { (everywhere : Bool) (name agent : List ℕ) (lines : List LineValue) (labels : List Label)
+        (rules : List PlacedRule) (text : List ℕ) (number : ℕ) → AreLabelsOf name lines labels
+        → Contains (repeated everywhere labels) number → AreRulesFor agent lines rules
+        → ¬ IsDecidingLine rules text (Some number) }
+{}
+
+/// If lines with `repeated-rule` are deleted, one or several or all, every verdict stays the same, for any
+/// crawler.
+pub fn repeated_rules_can_be_deleted()
+    ensures { (everywhere : Bool) (name agent : List ℕ) (lines : List LineValue) (labels : List Label)
+        (numbers text : List ℕ) (answer : Bool) → AreLabelsOf name lines labels
+        → All (Contains (repeated everywhere labels)) numbers → IsVerdict (rules_for agent lines) text answer
+        ↔ IsVerdict (rules_for agent (lines_without numbers lines)) text answer }
+{}
+
+/// A rule with the error `hash-cuts-rule` matches every path, also an empty Disallow, which is an Allow of
+/// `/`.
+pub fn hash_cuts_rule()
+    ensures { (value tail comment path : List ℕ) → is_cut_to_root value tail comment ≡ true
+        → Matches (escaped value) (byte "/" ∷ path) }
+{}
+
+/// A line with `replaces-star` is a user-agent line, and its list of user-agent lines has the name of a
+/// crawler that is reported on. No Disallow that applies to this crawler has the pattern of a Disallow that
+/// applies to `*`. The number in the message is how many Disallows `*` has.
+pub fn replaces_star()
+    ensures group { (agents : List (List ℕ)) (name : List ℕ) (lines : List LineValue) (labels : List Label)
+        (number : ℕ)
+        → AreLabelsOf name lines labels → Contains (replacing agents lines labels) number
+        → (position : ℕ) × (value agent : List ℕ) × (number ≡ position + 1)
+        × (slice_get lines position ≡ Some (UserAgent value)) × Contains agents agent
+        × IsInOwnGroup (str_to_ascii_lowercase agent) lines position
+        × ((star other : ℕ) (pattern : List ℕ) → HoldsRule (codes "*") lines star (pattern, false)
+        → ¬ HoldsRule agent lines other (pattern, false)) }
+    ensures count { (lines : List LineValue) (rules : List PlacedRule) → AreRulesFor (codes "*") lines rules
+        → star_count lines ≡ count_by (λ (placed : PlacedRule). not placed.rule.1) rules }
+{}
+
+/// If lines with `two-delays` are deleted, one or several or all, the delay of every crawler stays the same.
+pub fn two_delays()
+    ensures { (name agent : List ℕ) (lines : List LineValue) (labels : List Label) (numbers : List ℕ)
+        → AreLabelsOf name lines labels
+        → All (Contains (position_warnings labels)) (warned_at TwoDelays None numbers)
+        → delay_for agent (lines_without numbers lines) ≡ delay_for agent lines }
+{}
+
+/// A line with `group-past-size-limit` is a user-agent line whose name none of the lines within the size
+/// limit has.
+pub fn group_past_size_limit()
+    ensures { (read : List LineValue) (file : List ℕ) (number : ℕ)
+        → Contains (names_past_limit read file) number
+        → (position : ℕ) × (value : List ℕ) × (number ≡ position + 1)
+        × (slice_get (file_lines file) position ≡ Some (UserAgent value)) × (is_named value read ≡ false) }
+{}
+
+/// A line with `rule-not-utf-8` has no rule, for any crawler.
+pub fn rule_not_utf_8()
+    ensures { (value agent : List ℕ) (lines : List LineValue) (position : ℕ) (is_allow : Bool) (rule : Rule)
+        → is_utf8 value ≡ false
+        → slice_get lines position ≡ Some (if is_allow then Allow value else Disallow value)
+        → ¬ HoldsRule agent lines position rule }
+{}
+
+/// A line with `rule-before-user-agent` has no rule, for any crawler.
+pub fn rule_before_user_agent()
+    ensures { (name agent : List ℕ) (lines : List LineValue) (labels : List Label) (position : ℕ)
+        (label : Label) (rule : Rule)
+        → AreLabelsOf name lines labels → slice_get labels position ≡ Some label
+        → is_above_agents label ≡ true
+        → ¬ HoldsRule agent lines position rule }
+{}
+
+/// A rule with `dollar-not-at-end` matches no text.
+pub fn dollar_not_at_end()
+    ensures { (value text : List ℕ) → has_dollar_inside value ≡ true → ¬ Matches (escaped value) text }
+{}
+
+/// A rule with `missing-slash`, `url-as-rule`, `quoted-rule` or `regex-syntax` that starts with neither a
+/// slash nor a star matches no path.
+pub fn missing_slash()
+    ensures { (value text : List ℕ) → begins_oddly value ≡ true
+        → ¬ Matches (escaped value) (byte "/" ∷ text) }
+{}
+
+/// If there is no `url-not-normal`, the match target of a path, or of an http(s) URL that can be parsed, is
+/// in normal form, and is that of the path and the query as they are written. So
+/// `verdicts_are_those_of_the_standard` applies to it.
+pub fn url_not_normal()
+    ensures { (text : List ℕ)
+        → (starts_with nat_eq text (codes "/") || (begins_as_url text && not (is_unparsable text))) ≡ true
+        → has_odd_target text ≡ false → (normal_uri all_stay (asked_target text) ≡ asked_target text)
+        × (normal_uri all_stay (written_target text) ≡ asked_target text) }
+{}

@@ -1,8 +1,0 @@
--- Theorems about warnings and audits.
-pub mod PathLemmas
-pub mod ConflictLemmas
-pub mod EmptyDisallowLemmas
-pub mod RepeatedLemmas
-pub mod GroupLemmas
-pub mod LawLemmas
-pub mod WarningLemmas
