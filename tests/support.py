@@ -104,7 +104,7 @@ OF_GROUP = {"vendor-group"}
 FIELDS = ("User-agent", "Allow", "Disallow", "Sitemap", "Crawl-delay")
 OF_RULES = {"replaces-star"}
 OF_CLOSED = {"closes-everything", "closes-home-page"}
-OF_A_LINE = {"allowed-and-disallowed", "empty-disallow", "sitemap-denied"}
+OF_A_LINE = {"allowed-and-disallowed", "empty-disallow", "sitemap-denied", "repeated-sitemap"}
 NEEDLESS = ["never", "nothing", "allowed", "covered"]  # in the order of the messages of `needless-rule`
 WORDS = {"space", "comma", "tag", "invisible", "=", "??", "nothing"}  # each in one message of a name, or in an earlier one than in others
 
@@ -205,7 +205,7 @@ def warning_lines(warnings, file="robots.txt", agent=None):
             counts[kind] = counts.pop(kind)
     more = [f"{file}: {level}: and {count - 20} more [{name}]\n" for (level, name), count in counts.items() if count > 20]
     messages = f" in {len(joined)} message{'s' * (len(joined) > 1)}" if len(joined) < len(warnings) else ""
-    rules = f" (of rules, only {agent}'s are checked)" if agent else ""
+    rules = f" (rules for crawlers other than {agent} aren't checked)" if agent else ""
     total = [f"{file}: {counted([parts_of(warning)[2] for warning in warnings])}{messages}{rules}\n"] if warnings else []
     return "".join(shown + more + total)
 

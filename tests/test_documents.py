@@ -270,7 +270,7 @@ ANSWERS = {
     "Is a folder closed?": [
         ("Disallow: /private/\n", 0, ["1 expectation holds"]),
         ("Disallow: /private/\nAllow: /private/press\n", 1, ["* must be denied all of /private/, but line 2 allows /private/press"]),
-        (group("*", "Disallow: /private/"), 1, ["AdsBot-Google must be denied all of /private/, but its vendor doesn't apply the group * to it; a crawler that ignores * has to pass with that group and without"]),
+        (group("*", "Disallow: /private/"), 1, ["AdsBot-Google must be denied all of /private/, but its vendor doesn't apply the group * to it"]),
     ],
     "Which rules can go?": [(group("*", "Disallow: /a", "Disallow: /ab"), 0, ["robots.txt:3: note: ", "[needless-rule]"]), (SEARCH, 0, ["RFC 9309 syntax and verdicts"])],
     "Which lines are mistakes?": [(group("*", "Disalow: /a"), 3, ["robots.txt:2: warning: "]), (SEARCH, 0, [])],

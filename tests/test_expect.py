@@ -32,8 +32,6 @@ GOOGLEBOT = "but its vendor applies the group Googlebot to it"
 
 NORMALLY = "by RFC 9309, which compares normal forms,"
 
-BOTH = "; a crawler that ignores * has to pass with that group and without"
-
 NAMED = "".join(f"User-agent: {name}\n" for name in ["*", *IGNORING]).encode()
 
 # A file, an expectation about any crawler, the crawlers for which it fails, in this order, and why for the first of them. With the group
@@ -42,7 +40,7 @@ ANY = {
     "no group": (b"Disallow: /a", b"deny any /a", [], None),
     "allowed to all": (b"User-agent: *\nDisallow: /a", b"allow any /b", [], None),
     "denied to *": (b"User-agent: *\nDisallow: /a", b"allow any /a", ["*", *IGNORING], "line 2 denies it"),
-    "those that ignore *": (b"User-agent: *\nDisallow: /a", b"deny any /a", IGNORING, "its vendor doesn't apply the group * to it" + BOTH),
+    "those that ignore *": (b"User-agent: *\nDisallow: /a", b"deny any /a", IGNORING, "its vendor doesn't apply the group * to it"),
     "which are named": (NAMED + b"Disallow: /a", b"deny-all Any /a", [], None),
     "a crawler of the file": (NAMED + b"Disallow: /a\nUser-agent: Ferris\nDisallow: /b", b"deny-all any /a", ["Ferris"], "no rule matches /a"),
     "a name with a version": (b"User-agent: A/2\nDisallow: /a", b"allow ANY /a", ["A/2"], "line 2 denies it"),
@@ -108,7 +106,9 @@ def names_in(messages):
 def test_any_crawler(tmp_path, robots, text, names, why):
     """A text has a line for each of the first five crawlers for which it fails, and one with ten more names; JSON has a finding for each."""
     result, found = (check(tmp_path, b"\n" + text, *more, robots=robots) for more in ([], ["--json"]))
-    more = f" and {len(names) - 15} more" if len(names) > 15 else BOTH if IGNORING[-1] in names else ""
+    more = f" and {len(names) - 15} more" if len(names) > 15 else ""
+    if IGNORING[-1] in names:
+        more = " (those that ignore *: only if they obey it)" if text.startswith(b"allow") else " (those that ignore * may fetch all)"
     others = [f"expect.txt:2: also {', '.join(names[5:15])}{more}\n"] if len(names) > 5 else []
     lines = result.out.splitlines(keepends=True)
     told = [line.removeprefix("expect.txt:2: ") for line in lines[: min(len(names), 5)]]

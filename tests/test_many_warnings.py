@@ -18,7 +18,7 @@ def lines(*numbers, name="unrecognized-line", file="robots.txt"):
 
 
 def total(text, file="robots.txt"):
-    return f"{file}: {text} (of rules, only Ferris's are checked)\n"
+    return f"{file}: {text} (rules for crawlers other than Ferris aren't checked)\n"
 
 
 def more(level, number, name="unrecognized-line", file="robots.txt"):

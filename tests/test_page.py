@@ -174,7 +174,7 @@ SMALL = """<!DOCTYPE html><html lang="en"><head><meta charset="utf-8"/>
 <body><main><h1>robots.txt for Ferris</h1>
 <dl><dt>File</dt><dd><code dir="ltr">robots.txt</code></dd>
 <dt>Date</dt><dd>27 &amp; 28 November</dd>
-<dt>Findings</dt><dd><b class="error">1 error</b> (of rules, only Ferris's are checked)<ul><li class="error"><a href="#L2">line 2</a>: {warning}</li></ul></dd>
+<dt>Findings</dt><dd><b class="error">1 error</b> (rules for crawlers other than Ferris aren't checked)<ul><li class="error"><a href="#L2">line 2</a>: {warning}</li></ul></dd>
 <dt>Group</dt><dd>* (Ferris has no group of its own), <a href="#L1">line 1</a></dd>
 <dt>Rules</dt><dd>1</dd><dt>Crawl delay</dt><dd>none</dd><dt>May fetch</dt><dd class="everything">everything</dd>
 <dt>Sitemaps</dt><dd><ul></ul></dd><dt>Syntax</dt><dd>not RFC 9309 syntax, first at line 2</dd></dl>

@@ -99,25 +99,20 @@ fn write_judgment(
     }
 }
 
-/// Of an expectation about a crawler whose vendor applies no group to it.
-const BOTH: &str = "; a crawler that ignores * has to pass with that group and without";
-
 /// Why an expectation fails: at the vendor, or else here.
 fn write_reason(out: &mut Line, target: &str, checked: &Checked<'_>) -> fmt::Result {
     let (agent, allowed) = (checked.expectation.agent, checked.expectation.allowed);
     match &checked.vendor {
         AtVendor::Group(name, judgment) if fails_at(allowed, judgment) => {
             write!(out, "its vendor applies the group {name} to it, and ")?;
-            write_judgment(out, name, target, allowed, judgment)?;
+            write_judgment(out, name, target, allowed, judgment)
         }
-        AtVendor::Nobody if !allowed => {
-            out.write_str("its vendor doesn't apply the group * to it")?;
+        AtVendor::Nobody if !allowed => out.write_str("its vendor doesn't apply the group * to it"),
+        AtVendor::Nobody => {
+            out.write_str("if it obeys *, ")?;
+            write_judgment(out, agent, target, allowed, &checked.judgment)
         }
-        _ => write_judgment(out, agent, target, allowed, &checked.judgment)?,
-    }
-    match checked.vendor {
-        AtVendor::Nobody => out.write_str(BOTH),
-        _ => Ok(()),
+        _ => write_judgment(out, agent, target, allowed, &checked.judgment),
     }
 }
 
@@ -152,8 +147,8 @@ struct Failing<'a> {
     name: &'a str,
     line: usize,
     number: usize,
-    /// Whether a crawler that is only named ignores the group of `*`.
-    has_ignoring: bool,
+    /// What is said of those that are only named, and ignore the group of `*`.
+    end: &'static str,
 }
 
 /// Ends the line that only names crawlers, if there is one.
@@ -166,16 +161,20 @@ fn end_names(report: &mut Failing<'_>) -> fmt::Result {
         let others = number - (MOST + NAMED);
         write!(out, " and {others} more")?;
     }
-    if report.has_ignoring {
-        out.write_str(BOTH)?;
-    }
+    out.write_str(report.end)?;
     out.end_line()
 }
 
 /// Writes the crawler of a failure after so many of its line.
 fn write_agent(report: &mut Failing<'_>, checked: &Checked<'_>, number: usize) -> fmt::Result {
     let (name, line, agent) = (report.name, report.line, checked.expectation.agent);
-    report.has_ignoring |= matches!(checked.vendor, AtVendor::Nobody);
+    if matches!(checked.vendor, AtVendor::Nobody) {
+        report.end = if checked.expectation.allowed {
+            " (those that ignore *: only if they obey it)"
+        } else {
+            " (those that ignore * may fetch all)"
+        };
+    }
     if number == MOST {
         write!(report.out, "{name}:{line}: also {agent}")
     } else if number < MOST + NAMED {
@@ -191,7 +190,7 @@ fn write_failure(report: &mut Failing<'_>, checked: &Checked<'_>, message: &str)
         end_names(report)?;
         report.line = line;
         report.number = 0;
-        report.has_ignoring = false;
+        report.end = "";
     }
     let number = report.number;
     report.number = number.saturating_add(1);
@@ -300,7 +299,7 @@ fn report_on<'a>(
         name,
         line: 0,
         number: 0,
-        has_ignoring: false,
+        end: "",
     })
 }
 

@@ -24,7 +24,7 @@ static CONDITIONS: [(&str, &str); 67] = [
     ("nul-ends-line",
         "the first 512,000 bytes have a NUL byte, and the file doesn't look like UTF-16"),
     ("closes-everything",
-        "a Disallow matches every path, and no Allow at least as long opens more than /$, /robots.txt, sitemaps, static files, or what begins with /.well-known or /sitemap; not if the vendor applies another group, or the name gives misspelled-name. A warning for large search engines, and for * and unnamed crawlers if no group lets one in; else a note"),
+        "a Disallow matches every path, and no Allow at least as long opens more than /$, /robots.txt, sitemaps, static files, or what begins with /.well-known or /sitemap; not if the vendor applies another group, or the name gives misspelled-name. A warning for large search engines, and for * and crawlers without a group if no group lets a large search engine in; else a note"),
     ("closes-home-page",
         "a Disallow of *, of a crawler without a group of its own or of a large search engine matches the path /, each Allow that matches it is shorter, and closes-everything isn't given for the crawler; lines count as there; it is a note if none of the crawlers is a large search engine, and a group of its own leaves the site open to one"),
     ("url-not-normal",

@@ -142,7 +142,10 @@ pub fn write_warnings(
         write!(out, " in {messages} message{end}")?;
     }
     if let Some(agent) = request.agent {
-        write!(out, " (of rules, only {agent}'s are checked)")?;
+        write!(
+            out,
+            " (rules for crawlers other than {agent} aren't checked)"
+        )?;
     }
     out.end_line()
 }

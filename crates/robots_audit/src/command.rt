@@ -28,8 +28,9 @@ line 2 denies /a, and \"allow - /b\" that no line decides about /b, so it is all
 lines of the file come first: + before one of the crawler's group, - before one of another.
 
 In a line of --expect, AGENT is a crawler's name, \"any\" (every crawler) or * (those without a group of
-their own). PATTERN means all paths that begin with it, or, with a $ at its end, all that end there; a *
-in it is any text. A crawler that ignores *, as AdsBot-Google does, has to pass with that group and without.
+their own). PATTERN means all paths that begin with it, or, with a $ at its end, all that end there, except
+/robots.txt; a * in it is any text. A crawler that ignores *, as AdsBot-Google does, has to pass with that
+group and without.
 
 With --expect, give only FILE; with --compare only FILE, URLs, --urls, --agent, --known and --verdicts; with
 either also --json, --github or --format; with --list-warnings or --explain nothing else. With --denied, give
@@ -39,7 +40,7 @@ Exit status, the first that applies; without --strict, warnings change nothing, 
   2  if the program couldn't do its work, or the file is rejected for a crawler
   3  if a warning at the level of --strict is reported: mend the file before you trust verdicts
   1  if a URL is denied, an expectation fails or something differs
-  0  otherwise
+  0  otherwise, also for an HTML page or an empty file, except with --strict=error or --strict
 
 Examples:
   robots_audit robots.txt

@@ -135,7 +135,7 @@ pub(crate) static MESSAGES: [(Cause, &str); 95] = [
     (Cause::HashCutsSitemap,
         "a # begins a comment, so the rest of the line isn't part of the sitemap's URL; delete it, or write a space before the #"),
     (Cause::SitemapDenied,
-        "a rule for * denies this sitemap, if it is on the host of this file, so crawlers may not read it; allow it by a longer Allow, or correct the rule"),
+        "a rule for * denies this sitemap, if it is on the host of this file, so crawlers aren't allowed to fetch it; allow it by a longer Allow, or correct the rule"),
     (Cause::RepeatedSitemap,
         "a line above lists the same sitemap, so this one changes nothing; delete it, or correct it if another sitemap is meant"),
     (Cause::OneLine,

@@ -108,7 +108,10 @@ pub(crate) fn write_warning_entry(
     page.html.open("dd", &[])?;
     write_counts(page, warnings)?;
     if let Some(agent) = agent {
-        write!(page.html, " (of rules, only {agent}'s are checked)")?;
+        write!(
+            page.html,
+            " (rules for crawlers other than {agent} aren't checked)"
+        )?;
     }
     page.html.open("ul", &[])?;
     write_items(alloc, page, rows, &all, first(&found, LISTED_WARNINGS))?;
