@@ -314,10 +314,11 @@ def test_example_triggers_its_warning(number, name, args, file, tmp_path):
 
 
 def test_warnings_are_those_of_the_table():
-    source = CRATES / "robots_warnings/src"
-    rows = re.findall(r'\(Cause::(\w+), Level::(\w+), "([a-z0-9-]+)"\)', (source / "table.rt").read_text())
-    messages = dict(re.findall(r'\(Cause::(\w+),\n +"((?:[^"\\]|\\.)*)"\)', (source / "texts.rt").read_text()))
-    stated = [(name, level.lower(), messages[cause].replace('\\"', '"').replace("\\\\", "\\")) for cause, level, name in rows]
+    rows = (CRATES / "robots_warnings/src/rows.rt").read_text()
+    rows = re.findall(r'^ +(\w+) (\w+) "([a-z0-9-]+)"\n +"((?:[^"\\]|\\.)*)"', rows, re.M)
+    cases = (CRATES / "robots_warnings/src/table.rt").read_text().split("pub enum Cause {")[1].split("\n}")[0]
+    assert [row[0] for row in rows] == re.findall(r"^    (\w+),$", cases, re.M)
+    stated = [(name, level.lower(), text.replace('\\"', '"').replace("\\\\", "\\")) for _, level, name, text in rows]
     assert stated == [(row["name"], row["level"], row["text"]) for row in ALL_WARNINGS]
 
 

@@ -4,11 +4,12 @@ ghost use Rattle.robots_warnings.specs.Table.{is_name};
 ghost use Rattle.audit_core.specs.Answer.{IsText};
 ghost use Rattle.audit_text.specs.Explain.{IsUnexplained};
 
-use crate::conditions::{Named, conditions, corrections, theorems};
+use crate::proved::{Named, theorems};
 use audit_core::answer::{Answer, text_answer};
 use audit_core::error::{Error, unknown};
 use printable_text::report::Report;
 use robots_warnings::table::{Cause, causes, is_name};
+use robots_warnings::texts::{conditions, corrections};
 use std::alloc::Global;
 use std::fmt;
 use std::fmt::Write;
@@ -39,7 +40,7 @@ fn write_explained(out: &mut Report, cause: Cause) -> fmt::Result {
     write_heading(out, cause)?;
     write_example(out, "for example:", cause.example())?;
     for (own, example) in corrections() {
-        if *own as usize == cause as usize {
+        if *own as usize == cause as usize && !example.is_empty() {
             write_example(out, "instead:", example)?;
         }
     }
@@ -48,7 +49,7 @@ fn write_explained(out: &mut Report, cause: Cause) -> fmt::Result {
 
 fn write_texts(out: &mut Report, label: &str, name: &str, rows: &[Named]) -> fmt::Result {
     for (of, text) in rows {
-        if *of == name {
+        if *of == name && !text.is_empty() {
             write!(out, "{label}: {text}")?;
             out.end_line()?;
         }

@@ -2,12 +2,12 @@
 //! the explanation of one; what `--denied` leaves out of a report.
 #![tactic(auto)]
 
-mod conditions;
 mod crawlers;
 pub mod denied;
 pub mod explain;
 pub mod github;
 mod listed;
+mod proved;
 pub mod report;
 pub mod theorems;
 mod verdicts;

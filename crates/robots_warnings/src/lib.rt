@@ -19,6 +19,7 @@ pub mod positions;
 pub mod read;
 mod repeated;
 mod replaced;
+mod rows;
 pub mod rules;
 pub mod several_values;
 pub mod site_patterns;

@@ -1,4 +1,4 @@
-//! Every warning: its level, its name, which is shown in `[..]` and is the `name` in JSON, and its
+//! The warnings: the level of each, its name, which is shown in `[..]` and is the `name` in JSON, and its
 //! message. The conditions are in `checks` and, of warnings that compare lines or look at all of a crawler's
 //! rules, in the functions that `warnings` calls. Only `robots_audit` gives those about sitemaps that are
 //! denied, and about rules that can be deleted, which `robots_needless` finds.
@@ -9,11 +9,12 @@ ghost use Rattle.robots_warnings.specs.Table.{all_causes, all_levels, all_names}
 ghost use Rattle.robots_warnings.specs.Table.{example_of, is_name, level_of, name_of, text_of};
 ghost use Rattle.robots_warnings.specs.declared.table.TheConstants.{WARNINGS};
 
+use crate::rows::{COUNT, every_row};
 use crate::texts::{EXAMPLES, MESSAGES};
 use printable_text::level::Level;
 use std::alloc::{AllocError, Global};
 
-/// The reason for a warning. Each has a row in [`WARNINGS`].
+/// The reason for a warning. Each has a row in `every_row`.
 #[derive(Clone, Copy, PartialEq, Eq)]
 #[rattlefmt::skip]
 pub enum Cause {
@@ -127,105 +128,14 @@ pub enum Cause {
     NeedlessUndecided,
 }
 
+macro_rules! names {
+    ($($cause:ident $level:ident $name:literal $($text:literal)*,)*) => {
+        [$((Cause::$cause, Level::$level, $name)),*]
+    };
+}
+
 /// The warnings with their levels and names.
-#[rattlefmt::skip]
-pub static WARNINGS: [(Cause, Level, &str); 95] = [
-    (Cause::LooksLikeHtml, Level::Error, "looks-like-html"),
-    (Cause::LooksLikeUtf16, Level::Error, "looks-like-utf-16"),
-    (Cause::NoDirectives, Level::Error, "no-directives"),
-    (Cause::EmptyFile, Level::Warning, "empty-file"),
-    (Cause::OnlyComments, Level::Note, "empty-file"),
-    (Cause::FileTooLarge, Level::Warning, "file-too-large"),
-    (Cause::NoUserAgent, Level::Warning, "no-user-agent"),
-    (Cause::DamagedByteOrderMark, Level::Warning, "damaged-byte-order-mark"),
-    (Cause::NulEndsLine, Level::Warning, "nul-ends-line"),
-    (Cause::UrlNotNormal, Level::Note, "url-not-normal"),
-    (Cause::InvalidDelay, Level::Warning, "invalid-delay"),
-    (Cause::NoindexLine, Level::Warning, "noindex-line"),
-    (Cause::NofollowLine, Level::Warning, "nofollow-line"),
-    (Cause::HostName, Level::Note, "host-line"),
-    (Cause::HostLine, Level::Warning, "host-line"),
-    (Cause::RequestRateLine, Level::Warning, "request-rate-line"),
-    (Cause::VisitTimeLine, Level::Warning, "visit-time-line"),
-    (Cause::CleanParamLine, Level::Note, "clean-param-line"),
-    (Cause::ContentSignalLine, Level::Note, "content-signal-line"),
-    (Cause::ContentUsageLine, Level::Note, "content-usage-line"),
-    (Cause::RobotVersionLine, Level::Warning, "robot-version-line"),
-    (Cause::CommentLine, Level::Warning, "comment-line"),
-    (Cause::LikeUserAgent, Level::Error, "unrecognized-line"),
-    (Cause::LikeAllow, Level::Warning, "unrecognized-line"),
-    (Cause::LikeDisallow, Level::Warning, "unrecognized-line"),
-    (Cause::LikeSitemap, Level::Warning, "unrecognized-line"),
-    (Cause::LikeCrawlDelay, Level::Warning, "unrecognized-line"),
-    (Cause::UnseenInName, Level::Warning, "unrecognized-line"),
-    (Cause::EqualsSign, Level::Warning, "unrecognized-line"),
-    (Cause::UnrecognizedLine, Level::Warning, "unrecognized-line"),
-    (Cause::NonstandardField, Level::Warning, "nonstandard-field"),
-    (Cause::MissingColon, Level::Warning, "missing-colon"),
-    (Cause::SpaceAroundValue, Level::Warning, "space-around-value"),
-    (Cause::InvalidProductToken, Level::Warning, "invalid-product-token"),
-    (Cause::UnusualProductToken, Level::Note, "unusual-product-token"),
-    (Cause::HashLeavesRoot, Level::Error, "hash-cuts-rule"),
-    (Cause::HashEmptiesRule, Level::Warning, "hash-cuts-rule"),
-    (Cause::HashCutsRule, Level::Warning, "hash-cuts-rule"),
-    (Cause::RuleNotUtf8, Level::Warning, "rule-not-utf-8"),
-    (Cause::EqualsInRule, Level::Error, "missing-slash"),
-    (Cause::MissingSlash, Level::Error, "missing-slash"),
-    (Cause::UrlInPath, Level::Warning, "url-as-rule"),
-    (Cause::UrlAsRule, Level::Error, "url-as-rule"),
-    (Cause::OddCharacter, Level::Note, "unencoded-character"),
-    (Cause::UnencodedCharacter, Level::Warning, "unencoded-character"),
-    (Cause::QuoteAtEnd, Level::Warning, "quoted-rule"),
-    (Cause::QuotedRule, Level::Error, "quoted-rule"),
-    (Cause::RegexWithoutSlash, Level::Error, "regex-syntax"),
-    (Cause::QuestionMarks, Level::Warning, "regex-syntax"),
-    (Cause::RegexSyntax, Level::Warning, "regex-syntax"),
-    (Cause::StarAfterDollar, Level::Warning, "dollar-not-at-end"),
-    (Cause::DollarNotAtEnd, Level::Warning, "dollar-not-at-end"),
-    (Cause::NonstandardEscape, Level::Warning, "nonstandard-escape"),
-    (Cause::EscapedWildcard, Level::Warning, "escaped-wildcard"),
-    (Cause::EscapedDelimiter, Level::Note, "escaped-delimiter"),
-    (Cause::DotSegment, Level::Error, "dot-segment"),
-    (Cause::SpaceInValue, Level::Warning, "several-values"),
-    (Cause::CommaInValue, Level::Warning, "several-values"),
-    (Cause::TagInValue, Level::Warning, "several-values"),
-    (Cause::UnseenInValue, Level::Warning, "several-values"),
-    (Cause::DelayNotation, Level::Warning, "delay-notation"),
-    (Cause::DelayOverADay, Level::Warning, "delay-over-a-day"),
-    (Cause::SitemapNotAbsolute, Level::Warning, "sitemap-not-absolute"),
-    (Cause::SitemapHost, Level::Warning, "sitemap-host"),
-    (Cause::HashCutsSitemap, Level::Note, "sitemap-fragment"),
-    (Cause::SitemapDenied, Level::Note, "sitemap-denied"),
-    (Cause::RepeatedSitemap, Level::Note, "repeated-sitemap"),
-    (Cause::OneLine, Level::Error, "one-line"),
-    (Cause::ControlInComment, Level::Note, "control-in-comment"),
-    (Cause::CutLine, Level::Warning, "cut-line"),
-    (Cause::RuleBeforeUserAgent, Level::Error, "rule-before-user-agent"),
-    (Cause::EmptyGroup, Level::Warning, "empty-group"),
-    (Cause::DelayAboveStar, Level::Note, "delay-splits-group"),
-    (Cause::DelaySplitsGroup, Level::Warning, "delay-splits-group"),
-    (Cause::JoinedGroups, Level::Warning, "joined-groups"),
-    (Cause::GroupPastSizeLimit, Level::Warning, "group-past-size-limit"),
-    (Cause::AllowedAndDisallowed, Level::Warning, "allowed-and-disallowed"),
-    (Cause::EmptyDisallow, Level::Warning, "empty-disallow"),
-    (Cause::TwoDelays, Level::Warning, "two-delays"),
-    (Cause::IgnoredDelay, Level::Note, "ignored-delay"),
-    (Cause::ClosesSite, Level::Warning, "closes-everything"),
-    (Cause::ClosesEverything, Level::Note, "closes-everything"),
-    (Cause::ClosesHome, Level::Warning, "closes-home-page"),
-    (Cause::ClosesHomeToOthers, Level::Note, "closes-home-page"),
-    (Cause::ReplacesStar, Level::Note, "replaces-star"),
-    (Cause::RepeatedRule, Level::Note, "repeated-rule"),
-    (Cause::WrongName, Level::Warning, "misspelled-name"),
-    (Cause::MisspelledName, Level::Note, "misspelled-name"),
-    (Cause::VendorGroup, Level::Note, "vendor-group"),
-    (Cause::IgnoresStar, Level::Note, "ignores-star"),
-    (Cause::NeverDecides, Level::Note, "needless-rule"),
-    (Cause::MatchesNothing, Level::Note, "needless-rule"),
-    (Cause::AllowedAnyway, Level::Note, "needless-rule"),
-    (Cause::NotNeeded, Level::Note, "needless-rule"),
-    (Cause::NeedlessUndecided, Level::Note, "needless-undecided"),
-];
+pub static WARNINGS: [(Cause, Level, &str); COUNT] = every_row!(names);
 
 type Row = (Cause, Level, &'static str);
 
