@@ -171,7 +171,7 @@ named_bucket name names position n at first =
     grind (arith, bytes_eq-Decides, drop_is, eq-eqb, first_now, here)
 
 no_name : Named
-no_name = grind arith
+no_name = record { name = []; group = 0; start = 0 }
 
 pub some_at : (names : List Named) (position : ℕ) → position < length names
     → (n : Named) × (slice_get names position ≡ Some n)
