@@ -19,7 +19,7 @@ use Rattle.robots_needless.specs.{Blocks.AreFoundIn, Needless.NeedlessValue, Nee
 use Rattle.robots_warnings.specs.{declared.table.Cause.TheVariants.SitemapDenied, Crawlers.crawlers}
 use Rattle.robots_warnings.specs.Crawlers.{Row, ignores_star, other_group}
 use Rattle.audit_core.specs.{Reach.IsReach, declared.reach.Reach.Reach, declared.reach.Reach.TheVariants.Part}
-use Rattle.robots_warnings.specs.{declared.warning.Detail.TheVariants.Line, Closed.line_closing}
+use Rattle.robots_warnings.specs.{declared.warning.Detail.TheVariants.Line, Closed.line_closing_site}
 use Rattle.robots_warnings.specs.{Facts.facts_of, Facts.is_too_large, File.labels_for}
 use Rattle.robots_warnings.specs.{Urls.is_absolute_url, Warnings.warnings, Message.WarningValue}
 
@@ -120,7 +120,7 @@ all_sitemaps labels = flat_map (λ label. sitemap_at label.number label.line) la
 -- all such sitemaps, or none if the whole site is closed to `*`
 abbrev pub sitemaps_asked : List LineValue → List Label → List (ℕ × List ℕ)
 sitemaps_asked lines labels =
-    if is_some (line_closing lines (codes "*")) then [] else all_sitemaps labels
+    if is_some (line_closing_site lines (codes "*")) then [] else all_sitemaps labels
 
 -- if this verdict denies the sitemap in this line, a warning, with the line of the rule that does
 abbrev pub sitemap_warning : ℕ × VerdictValue → List WarningValue

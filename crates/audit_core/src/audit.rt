@@ -298,8 +298,8 @@ fn all_warnings<'a>(
         ++ needless_warnings needless.now) ++ sitemaps)) }
     ensures error { IfErr result (λ error. error ≡ Error.Memory) }
 {
-    let everywhere = request.agent.is_none();
-    let mut found = warnings(alloc, everywhere, agents, &request.urls, read)?;
+    let all_groups = request.agent.is_none();
+    let mut found = warnings(alloc, all_groups, agents, &request.urls, read)?;
     add_needless(&mut found, needless)?;
     warn_of_sitemaps(alloc, &mut found, star, read)?;
     Ok(found)

@@ -63,29 +63,29 @@ plain_is_paired spelling group (Disallow value) is = rw is refl
 plain_is_paired spelling group line is = refl
 
 -- without escapes that call for the spelling there is no such rule
-pub none_unpaired : (spelling : Spelling) (everywhere : Bool) (group : List LineValue)
+pub none_unpaired : (spelling : Spelling) (all_groups : Bool) (group : List LineValue)
     (labels : List LabeledLine)
     → list_any (λ labeled. has_other_line spelling (label_by_value labeled)) labels ≡ false
-    → filter (is_unpaired_at spelling everywhere group) (map label_by_value labels) ≡ []
-none_unpaired spelling everywhere group [] none = refl
-none_unpaired spelling everywhere group (labeled ∷ labels) none =
+    → filter (is_unpaired_at spelling all_groups group) (map label_by_value labels) ≡ []
+none_unpaired spelling all_groups group [] none = refl
+none_unpaired spelling all_groups group (labeled ∷ labels) none =
     let (here, later) = or_parts _ _ none in
     rw (and_false _ _ (plain_is_paired spelling group (by_value labeled.line) here))
-    (none_unpaired spelling everywhere group labels later)
+    (none_unpaired spelling all_groups group labels later)
 
-pub unpaired_from : (spelling : Spelling) (everywhere : Bool) (lines : List LineValue)
+pub unpaired_from : (spelling : Spelling) (all_groups : Bool) (lines : List LineValue)
     (group : List LabeledLine) (at : ℕ) (labeled : LabeledLine) → at < length group
-    → map (λ (label : Label). label.number) (filter (is_unpaired_at spelling everywhere lines)
+    → map (λ (label : Label). label.number) (filter (is_unpaired_at spelling all_groups lines)
     (map label_by_value (drop at group)))
-    ≡ (if is_unpaired_at spelling everywhere lines (label_by_value (slice_index_or group at labeled))
+    ≡ (if is_unpaired_at spelling all_groups lines (label_by_value (slice_index_or group at labeled))
     then (slice_index_or group at labeled).number ∷ [] else [])
-    ++ map (λ (label : Label). label.number) (filter (is_unpaired_at spelling everywhere lines)
+    ++ map (λ (label : Label). label.number) (filter (is_unpaired_at spelling all_groups lines)
     (map label_by_value (drop (at + 1) group)))
-unpaired_from spelling everywhere lines group at labeled below =
+unpaired_from spelling all_groups lines group at labeled below =
     let item = label_by_value (slice_index_or group at labeled) in
     rw (drop_more group at labeled below)
-    (picked (λ (label : Label). label.number) (is_unpaired_at spelling everywhere lines item) item
-    (filter (is_unpaired_at spelling everywhere lines) (map label_by_value (drop (at + 1) group))))
+    (picked (λ (label : Label). label.number) (is_unpaired_at spelling all_groups lines item) item
+    (filter (is_unpaired_at spelling all_groups lines) (map label_by_value (drop (at + 1) group))))
 
 onto_first_mapped : {A B : Type 0} (f : A → B) (x : A) (parts : List (List A))
     → map (map f) (onto_first x parts) ≡ onto_first (f x) (map (map f) parts)
@@ -129,22 +129,22 @@ value_inserted old new key is_new added updates = record {
 }
 
 -- loop step: one more line was added, and its number was taken if it repeats a rule
-pub found_next : (everywhere : Bool) {seen new_seen : Seen} {found new : List ℕ} (labels : List LabeledLine)
+pub found_next : (all_groups : Bool) {seen new_seen : Seen} {found new : List ℕ} (labels : List LabeledLine)
     (at : ℕ) (labeled : LabeledLine) {all : List Label} {is : Bool} → at < length labels
-    → sets.IsFoundUpto everywhere seen found (map label_by_value (drop at labels)) all
+    → sets.IsFoundUpto all_groups seen found (map label_by_value (drop at labels)) all
     → sets.AddsLine seen new_seen (by_value (slice_index_or labels at labeled).line) is
-    → new ≡ found ++ (if is_checked everywhere (slice_index_or labels at labeled).membership && is
+    → new ≡ found ++ (if is_checked all_groups (slice_index_or labels at labeled).membership && is
     then (slice_index_or labels at labeled).number ∷ [] else [])
-    → sets.IsFoundUpto everywhere new_seen new (map label_by_value (drop (at + 1) labels)) all
-found_next everywhere {seen} {new_seen} {found} {new} labels at labeled {all} {is} below before adds added =
+    → sets.IsFoundUpto all_groups new_seen new (map label_by_value (drop (at + 1) labels)) all
+found_next all_groups {seen} {new_seen} {found} {new} labels at labeled {all} {is} below before adds added =
     let label : Label = label_by_value (slice_index_or labels at labeled) in
     let left : List Label = map label_by_value (drop (at + 1) labels) in
-    let upto : sets.IsFoundUpto everywhere seen found (label ∷ left) all =
+    let upto : sets.IsFoundUpto all_groups seen found (label ∷ left) all =
     rw (drop_more labels at labeled below) at before in
     let above = upto.above in
-    let rest = repeated_from everywhere (above_next above label.line) left in
+    let rest = repeated_from all_groups (above_next above label.line) left in
     let one : Bool → List ℕ = λ is.
-    if is_checked everywhere label.membership && is then label.number ∷ [] else [] in
+    if is_checked all_groups label.membership && is then label.number ∷ [] else [] in
     record {
       above = above_next above label.line;
       has = adds.has above upto.has;

@@ -26,7 +26,7 @@ abbrev pub is_anything : List ℕ → Bool
 is_anything [] = false
 is_anything (b ∷ pattern) = b == byte "*" && list_all is_star_or_dollar pattern
 
--- `/`, or such a pattern after `/`
+-- `/`, alone or before a pattern that is anything
 abbrev pub is_root : List ℕ → Bool
 is_root [] = false
 is_root (b ∷ pattern) = b == byte "/" && (length pattern == 0 || is_anything pattern)
@@ -35,7 +35,7 @@ abbrev pub without_stars : List ℕ → List ℕ
 without_stars [] = []
 without_stars (b ∷ pattern) = if b == byte "*" then without_stars pattern else b ∷ pattern
 
--- such a pattern, possibly after stars: it matches every text that starts with a slash
+-- anything, or a root possibly after stars: it matches every text that starts with a slash
 abbrev pub is_whole_site : List ℕ → Bool
 is_whole_site pattern = is_anything pattern || is_root (without_stars pattern)
 
@@ -44,7 +44,7 @@ abbrev pub is_home_root : List ℕ → Bool
 is_home_root [] = false
 is_home_root (b ∷ pattern) = b == byte "/" && list_all is_star_or_dollar pattern
 
--- it matches the path `/`, as `/$` does, and each pattern of the whole site
+-- it matches the path `/`: `/$` does, and so does every pattern of the whole site
 abbrev pub is_home : List ℕ → Bool
 is_home pattern = is_anything pattern || is_home_root (without_stars pattern)
 
@@ -60,7 +60,7 @@ is_closing part placed = not placed.rule.1 && is_for part placed.rule.0
 abbrev pub is_file_end : ℕ → Bool
 is_file_end b = is_star_or_dollar b || b == byte "?"
 
--- such an end of a file's name, and then only stars, `$` and `?`
+-- the text begins with this end of a file's name, and then has only stars, `$` and `?`
 abbrev pub is_name_end : List ℕ → List ℕ → Bool
 is_name_end text end = starts_with nat_eq text end && list_all is_file_end (drop (length end) text)
 
@@ -73,7 +73,7 @@ opens_little pattern =
     (somewhere begins_name_end pattern || bytes_eq pattern (codes "/$"))
     || list_any (λ start. starts_with nat_eq pattern start.now) WELL_KNOWN
 
--- it has no slash or star at its start, or a `$` that isn't at its end
+-- it has no slash or star at its start, or has a byte other than a star or `$` after a `$`
 abbrev pub matches_no_path : List ℕ → Bool
 matches_no_path pattern = begins_oddly pattern || has_dollar_inside pattern
 
@@ -88,17 +88,17 @@ abbrev pub closes : Part → (is_exempt : List ℕ → Bool) → List PlacedRule
 closes part is_exempt rules placed =
     is_closing part placed && not (list_any (is_rival is_exempt placed.rule.0) rules)
 
--- the patterns of Allows that leave this part closed, if those are exempt that open what crawlers may fetch
--- of a closed site
+-- an Allow with this pattern leaves this part closed. `is_exempt` holds for patterns that only open what
+-- crawlers may also fetch of a closed site, such as sitemaps
 abbrev pub leaves_closed : Part → (is_exempt : List ℕ → Bool) → List ℕ → Bool
 leaves_closed Site is_exempt pattern = is_exempt pattern || opens_little pattern
 leaves_closed Home is_exempt pattern = not (is_home pattern)
 
 -- the line of the first of these rules that closes this part
-abbrev pub closing_line : Part → (is_exempt : List ℕ → Bool) → List PlacedRule → Option ℕ
-closing_line part is_exempt rules = first_line (closes part (leaves_closed part is_exempt) rules) rules
+abbrev pub first_closing : Part → (is_exempt : List ℕ → Bool) → List PlacedRule → Option ℕ
+first_closing part is_exempt rules = first_line (closes part (leaves_closed part is_exempt) rules) rules
 
--- literally this path, with or without `$`: the path has no star or `$`
+-- the pattern is this path, with or without `$`, and the path has no star or `$`
 abbrev pub is_literally : List ℕ → List ℕ → Bool
 is_literally pattern path =
     not (list_any is_star_or_dollar path)
@@ -108,7 +108,7 @@ is_literally pattern path =
 abbrev pub opened_path : List ℕ → Option (List ℕ)
 opened_path url = let path = prepared url in if nat_lt 1 (length path) then Some path else None
 
--- paths that Allows may open and leave the site closed
+-- Allows of these paths leave the site closed
 abbrev pub opened_paths : List LineValue → List (List ℕ)
 opened_paths lines = robots_file ∷ filter_map opened_path (sitemaps_in lines)
 
@@ -117,15 +117,15 @@ is_exempt lines pattern = list_any (is_literally pattern) (opened_paths lines)
 
 -- ---- `closes-everything` and `closes-home-page`
 
--- the line of the first rule that closes this part of the site to the crawler; none if its vendor applies
--- another group, or if a line has its name and another one is probably meant: the group may be of no crawler
-abbrev pub part_closing : Part → List LineValue → List ℕ → Option ℕ
-part_closing part lines agent =
+-- the line of the first rule that closes this part of the site to the crawler. None, too, if its vendor
+-- applies another group, or if the name in the file is probably a mistake for that of another crawler
+abbrev pub line_closing_part : Part → List LineValue → List ℕ → Option ℕ
+line_closing_part part lines agent =
     if is_some (other_group lines agent) || (is_named agent lines && is_some (meant agent)) then None
-    else closing_line part (is_exempt lines) (placed_rules agent lines)
+    else first_closing part (is_exempt lines) (placed_rules agent lines)
 
-abbrev pub line_closing : List LineValue → List ℕ → Option ℕ
-line_closing lines agent = part_closing Site lines agent
+abbrev pub line_closing_site : List LineValue → List ℕ → Option ℕ
+line_closing_site lines agent = line_closing_part Site lines agent
 
 -- the name is that of a large search engine, possibly with a version
 abbrev pub is_engine : List ℕ → Bool
@@ -138,21 +138,22 @@ is_any lines agent = bytes_eq agent (codes "*") || not (is_named agent lines)
 
 -- a group of its own leaves the site open to this crawler
 unfoldable pub is_let_in : List LineValue → List ℕ → Bool
-is_let_in lines name = is_named name lines && is_none (line_closing lines name)
+is_let_in lines name = is_named name lines && is_none (line_closing_site lines name)
 
 abbrev pub lets_in : List LineValue → Bool
 lets_in lines = list_any (λ name. is_let_in lines name.now) SEARCH_ENGINES
 
--- a closed site is a mistake more often than not: `let_in` if a large search engine may fetch it
+-- closing the site to this crawler is probably a mistake. `let_in`: a large search engine may fetch the site
 abbrev pub is_major : (let_in : Bool) → List LineValue → List ℕ → Bool
 is_major let_in lines agent = is_engine agent || (not let_in && is_any lines agent)
 
--- the line that is reported: of the home page alone only to crawlers to which it matters
+-- the line that is reported. One that closes the home page alone is reported only for search engines, `*`, and
+-- crawlers that aren't named
 abbrev pub line_reported : Part → List LineValue → List ℕ → Option ℕ
 line_reported Home lines agent =
-    if is_some (line_closing lines agent) || not (is_major false lines agent) then None
-    else part_closing Home lines agent
-line_reported Site lines agent = line_closing lines agent
+    if is_some (line_closing_site lines agent) || not (is_major false lines agent) then None
+    else line_closing_part Home lines agent
+line_reported Site lines agent = line_closing_site lines agent
 
 abbrev pub is_number : ℕ → Option ℕ → Bool
 is_number number None = false
@@ -187,7 +188,7 @@ is_kept rules placed =
 abbrev pub lacks_all : List LineValue → List ℕ → Bool
 lacks_all lines agent = not (list_any (is_kept (star_rules lines)) (placed_rules agent lines))
 
--- this name, in lower case, is that of such a crawler
+-- this name, which is in lower case, is that of a crawler that has none of the Disallows of `*`
 abbrev pub is_lacking : List (List ℕ) → List LineValue → List ℕ → Bool
 is_lacking agents lines name =
     list_any (λ agent. lacks_all lines agent && bytes_eq (str_to_ascii_lowercase agent) name) agents
@@ -198,15 +199,15 @@ is_first_name Agent line = false
 is_first_name Delay line = is_agent line
 is_first_name Other line = is_agent line
 
--- the first user-agent line of a group with rules or delays and the name of such a crawler, which isn't the
--- group of `*`, too, even for crawlers that ignore delays; `from_here` are the lines from this one on
+-- this is the first user-agent line of a group that has a rule or a delay, names such a crawler, and doesn't
+-- name `*`; `from_here` are the lines from this one on
 abbrev pub is_replacing : List (List ℕ) → List LineValue → Preceding → LineValue → List LineValue → Bool
 is_replacing agents lines preceding line from_here =
     (is_first_name preceding line && list_any is_member from_here)
     && (begin_with_one (λ name. is_lacking agents lines (str_to_ascii_lowercase name)) from_here
     && not (name_star from_here))
 
--- the numbers of such lines, if what precedes the first of them is `preceding`
+-- the numbers of those lines, where `preceding` is what precedes the first of them
 abbrev pub replacing_from : List (List ℕ) → List LineValue → Preceding → List Label → List ℕ
 replacing_from agents lines preceding [] = []
 replacing_from agents lines preceding (label ∷ labels) =

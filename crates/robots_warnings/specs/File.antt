@@ -21,9 +21,9 @@ is_blank (byte ∷ body) = byte == hash || ((byte == space || byte == tab) && is
 abbrev pub labels_for : List ℕ → List ℕ → List Label
 labels_for agent file = labels_of (group_name agent (lines_read file)) (bodies_read file)
 
--- the rules that are checked: all if `everywhere`, else those of the crawler's group
+-- the rules that are checked: all if `all_groups`, else those of the crawler's group
 abbrev pub is_in_scope_of : Bool → Membership → Bool
-is_in_scope_of everywhere membership = if everywhere then true else is_own membership
+is_in_scope_of all_groups membership = if all_groups then true else is_own membership
 
 abbrev pub lines_of : List Label → List LineValue
 lines_of labels = map (λ (label : Label). label.line) labels

@@ -18,18 +18,18 @@ above_next above line = if is_agent line then [] else above ++ line ∷ []
 
 -- a rule with this membership is checked and belongs to a group
 abbrev pub is_checked : Bool → Membership → Bool
-is_checked everywhere membership = is_in_scope_of everywhere membership && not (is_outside membership)
+is_checked all_groups membership = is_in_scope_of all_groups membership && not (is_outside membership)
 
 -- the numbers of such rules that are checked; `above` are the lines of their group above these
 abbrev pub repeated_from : Bool → List LineValue → List Label → List ℕ
-repeated_from everywhere above [] = []
-repeated_from everywhere above (label ∷ labels) =
-    (if is_checked everywhere label.membership && is_repeated above label.line
+repeated_from all_groups above [] = []
+repeated_from all_groups above (label ∷ labels) =
+    (if is_checked all_groups label.membership && is_repeated above label.line
     then label.number ∷ [] else [])
-    ++ repeated_from everywhere (above_next above label.line) labels
+    ++ repeated_from all_groups (above_next above label.line) labels
 
 abbrev pub repeated : Bool → List Label → List ℕ
-repeated everywhere labels = repeated_from everywhere [] labels
+repeated all_groups labels = repeated_from all_groups [] labels
 
 -- ---- Sitemaps.
 

@@ -55,19 +55,19 @@ is_unpaired_line spelling group (Disallow value) = is_unpaired spelling group fa
 is_unpaired_line spelling group _ = false
 
 abbrev pub is_unpaired_at : Spelling → Bool → List LineValue → Label → Bool
-is_unpaired_at spelling everywhere group label =
-    is_in_scope_of everywhere label.membership && is_unpaired_line spelling group label.line
+is_unpaired_at spelling all_groups group label =
+    is_in_scope_of all_groups label.membership && is_unpaired_line spelling group label.line
 
 -- the numbers of such lines of a group
 abbrev pub unpaired_in : Spelling → Bool → List Label → List ℕ
-unpaired_in spelling everywhere group =
+unpaired_in spelling all_groups group =
     map (λ (label : Label). label.number)
-    (filter (is_unpaired_at spelling everywhere (lines_of group)) group)
+    (filter (is_unpaired_at spelling all_groups (lines_of group)) group)
 
 abbrev pub is_agent_line : Label → Bool
 is_agent_line label = is_agent label.line
 
 -- the numbers of such lines, where groups are what is between user-agent lines
 abbrev pub unpaired : Spelling → Bool → List Label → List ℕ
-unpaired spelling everywhere labels =
-    flat_map (unpaired_in spelling everywhere) (slice_split is_agent_line labels)
+unpaired spelling all_groups labels =
+    flat_map (unpaired_in spelling all_groups) (slice_split is_agent_line labels)

@@ -47,31 +47,31 @@ warned_beside cause number (Some other) =
     record { line = Some number; cause = cause; about = None; detail = Some (Line other) } ∷ []
 
 -- no name if the report is about a single crawler
-abbrev pub crawler_shown : (everywhere : Bool) → List ℕ → Option (List ℕ)
-crawler_shown everywhere agent = if everywhere then Some agent else None
+abbrev pub crawler_shown : (all_groups : Bool) → List ℕ → Option (List ℕ)
+crawler_shown all_groups agent = if all_groups then Some agent else None
 
 abbrev pub url_warnings : List ℕ → List WarningValue
 url_warnings url = warned None (Some url) (url_checks url)
 
 -- if the size limit cuts a line, only that is reported
-abbrev pub line_warnings : (is_cut everywhere : Bool) → Label → List WarningValue
-line_warnings is_cut everywhere label =
+abbrev pub line_warnings : (is_cut all_groups : Bool) → Label → List WarningValue
+line_warnings is_cut all_groups label =
     warned (Some label.number) None (if is_cut then (CutLine, true) ∷ []
-    else line_checks (is_in_scope_of everywhere label.membership) label.line label.body)
+    else line_checks (is_in_scope_of all_groups label.membership) label.line label.body)
 
 -- if `cuts_last`, the size limit cuts the last line
-abbrev pub lines_warnings : (cuts_last everywhere : Bool) → List Label → List WarningValue
-lines_warnings cuts_last everywhere [] = []
-lines_warnings cuts_last everywhere (label ∷ labels) =
-    line_warnings (cuts_last && length labels == 0) everywhere label
-    ++ lines_warnings cuts_last everywhere labels
+abbrev pub lines_warnings : (cuts_last all_groups : Bool) → List Label → List WarningValue
+lines_warnings cuts_last all_groups [] = []
+lines_warnings cuts_last all_groups (label ∷ labels) =
+    line_warnings (cuts_last && length labels == 0) all_groups label
+    ++ lines_warnings cuts_last all_groups labels
 
 abbrev pub file_lines_warnings : FileFacts → Bool → List Label → List WarningValue
-file_lines_warnings facts everywhere labels =
-    if suppresses_line_warnings facts then [] else lines_warnings facts.has_cut_line everywhere labels
+file_lines_warnings facts all_groups labels =
+    if suppresses_line_warnings facts then [] else lines_warnings facts.has_cut_line all_groups labels
 
--- `last` is the number of the last rule or delay, `preceding` is what precedes the first of these lines, and
--- `above` and `delay` are the only name and the first delay of the group above it
+-- `last` is the number of the file's last rule or delay, `preceding` is what precedes the first of these lines,
+-- and `above` and `delay` are the only name and the first delay of the group above it
 abbrev pub positions_from : Option ℕ → Preceding → Option (List ℕ) → Option ℕ → List Label
     → List WarningValue
 positions_from last preceding above delay [] = []
@@ -84,7 +84,7 @@ positions_from last preceding above delay (label ∷ labels) =
 abbrev pub position_warnings : List Label → List WarningValue
 position_warnings labels = positions_from (last_group labels) Other None None labels
 
--- only if lines are checked
+-- none if lines aren't checked, as in an HTML page
 abbrev pub past_limit_warnings : FileFacts → List ℕ → List Label → List WarningValue
 past_limit_warnings facts file labels =
     if not facts.is_too_large || suppresses_line_warnings facts then []
@@ -97,7 +97,8 @@ abbrev pub closing_cause : Part → (is_major : Bool) → Cause
 closing_cause Home is_major = if is_major then ClosesHome else ClosesHomeToOthers
 closing_cause Site is_major = if is_major then ClosesSite else ClosesEverything
 
--- a line closes this part of the site to these crawlers: the warning names the first major one
+-- a line closes this part of the site to these crawlers: one warning, which names the first crawler for which
+-- it is major, or else the first
 abbrev pub closing_warnings : Part → (let_in : Bool) → List LineValue → ℕ → List (List ℕ) → List WarningValue
 closing_warnings part let_in lines number [] = []
 closing_warnings part let_in lines number (agent ∷ agents) =
@@ -167,23 +168,23 @@ abbrev pub other_detail : ℕ → (group : List ℕ) → Option Detail
 other_detail number group = if length group == 0 then None else Some (Group number)
 
 -- if the crawler in this row is among these and its vendor applies another group
-abbrev pub vendor_warning : (everywhere : Bool) → List (List ℕ) → List LineValue → ℕ → Row → List WarningValue
-vendor_warning everywhere agents lines number row =
+abbrev pub vendor_warning : (all_groups : Bool) → List (List ℕ) → List LineValue → ℕ → Row → List WarningValue
+vendor_warning all_groups agents lines number row =
     if is_given agents row.0 && gets_other lines row.0 row.1
     then record {
       line = None;
       cause = other_cause row.1;
-      about = crawler_shown everywhere row.0;
+      about = crawler_shown all_groups row.0;
       detail = other_detail number row.1;
     } ∷ []
     else []
 
 -- `number` is the index of the first of these rows; each crawler once
 abbrev pub vendor_warnings : Bool → List (List ℕ) → List LineValue → ℕ → List Row → List WarningValue
-vendor_warnings everywhere agents lines number [] = []
-vendor_warnings everywhere agents lines number (row ∷ rows) =
-    vendor_warning everywhere agents lines number row
-    ++ vendor_warnings everywhere agents lines (number + 1) rows
+vendor_warnings all_groups agents lines number [] = []
+vendor_warnings all_groups agents lines number (row ∷ rows) =
+    vendor_warning all_groups agents lines number row
+    ++ vendor_warnings all_groups agents lines (number + 1) rows
 
 -- if another line lists the sitemap of this line first
 abbrev pub sitemap_warning : List Label → Label → List WarningValue
@@ -191,19 +192,19 @@ sitemap_warning labels label = warned_beside RepeatedSitemap label.number (line_
 
 -- about rules that are repeated in their group, and sitemaps in the file
 abbrev pub repeated_warnings : Bool → List Label → List WarningValue
-repeated_warnings everywhere labels =
-    warned_at RepeatedRule None (repeated everywhere labels) ++ flat_map (sitemap_warning labels) labels
+repeated_warnings all_groups labels =
+    warned_at RepeatedRule None (repeated all_groups labels) ++ flat_map (sitemap_warning labels) labels
 
--- about the rules of a group or of a crawler as a whole, and about sitemaps
+-- what isn't about one line by itself: rules of a group or a crawler together, sitemaps, names, vendors
 abbrev pub group_warnings : Bool → List (List ℕ) → List LineValue → List Label → List WarningValue
-group_warnings everywhere agents lines labels =
-    warned_at NonstandardEscape None (unpaired Standard everywhere labels)
-    ++ (warned_at EscapedDelimiter None (unpaired Plain everywhere labels)
+group_warnings all_groups agents lines labels =
+    warned_at NonstandardEscape None (unpaired Standard all_groups labels)
+    ++ (warned_at EscapedDelimiter None (unpaired Plain all_groups labels)
     ++ (crawler_warnings (is_empty_at labels) agents lines labels
     ++ (warned_at ReplacesStar (Some (Rules (star_count lines))) (replacing agents lines labels)
-    ++ (repeated_warnings everywhere labels
+    ++ (repeated_warnings all_groups labels
     ++ ((name_warnings labels ++ agent_warnings lines agents)
-    ++ vendor_warnings everywhere agents lines 0 crawlers)))))
+    ++ vendor_warnings all_groups agents lines 0 crawlers)))))
 
 abbrev pub general_warnings : FileFacts → (agents urls : List (List ℕ)) → List LineValue → List Label
     → List WarningValue
@@ -211,13 +212,13 @@ general_warnings facts agents urls lines labels =
     warned None None (file_checks facts)
     ++ (site_warnings agents lines labels ++ flat_map url_warnings urls)
 
--- all warnings. `everywhere` is false for a report on a single crawler, and else the rules of all groups are
--- checked; `agents` are the crawlers reported on, and `lines` the file's
-abbrev pub warnings : (everywhere : Bool) → (agents urls : List (List ℕ)) → List ℕ → FileFacts
+-- all warnings. If `all_groups` is false, in a report on a single crawler, other groups' rules aren't checked;
+-- `agents` are the crawlers reported on, and `lines` the file's
+abbrev pub warnings : (all_groups : Bool) → (agents urls : List (List ℕ)) → List ℕ → FileFacts
     → List Label → List LineValue → List WarningValue
-warnings everywhere agents urls file facts labels lines =
+warnings all_groups agents urls file facts labels lines =
     general_warnings facts agents urls lines labels
-    ++ (file_lines_warnings facts everywhere labels
+    ++ (file_lines_warnings facts all_groups labels
     ++ (position_warnings labels
     ++ (past_limit_warnings facts file labels
-    ++ group_warnings everywhere agents lines labels)))
+    ++ group_warnings all_groups agents lines labels)))

@@ -111,10 +111,10 @@ pub(crate) fn user_agent_checks(value: &[u8]) -> [Check; 2]
     ]
 }
 
-pub(crate) fn is_in_scope_of(everywhere: bool, membership: Membership) -> bool
-    ensures { result ≡ is_in_scope_of everywhere membership }
+pub(crate) fn is_in_scope_of(all_groups: bool, membership: Membership) -> bool
+    ensures { result ≡ is_in_scope_of all_groups membership }
 {
-    everywhere || membership == Membership::Own
+    all_groups || membership == Membership::Own
 }
 
 /// `is_regex`: the value seems to be a regular expression.

@@ -3,9 +3,9 @@ ghost use Rattle.std.specs.Prelude.{◌≡◌, ◌++◌, ◌||◌, ◌∷◌, []
 ghost use Rattle.std.specs.Prelude.{is_some, length, map, nat_lt, option_map, slice_get, string_bytes, ℕ};
 ghost use Rattle.std.specs.{HashSet.contains_text, List.filter_map, List.list_any, Str.str_eq_ignore_ascii_case};
 ghost use Rattle.texting_robots.specs.Callers.{PlacedRule, file_lines, label_by_value, placed_rules};
-ghost use Rattle.robots_warnings.specs.Closed.{closed_at, closes, closing_line, is_closing, is_exempt};
+ghost use Rattle.robots_warnings.specs.Closed.{closed_at, closes, first_closing, is_closing, is_exempt};
 ghost use Rattle.robots_warnings.specs.Closed.{is_for, is_let_in, is_literally, is_major, is_number, is_rival, leaves_closed};
-ghost use Rattle.robots_warnings.specs.Closed.{lets_in, line_closing, line_reported, opened_path, part_closing};
+ghost use Rattle.robots_warnings.specs.Closed.{lets_in, line_closing_site, line_reported, opened_path, line_closing_part};
 ghost use Rattle.robots_warnings.specs.Internal.{Adds, Rules.HasExempt, Rules.IsNeeded, Rules.agents_at};
 ghost use Rattle.robots_warnings.specs.Warnings.{closing_cause, closing_warnings, others, part_warnings, site_warnings};
 
@@ -123,13 +123,13 @@ fn closes(part: Part, needed: usize, rule: &SiteRule<'_>) -> bool
     is_closing(part, rule) && rule.value.len() >= needed
 }
 
-fn closing_line(
+fn first_closing(
     alloc: Global,
     part: Part,
     exempt: &Patterns,
     rules: &[SiteRule<'_>],
 ) -> Result<Option<usize>, AllocError>
-    ensures { IfOk result (λ line. line ≡ closing_line part (contains_text exempt.now) rules.now) }
+    ensures { IfOk result (λ line. line ≡ first_closing part (contains_text exempt.now) rules.now) }
 {
     let needed = needed(alloc, part, exempt, rules)?;
     for rule in rules {
@@ -203,14 +203,14 @@ fn closing_here(
 ) -> Result<Option<usize>, AllocError>
     requires { HasExempt (file_lines site.now) exempt.now }
     ensures { IfOk result (λ line. line
-        ≡ closing_line part (is_exempt (file_lines site.now)) (placed_rules agent.now (file_lines site.now))) }
+        ≡ first_closing part (is_exempt (file_lines site.now)) (placed_rules agent.now (file_lines site.now))) }
 {
     let rules = own_rules(alloc, site, agent)?;
-    closing_line(alloc, part, exempt, &rules)
+    first_closing(alloc, part, exempt, &rules)
 }
 
 /// None if the crawler's vendor applies another group, or a line has its name and another one is meant.
-fn part_closing(
+fn line_closing_part(
     alloc: Global,
     part: Part,
     exempt: &Patterns,
@@ -218,7 +218,7 @@ fn part_closing(
     agent: &str,
 ) -> Result<Option<usize>, AllocError>
     requires { HasExempt (file_lines site.now) exempt.now }
-    ensures { IfOk result (λ line. line ≡ part_closing part (file_lines site.now) agent.now) }
+    ensures { IfOk result (λ line. line ≡ line_closing_part part (file_lines site.now) agent.now) }
 {
     if other_group(site, agent).is_some()
         || (site.is_named(agent) && meant(alloc, agent.as_bytes())?.is_some())
@@ -255,15 +255,15 @@ fn line_reported(
     ensures { IfOk result (λ line. line ≡ line_reported part (file_lines site.now) agent.now) }
 {
     if part != Part::Home {
-        return part_closing(alloc, Part::Site, exempt, site, agent);
+        return line_closing_part(alloc, Part::Site, exempt, site, agent);
     }
     if !is_major(false, site, agent) {
         return Ok(None);
     }
-    if part_closing(alloc, Part::Site, exempt, site, agent)?.is_some() {
+    if line_closing_part(alloc, Part::Site, exempt, site, agent)?.is_some() {
         return Ok(None);
     }
-    part_closing(alloc, Part::Home, exempt, site, agent)
+    line_closing_part(alloc, Part::Home, exempt, site, agent)
 }
 
 /// Whether a group of its own leaves the site open to this crawler.
@@ -275,7 +275,7 @@ fn is_let_in(alloc: Global, exempt: &Patterns, site: &Site, name: &str) -> Resul
     if !site.is_named(name) {
         return Ok(false);
     }
-    Ok(part_closing(alloc, Part::Site, exempt, site, name)?.is_none())
+    Ok(line_closing_part(alloc, Part::Site, exempt, site, name)?.is_none())
 }
 
 /// Whether it does to a large search engine.
@@ -295,10 +295,10 @@ fn lets_in(alloc: Global, exempt: &Patterns, site: &Site) -> Result<bool, AllocE
 
 /// Whether a rule closes the site to the crawler.
 pub fn is_closed(alloc: Global, site: &Site, agent: &str) -> Result<bool, AllocError>
-    ensures { IfOk result (λ is. is ≡ is_some (line_closing (file_lines site.now) agent.now)) }
+    ensures { IfOk result (λ is. is ≡ is_some (line_closing_site (file_lines site.now) agent.now)) }
 {
     let exempt = exempt_patterns(alloc, site)?;
-    Ok(part_closing(alloc, Part::Site, &exempt, site, agent)?.is_some())
+    Ok(line_closing_part(alloc, Part::Site, &exempt, site, agent)?.is_some())
 }
 
 fn add_closed<'a>(

@@ -436,14 +436,14 @@ pub(crate) fn warn_of_all_names<'a>(
 
 fn warn_of_vendor(
     found: &mut Found<'_>,
-    everywhere: bool,
+    all_groups: bool,
     site: &Site,
     agents: &[&str],
     number: usize,
     crawler: &Crawler,
 ) -> Result<(), AllocError>
     ensures { OnOk result (Adds found.old.items found.new.items
-        (vendor_warning everywhere (map (λ agent. agent.now) agents.now) (file_lines site.now) number (row_value crawler.now))) }
+        (vendor_warning all_groups (map (λ agent. agent.now) agents.now) (file_lines site.now) number (row_value crawler.now))) }
 {
     let (name, group) = *crawler;
     if !is_given(agents, name) || !gets_other(site, name, group) {
@@ -457,7 +457,7 @@ fn warn_of_vendor(
     found.push(Warning {
         line: None,
         cause,
-        about: if everywhere { Some(name) } else { None },
+        about: if all_groups { Some(name) } else { None },
         detail,
     })?;
     Ok(())
@@ -465,16 +465,16 @@ fn warn_of_vendor(
 
 pub(crate) fn warn_of_vendors(
     found: &mut Found<'_>,
-    everywhere: bool,
+    all_groups: bool,
     site: &Site,
     agents: &[&str],
     rows: &[Crawler],
 ) -> Result<(), AllocError>
     ensures { OnOk result (Adds found.old.items found.new.items
-        (vendor_warnings everywhere (map (λ agent. agent.now) agents.now) (file_lines site.now) 0 (map row_value rows.now))) }
+        (vendor_warnings all_groups (map (λ agent. agent.now) agents.now) (file_lines site.now) 0 (map row_value rows.now))) }
 {
     for (number, crawler) in rows.iter().enumerate() {
-        warn_of_vendor(found, everywhere, site, agents, number, crawler)?;
+        warn_of_vendor(found, all_groups, site, agents, number, crawler)?;
     }
     Ok(())
 }

@@ -59,26 +59,26 @@ fn add_line<'a>(alloc: Global, seen: &mut Seen<'a>, line: Line<'a>) -> Result<bo
     }
 }
 
-fn is_checked(everywhere: bool, membership: Membership) -> bool
-    ensures { result ≡ is_checked everywhere membership }
+fn is_checked(all_groups: bool, membership: Membership) -> bool
+    ensures { result ≡ is_checked all_groups membership }
 {
-    is_in_scope_of(everywhere, membership) && membership != Membership::Ungrouped
+    is_in_scope_of(all_groups, membership) && membership != Membership::Ungrouped
 }
 
 /// The numbers of the rules that are checked and repeat a rule above them in their group.
 #[tactic(auto, using(crate::proofs::SeenLemmas::found_next))]
 pub(crate) fn repeated(
     alloc: Global,
-    everywhere: bool,
+    all_groups: bool,
     labels: &[LabeledLine<'_>],
 ) -> Result<Vec<usize>, AllocError>
-    ensures { IfOk result (λ found. found.items ≡ repeated everywhere (map label_by_value labels.now)) }
+    ensures { IfOk result (λ found. found.items ≡ repeated all_groups (map label_by_value labels.now)) }
 {
     let mut seen = nothing(alloc);
     let mut found = Vec::new(alloc);
     for labeled in labels {
         let repeats = add_line(alloc, &mut seen, labeled.line)?;
-        let is = is_checked(everywhere, labeled.membership) && repeats;
+        let is = is_checked(all_groups, labeled.membership) && repeats;
         push_if(&mut found, is, labeled.number)?;
     }
     Ok(found)

@@ -129,14 +129,14 @@ fn is_unpaired(
 fn is_unpaired_at(
     alloc: Global,
     spelling: Spelling,
-    everywhere: bool,
+    all_groups: bool,
     seen: &Seen<'_>,
     labeled: &LabeledLine<'_>,
 ) -> Result<bool, AllocError>
     ensures { IfOk result (λ is. (lines : List LineValue) → HasSeen seen.now lines
-        → is ≡ is_unpaired_at spelling everywhere lines (label_by_value labeled.now)) }
+        → is ≡ is_unpaired_at spelling all_groups lines (label_by_value labeled.now)) }
 {
-    if !is_in_scope_of(everywhere, labeled.membership) {
+    if !is_in_scope_of(all_groups, labeled.membership) {
         return Ok(false);
     }
     match labeled.line {
@@ -167,17 +167,17 @@ fn add_unpaired(
     alloc: Global,
     found: &mut Vec<usize>,
     spelling: Spelling,
-    everywhere: bool,
+    all_groups: bool,
     group: &[LabeledLine<'_>],
 ) -> Result<(), AllocError>
-    ensures { OnOk result (found.new.items ≡ found.old.items ++ unpaired_in spelling everywhere (map label_by_value group.now)) }
+    ensures { OnOk result (found.new.items ≡ found.old.items ++ unpaired_in spelling all_groups (map label_by_value group.now)) }
 {
     if !has_other_lines(spelling, group) {
         return Ok(());
     }
     let seen = seen_in(alloc, group)?;
     for labeled in group {
-        let is = is_unpaired_at(alloc, spelling, everywhere, &seen, labeled)?;
+        let is = is_unpaired_at(alloc, spelling, all_groups, &seen, labeled)?;
         push_if(found, is, labeled.number)?;
     }
     Ok(())
@@ -202,14 +202,14 @@ fn groups<'a, 'b>(
 pub(crate) fn unpaired(
     alloc: Global,
     spelling: Spelling,
-    everywhere: bool,
+    all_groups: bool,
     labels: &[LabeledLine<'_>],
 ) -> Result<Vec<usize>, AllocError>
-    ensures { IfOk result (λ found. found.items ≡ unpaired spelling everywhere (map label_by_value labels.now)) }
+    ensures { IfOk result (λ found. found.items ≡ unpaired spelling all_groups (map label_by_value labels.now)) }
 {
     let mut found = Vec::new(alloc);
     for group in &groups(alloc, labels)? {
-        add_unpaired(alloc, &mut found, spelling, everywhere, group)?;
+        add_unpaired(alloc, &mut found, spelling, all_groups, group)?;
     }
     Ok(found)
 }

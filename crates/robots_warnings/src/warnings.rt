@@ -235,16 +235,16 @@ fn warn_of_line(
     alloc: Global,
     found: &mut Found<'_>,
     is_cut: bool,
-    everywhere: bool,
+    all_groups: bool,
     labeled: &LabeledLine<'_>,
 ) -> Result<(), AllocError>
     ensures { OnOk result (Adds found.old.items found.new.items
-        (line_warnings is_cut everywhere (label_by_value labeled.now))) }
+        (line_warnings is_cut all_groups (label_by_value labeled.now))) }
 {
     if is_cut {
         return warn(found, Some(labeled.number), None, &[(Cause::CutLine, true)]);
     }
-    let is_in_scope = is_in_scope_of(everywhere, labeled.membership);
+    let is_in_scope = is_in_scope_of(all_groups, labeled.membership);
     let (tail, comment) = split_content(labeled.body);
     warn_of_content(found, is_in_scope, labeled, (tail, comment))?;
     warn_of_value(alloc, found, is_in_scope, labeled.number, labeled.line)?;
@@ -255,11 +255,11 @@ fn warn_of_line(
 fn warn_of_lines(
     alloc: Global,
     found: &mut Found<'_>,
-    everywhere: bool,
+    all_groups: bool,
     read: &FileRead<'_>,
 ) -> Result<(), AllocError>
     ensures { OnOk result (Adds found.old.items found.new.items
-        (file_lines_warnings read.now.facts everywhere (map label_by_value read.now.labels.items))) }
+        (file_lines_warnings read.now.facts all_groups (map label_by_value read.now.labels.items))) }
 {
     if suppresses_line_warnings(read.facts) {
         return Ok(());
@@ -267,7 +267,7 @@ fn warn_of_lines(
     let mut rest: &[LabeledLine<'_>] = &read.labels;
     while let [labeled, after @ ..] = rest {
         let is_cut = read.facts.has_cut_line && after.is_empty();
-        warn_of_line(alloc, found, is_cut, everywhere, labeled)?;
+        warn_of_line(alloc, found, is_cut, all_groups, labeled)?;
         rest = after;
     }
     Ok(())
@@ -370,13 +370,13 @@ fn warn_of_spelling(
     found: &mut Found<'_>,
     cause: Cause,
     spelling: Spelling,
-    everywhere: bool,
+    all_groups: bool,
     labels: &[LabeledLine<'_>],
 ) -> Result<(), AllocError>
     ensures { OnOk result (Adds found.old.items found.new.items
-        (warned_at cause None (unpaired spelling everywhere (map label_by_value labels.now)))) }
+        (warned_at cause None (unpaired spelling all_groups (map label_by_value labels.now)))) }
 {
-    let numbers = unpaired(alloc, spelling, everywhere, labels)?;
+    let numbers = unpaired(alloc, spelling, all_groups, labels)?;
     warn_at(found, cause, None, &numbers)
 }
 
@@ -399,13 +399,13 @@ fn warn_of_sitemaps(
 fn warn_of_repeated(
     alloc: Global,
     found: &mut Found<'_>,
-    everywhere: bool,
+    all_groups: bool,
     labels: &[LabeledLine<'_>],
 ) -> Result<(), AllocError>
     ensures { OnOk result (Adds found.old.items found.new.items
-        (repeated_warnings everywhere (map label_by_value labels.now))) }
+        (repeated_warnings all_groups (map label_by_value labels.now))) }
 {
-    let numbers = repeated(alloc, everywhere, labels)?;
+    let numbers = repeated(alloc, all_groups, labels)?;
     warn_at(found, Cause::RepeatedRule, None, &numbers)?;
     warn_of_sitemaps(alloc, found, labels)
 }
@@ -413,47 +413,47 @@ fn warn_of_repeated(
 fn warn_of_groups<'a>(
     alloc: Global,
     found: &mut Found<'a>,
-    everywhere: bool,
+    all_groups: bool,
     agents: &[&'a str],
     read: &FileRead<'_>,
 ) -> Result<(), AllocError>
-    ensures { OnOk result (Adds found.old.items found.new.items (group_warnings everywhere
+    ensures { OnOk result (Adds found.old.items found.new.items (group_warnings all_groups
         (map (λ agent. agent.now) agents.now) (file_lines read.now.site)
         (map label_by_value read.now.labels.items))) }
 {
     let site = &read.site;
     let labels: &[LabeledLine<'_>] = &read.labels;
     let (escape, delimiter) = (Cause::NonstandardEscape, Cause::EscapedDelimiter);
-    warn_of_spelling(alloc, found, escape, Spelling::Standard, everywhere, labels)?;
-    warn_of_spelling(alloc, found, delimiter, Spelling::Plain, everywhere, labels)?;
+    warn_of_spelling(alloc, found, escape, Spelling::Standard, all_groups, labels)?;
+    warn_of_spelling(alloc, found, delimiter, Spelling::Plain, all_groups, labels)?;
     warn_of_crawlers(alloc, found, agents, read)?;
     let star = own_rules(alloc, site, "*")?;
     let replacing = replacing(alloc, site, &star, agents, labels)?;
     let detail = Some(Detail::Rules(disallow_count(&star)));
     warn_at(found, Cause::ReplacesStar, detail, &replacing)?;
-    warn_of_repeated(alloc, found, everywhere, labels)?;
+    warn_of_repeated(alloc, found, all_groups, labels)?;
     warn_of_all_names(alloc, found, site, agents, labels)?;
-    warn_of_vendors(found, everywhere, site, agents, crawlers())
+    warn_of_vendors(found, all_groups, site, agents, crawlers())
 }
 
-/// All warnings about a file and a request, in the order of output. `everywhere` is false for a report on a single
+/// All warnings about a file and a request, in the order of output. `all_groups` is false for a report on a single
 /// crawler, and else the rules of all groups are checked. `agents` are the crawlers reported on.
 pub fn warnings<'a>(
     alloc: Global,
-    everywhere: bool,
+    all_groups: bool,
     agents: &[&'a str],
     urls: &[&'a str],
     read: &FileRead<'_>,
 ) -> Result<Vec<Warning<'a>>, AllocError>
     ensures { IfOk result (λ found. found.items
-        ≡ warnings everywhere (map (λ agent. agent.now) agents.now) (map (λ url. url.now) urls.now)
+        ≡ warnings all_groups (map (λ agent. agent.now) agents.now) (map (λ url. url.now) urls.now)
         read.now.bytes.now read.now.facts (map label_by_value read.now.labels.items) (file_lines read.now.site)) }
 {
     let mut found = Vec::new(alloc);
     warn_in_general(alloc, &mut found, agents, urls, read)?;
-    warn_of_lines(alloc, &mut found, everywhere, read)?;
+    warn_of_lines(alloc, &mut found, all_groups, read)?;
     warn_of_positions(&mut found, &read.labels)?;
     warn_past_limit(alloc, &mut found, read)?;
-    warn_of_groups(alloc, &mut found, everywhere, agents, read)?;
+    warn_of_groups(alloc, &mut found, all_groups, agents, read)?;
     Ok(found)
 }

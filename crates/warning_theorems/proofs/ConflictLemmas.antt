@@ -14,7 +14,7 @@ use Rattle.texting_robots.specs.Callers.{placed_rules, HoldsRule, IsDecidingLine
 use Rattle.texting_robots.specs.{Pattern.MatchesWith}
 use Rattle.robots_warnings.specs.Closed.{closes, is_exempt, is_literally, is_star_or_dollar}
 use Rattle.robots_warnings.specs.Closed.{is_whole_site}
-use Rattle.robots_warnings.specs.Closed.{is_rival, line_closing, matches_no_path, opened_paths}
+use Rattle.robots_warnings.specs.Closed.{is_rival, line_closing_site, matches_no_path, opened_paths}
 use Rattle.robots_warnings.specs.{Closed.leaves_closed, Closed.opens_little}
 use Rattle.robots_warnings.specs.declared.closed.Part.TheVariants as part
 use Rattle.robots_warnings.specs.Conflicts.{IsConflict, allow_beside, at_line, compared, conflict_for}
@@ -253,7 +253,7 @@ closed_by true line is = cc
 closed_by false line is = is
 
 pub closes_everything : (agent : List ℕ) (lines : List LineValue) (rules : List PlacedRule) (number : ℕ)
-    (text : List ℕ) → line_closing lines agent ≡ Some number → AreRulesFor agent lines rules
+    (text : List ℕ) → line_closing_site lines agent ≡ Some number → AreRulesFor agent lines rules
     → list_any (starts_with nat_eq (byte "/" ∷ text)) (opened_paths lines) ≡ false
     → ((pattern : List ℕ) → Contains (unplaced rules) (pattern, true) → opens_little pattern ≡ true
     → ¬ Matches pattern (byte "/" ∷ text))

@@ -117,22 +117,22 @@ module _ {lines above : List LineValue} {position : ℕ} {label : Label} {labels
     ];
   }
 
-repeat_from : (everywhere : Bool) (lines : List LineValue) (position : ℕ) (above : List LineValue)
+repeat_from : (all_groups : Bool) (lines : List LineValue) (position : ℕ) (above : List LineValue)
     (labels : List Label) (number : ℕ) → IsReached lines position above labels
-    → Contains (repeated_from everywhere above labels) number → IsRepeat lines number
-repeat_from everywhere lines position above [] number reached (k, below, at) = absurd (omega arith)
-repeat_from everywhere lines position above (label ∷ labels) number reached has =
+    → Contains (repeated_from all_groups above labels) number → IsRepeat lines number
+repeat_from all_groups lines position above [] number reached (k, below, at) = absurd (omega arith)
+repeat_from all_groups lines position above (label ∷ labels) number reached has =
     let group = above_next above label.line in
     (grind (
       arith,
       first_repeat,
-      repeat_from everywhere lines (position + 1) group labels number
+      repeat_from all_groups lines (position + 1) group labels number
           (next reached),
     ))
 
 is_repeat : {name : List ℕ} {lines : List LineValue} {labels : List Label} → AreLabelsOf name lines labels
-    → (everywhere : Bool) (number : ℕ) → Contains (repeated everywhere labels) number → IsRepeat lines number
-is_repeat {lines} {labels} are everywhere number = repeat_from everywhere lines 0 [] labels number
+    → (all_groups : Bool) (number : ℕ) → Contains (repeated all_groups labels) number → IsRepeat lines number
+is_repeat {lines} {labels} are all_groups number = repeat_from all_groups lines 0 [] labels number
     (grind arith)
 
 captured_above : {lines : List LineValue} {position : ℕ} {line : Option LineValue} (name : List ℕ)
@@ -160,13 +160,13 @@ rule_above {agent} {lines} are placed has is =
       ),
     )
 
-pub repeated_never_decides : (everywhere : Bool) (name agent : List ℕ) (lines : List LineValue)
+pub repeated_never_decides : (all_groups : Bool) (name agent : List ℕ) (lines : List LineValue)
     (labels : List Label) (rules : List PlacedRule) (text : List ℕ) (number : ℕ)
-    → AreLabelsOf name lines labels → Contains (repeated everywhere labels) number
+    → AreLabelsOf name lines labels → Contains (repeated all_groups labels) number
     → AreRulesFor agent lines rules → ¬ IsDecidingLine rules text (Some number)
-repeated_never_decides everywhere name agent lines labels rules text number labeled has are
+repeated_never_decides all_groups name agent lines labels rules text number labeled has are
     (differs, placed, decides, at) =
-    let is = subst (IsRepeat lines) (sym at) (is_repeat labeled everywhere number has) in
+    let is = subst (IsRepeat lines) (sym at) (is_repeat labeled all_groups number has) in
     let (line, above, listed) = rule_above are placed decides.listed is in
     decides.best _ listed decides.matches (inr (refl, inr (refl, above)))
 
@@ -242,12 +242,12 @@ module _ (numbers : List ℕ) (lines : List LineValue)
           subst (Contains (unplaced rules)) is (unplaced_of rules placed (in_filter _ rules placed listed).0),
     )
 
-pub repeated_can_be_deleted : (everywhere : Bool) (name agent : List ℕ) (lines : List LineValue)
+pub repeated_can_be_deleted : (all_groups : Bool) (name agent : List ℕ) (lines : List LineValue)
     (labels : List Label) (numbers text : List ℕ) (answer : Bool) → AreLabelsOf name lines labels
-    → All (Contains (repeated everywhere labels)) numbers
+    → All (Contains (repeated all_groups labels)) numbers
     → IsVerdict (rules_for agent lines) text answer
     ↔ IsVerdict (rules_for agent (lines_without numbers lines)) text answer
-repeated_can_be_deleted everywhere name agent lines labels numbers text answer labeled all =
+repeated_can_be_deleted all_groups name agent lines labels numbers text answer labeled all =
     let none_above : IsFollowed lines 0 false = grind arith in
     let blocks = keeps numbers lines repeats 0 lines false (all_from lines) none_above in
     let same = same_rules numbers lines repeats agent in
@@ -258,5 +258,5 @@ repeated_can_be_deleted everywhere name agent lines labels numbers text answer l
   where
     repeats : (number : ℕ) → among numbers number ≡ true → IsRepeat lines number
     repeats number is =
-        is_repeat labeled everywhere number
-        (holds_among (Contains (repeated everywhere labels)) numbers all number is)
+        is_repeat labeled all_groups number
+        (holds_among (Contains (repeated all_groups labels)) numbers all number is)

@@ -17,7 +17,7 @@ ghost use Rattle.rfc9309.specs.Matching.{all_stay, normal_uri};
 ghost use Rattle.warning_theorems.specs.{Audit.without_reach, Syntax.IsRobotStated, Verdict.IsStandardVerdict};
 ghost use Rattle.robots_warnings.specs.Conflicts.{IsConflict, IsOverruled, conflict, overruled, is_empty_at};
 ghost use Rattle.robots_warnings.specs.Conflicts.{overruled_for, IsEmptyDisallow, stated_rules};
-ghost use Rattle.robots_warnings.specs.Closed.{line_closing, opened_paths, opens_little};
+ghost use Rattle.robots_warnings.specs.Closed.{line_closing_site, opened_paths, opens_little};
 ghost use Rattle.robots_warnings.specs.Closed.{replacing, star_count};
 ghost use Rattle.robots_warnings.specs.{Contents.is_cut_to_root, Crawlers.names_past_limit};
 ghost use Rattle.robots_warnings.specs.{Positions.is_above_agents, Repeated.repeated, Targets.has_odd_target};
@@ -190,7 +190,7 @@ pub fn without_empty_disallows()
 /// opens little.
 pub fn closes_everything()
     ensures { (agent : List ℕ) (lines : List LineValue) (rules : List PlacedRule) (number : ℕ) (text : List ℕ)
-        → line_closing lines agent ≡ Some number → AreRulesFor agent lines rules
+        → line_closing_site lines agent ≡ Some number → AreRulesFor agent lines rules
         → list_any (starts_with nat_eq (byte "/" ∷ text)) (opened_paths lines) ≡ false
         → ((pattern : List ℕ) → Contains (unplaced rules) (pattern, true) → opens_little pattern ≡ true
         → ¬ Matches pattern (byte "/" ∷ text))
@@ -199,18 +199,18 @@ pub fn closes_everything()
 
 /// A rule with `repeated-rule` decides no verdict, for any crawler. The labels may be those for another one.
 pub fn repeated_rule()
-    ensures { (everywhere : Bool) (name agent : List ℕ) (lines : List LineValue) (labels : List Label)
+    ensures { (all_groups : Bool) (name agent : List ℕ) (lines : List LineValue) (labels : List Label)
         (rules : List PlacedRule) (text : List ℕ) (number : ℕ) → AreLabelsOf name lines labels
-        → Contains (repeated everywhere labels) number → AreRulesFor agent lines rules
+        → Contains (repeated all_groups labels) number → AreRulesFor agent lines rules
         → ¬ IsDecidingLine rules text (Some number) }
 {}
 
 /// If lines with `repeated-rule` are deleted, one or several or all, every verdict stays the same, for any
 /// crawler.
 pub fn repeated_rules_can_be_deleted()
-    ensures { (everywhere : Bool) (name agent : List ℕ) (lines : List LineValue) (labels : List Label)
+    ensures { (all_groups : Bool) (name agent : List ℕ) (lines : List LineValue) (labels : List Label)
         (numbers text : List ℕ) (answer : Bool) → AreLabelsOf name lines labels
-        → All (Contains (repeated everywhere labels)) numbers → IsVerdict (rules_for agent lines) text answer
+        → All (Contains (repeated all_groups labels)) numbers → IsVerdict (rules_for agent lines) text answer
         ↔ IsVerdict (rules_for agent (lines_without numbers lines)) text answer }
 {}
 

@@ -51,8 +51,8 @@ pub record AddsLine (old new : Seen) (line : LineValue) (is : Bool) : Type 0 whe
   pub has : (above : List LineValue) → HasSeen old above → HasSeen new (above_next above line)
 
 -- `found` with the numbers among the labels that are left is the result
-pub record IsFoundUpto (everywhere : Bool) (seen : Seen) (found : List ℕ) (left all : List Label)
+pub record IsFoundUpto (all_groups : Bool) (seen : Seen) (found : List ℕ) (left all : List Label)
     : Type 0 where
   pub above : List LineValue
   pub has : HasSeen seen above
-  pub numbers : found ++ repeated_from everywhere above left ≡ repeated everywhere all
+  pub numbers : found ++ repeated_from all_groups above left ≡ repeated all_groups all

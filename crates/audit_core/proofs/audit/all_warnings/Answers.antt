@@ -22,10 +22,10 @@ returns-clause-ok c =
     let lines = file_lines read.site in
     let (sitemaps, are, added) = c.in_ok-warn_of_sitemaps.ensures.ok in
     let found = c.in_ok-found.ensures
-    ∙ ap (λ urls. warnings c.is_none-everywhere.result given (map (λ url. url.now) urls) read.bytes.now read.facts labels lines)
+    ∙ ap (λ urls. warnings c.is_none-all_groups.result given (map (λ url. url.now) urls) read.bytes.now read.facts labels lines)
     c.deref.ensures.value
-    ∙ ap (λ everywhere. warnings everywhere given asked.urls read.bytes.now read.facts labels lines)
-    (mapped (λ agent. agent.now) c.args.request.now.agent _ c.is_none-everywhere.ensures) in
+    ∙ ap (λ all_groups. warnings all_groups given asked.urls read.bytes.now read.facts labels lines)
+    (mapped (λ agent. agent.now) c.args.request.now.agent _ c.is_none-all_groups.ensures) in
     let all = c.in_ok-add_needless.ensures
     ∙ ap (λ found. found ++ needless_warnings c.args.needless.now) found in
     (sitemaps, are, added ∙ ap (λ found. found ++ sitemaps) all)

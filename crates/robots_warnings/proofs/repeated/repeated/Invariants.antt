@@ -5,5 +5,5 @@ use Rattle.robots_warnings.proofs.repeated.repeated.Given as goal
 
 abbrev pub invariant-loop-labeled : goal.invariant-loop-labeled
 invariant-loop-labeled l =
-    IsFoundUpto l.everywhere l.seen l.found.items (map label_by_value (drop l.labeled-index l.labels))
+    IsFoundUpto l.all_groups l.seen l.found.items (map label_by_value (drop l.labeled-index l.labels))
     (map label_by_value l.labels)

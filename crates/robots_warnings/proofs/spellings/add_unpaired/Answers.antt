@@ -9,7 +9,7 @@ pub returns-then-not-has_other_lines : goal.returns-then-not-has_other_lines
 returns-then-not-has_other_lines c =
     let group = c.args.group.now in
     let lines = lines_of (map label_by_value group) in
-    rw (none_unpaired c.args.spelling c.args.everywhere lines group (search rules)) (sym (append-nil _))
+    rw (none_unpaired c.args.spelling c.args.all_groups lines group (search rules)) (sym (append-nil _))
 
 pub loop-labeled-preserved : goal.loop-labeled-preserved
 loop-labeled-preserved c =

@@ -7,6 +7,6 @@ abbrev pub invariant-loop-labeled : goal.invariant-loop-labeled
 invariant-loop-labeled l =
     let group = map label_by_value l.group in
     l.found.items ++ map (λ (label : Label). label.number)
-    (filter (is_unpaired_at l.spelling l.everywhere (lines_of group))
+    (filter (is_unpaired_at l.spelling l.all_groups (lines_of group))
     (map label_by_value (drop l.labeled-index l.group)))
-    ≡ l.fn.found.items ++ unpaired_in l.spelling l.everywhere group
+    ≡ l.fn.found.items ++ unpaired_in l.spelling l.all_groups group

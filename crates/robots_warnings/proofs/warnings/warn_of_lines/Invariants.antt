@@ -5,7 +5,7 @@ use Rattle.robots_warnings.proofs.warnings.warn_of_lines.Given as goal
 
 abbrev pub invariant-loop-rest : goal.invariant-loop-rest
 invariant-loop-rest l =
-    let warnings = lines_warnings l.read.facts.has_cut_line l.everywhere in
+    let warnings = lines_warnings l.read.facts.has_cut_line l.all_groups in
     l.found.items ++ warnings (map label_by_value l.rest)
     ≡ l.fn.found.items ++ warnings (map label_by_value l.read.labels.items)
 
