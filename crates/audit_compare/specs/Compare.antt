@@ -14,7 +14,8 @@ use Rattle.audit_core.specs.declared.group.Group.{Group}
 use Rattle.audit_core.specs.declared.group.Group.TheVariants.{Everyone, Named, Nobody, Star}
 use Rattle.audit_core.specs.Audit.{AgentValue, IsAgentAudit, VerdictValue, agents_requested}
 use Rattle.audit_core.specs.Findings.{Found}
-use Rattle.audit_compare.specs.declared.differences.Section.{Section, TheVariants.EveryUrl, TheVariants.Groups}
+use Rattle.audit_compare.specs.declared.differences.Section.{Section, TheVariants.EveryUrl}
+use Rattle.audit_compare.specs.declared.differences.Section.{TheVariants.Groups}
 use Rattle.audit_compare.specs.declared.differences.Section.TheVariants.{Rejections, Rules, Urls}
 use Rattle.audit_compare.specs.declared.every_url.{Example.Example, Verdicts.Verdicts}
 use Rattle.audit_compare.specs.declared.every_url.Verdicts.TheVariants.{Other, Same, Undecided}

@@ -119,7 +119,8 @@ module _ (rules : List PlacedRule) (closing : PlacedRule) (lines : List ℕ) (li
   pub fetches_nothing : lines ≡ [] → IsReach rules Nothing lines
   fetches_nothing none rest differs =
       elim (cases_Bool (list_any (opens rules closing listed closes rest) rules)) [
-        | inl some ↦ absurd (no_line lines none (opened rules closing listed closes rest lines are some).in_line)
+        | inl some ↦ absurd (no_line lines none
+            (opened rules closing listed closes rest lines are some).in_line)
         | inr none ↦ denied rules closing listed closes rest none differs
       ]
 

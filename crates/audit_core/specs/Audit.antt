@@ -95,7 +95,8 @@ IsRuling urls lines agent None verdicts =
 IsRuling urls lines agent (Some line) verdicts =
     IsFirstOverlong (placed_rules agent lines) line × (verdicts ≡ [])
 
--- what the file means for the crawler; nothing is said of what it may fetch if its vendor applies another group
+-- what the file means for the crawler; nothing is said of what it may fetch if its vendor applies another
+-- group
 pub record IsAgentAudit (urls : List (List ℕ)) (lines : List LineValue) (agent : List ℕ)
     (value : AgentValue) : Type 0 where
   pub agent_is : value.agent ≡ agent

@@ -1,6 +1,7 @@
 -- Expectations: how they are found and checked.
 use Rattle.std.proofs.{Common.◌≡◌, lemmas.Bool.cond-false, lemmas.Bool.cond-true}
-use Rattle.std.proofs.Common.{◌≢◌, ℕ, zero, suc, ◌+◌, List, [], ◌∷◌, ◌++◌, arith, append_assoc, drop, length, refl, sym}
+use Rattle.std.proofs.Common.{◌≢◌, ℕ, zero, suc, ◌+◌, List, [], ◌∷◌, ◌++◌, arith, append_assoc, drop}
+use Rattle.std.proofs.Common.{length, refl, sym}
 use Rattle.std.proofs.Common.{take, ◌<◌, map, slice_index_or, flat_map, ◌∙◌, ap, append-nil}
 use Rattle.std.specs.{Borrow.Bor}
 use Rattle.audit_expect.specs.Expect.{parts}

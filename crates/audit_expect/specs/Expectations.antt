@@ -22,10 +22,10 @@ use Rattle.audit_expect.specs.{Patterns.IsOnPaths, Patterns.holds}
 abbrev pub IsAskedAsWritten : List ℕ → Type 0
 IsAskedAsWritten url = normal_target (asked_target url) ≡ normal_target (written_target url)
 
--- the file is rejected for the crawler, and this is the line of its first overlong rule; or `url` changes the
--- URL; or these are the decisions: on what is compared here, where an empty Disallow is an Allow of `/`, as
--- here, and where it is no rule; and on what is written, where it is no rule and normal forms are compared; or
--- it is a pattern, and this is found of the paths that it matches
+-- the file is rejected for the crawler, and this is the line of its first overlong rule; or `url` changes
+-- the URL; or these are the decisions: on what is compared here, where an empty Disallow is an Allow of `/`,
+-- as here, and where it is no rule; and on what is written, where it is no rule and normal forms are
+-- compared; or it is a pattern, and this is found of the paths that it matches
 abbrev pub IsJudgmentOn : List ℕ → List ℕ → ExpectationValue → Judgment → Type 0
 IsJudgmentOn file agent one (Rejected line) = IsFirstOverlong (placed_rules agent (lines_read file)) line
 IsJudgmentOn file agent one Rewritten =
@@ -104,8 +104,8 @@ pub record AreFailuresOn (file : List ℕ) (expectations : List ExpectationValue
 abbrev pub elsewhere : List LineValue → List ℕ → List (List ℕ)
 elsewhere lines name = if is_some (other_group lines name) then name ∷ [] else []
 
--- `*`, each crawler that the lines name, and each known one with such a vendor: to any other crawler the rules
--- of `*` apply
+-- `*`, each crawler that the lines name, and each known one with such a vendor: to any other crawler the
+-- rules of `*` apply
 abbrev pub all_crawlers : List LineValue → List (List ℕ)
 all_crawlers lines = crawlers_in lines ++ flat_map (λ (row : Row). elsewhere lines row.0) crawlers
 

@@ -61,8 +61,8 @@ word_json None = null
 word_json (Some word) = string word
 
 -- the crawler, its delay in microseconds, the group that applies to it, the first line that names it and who
--- ignores it, what the crawler may fetch, the line for which the file is rejected, how many rules apply, which
--- group its vendor applies, and the verdicts
+-- ignores it, what the crawler may fetch, the line for which the file is rejected, how many rules apply,
+-- which group its vendor applies, and the verdicts
 abbrev pub agent_json : AgentValue → Data
 agent_json agent = object
     (member (codes "agent") (sanitized_json agent.agent)

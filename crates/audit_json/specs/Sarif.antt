@@ -1,6 +1,7 @@
 -- The findings as a log of SARIF 2.1.0 (OASIS Standard, Static Analysis Results Interchange Format), in one
 -- line.
-use Rattle.std.specs.Prelude.{◌≡◌, ℕ, Bool, false, List, [], ◌∷◌, ◌++◌, ◌==◌, ◌&&◌, ◌||◌, Option, Some, None, not}
+use Rattle.std.specs.Prelude.{◌≡◌, ℕ, Bool, false, List, [], ◌∷◌, ◌++◌, ◌==◌, ◌&&◌, ◌||◌, Option, Some}
+use Rattle.std.specs.Prelude.{None, not}
 use Rattle.std.specs.Prelude.{bytes_eq, codes, count_by, encode_utf8_all, flat_map, if◌then◌else◌, option_map}
 use Rattle.std.specs.Prelude.{map, string_bytes, unwrap_or}
 use Rattle.std.specs.{Int.is_in_range, List.list_any, Str.byte, Str.chars}

@@ -166,7 +166,10 @@ module _ (names : List (List ℕ)) (old new : List ℕ) (is : IsOpen names old) 
     whole : (end : List ℕ) → new ≡ mid ++ end
         → new ≡ old ++ (tag_open name ++ (flat_map attribute_bytes attributes ++ end))
     whole end added =
-        cc (append_assoc old (tag_open name ++ flat_map attribute_bytes attributes) end, append_assoc (tag_open name) (flat_map attribute_bytes attributes) end)
+        cc (
+          append_assoc old (tag_open name ++ flat_map attribute_bytes attributes) end,
+          append_assoc (tag_open name) (flat_map attribute_bytes attributes) end,
+        )
 
     tag_safe : IsTrue (is_name name) → (end : List ℕ) → IsSafe end → new ≡ mid ++ end
         → IsSafe new
@@ -359,7 +362,12 @@ adds_more names name value old mid new adds plain added = record {
   attributes = adds.attributes ++ attribute name value ∷ [];
   named = grind (arith, line_printable, map-append, each_last);
   added =
-      cc (append_assoc old (flat_map attribute_bytes adds.attributes) (attribute_bytes (attribute name value)), flat_map-append attribute_bytes adds.attributes (attribute name value ∷ []), append-nil (attribute_bytes (attribute name value)));
+      cc (
+        append_assoc old (flat_map attribute_bytes adds.attributes)
+            (attribute_bytes (attribute name value)),
+        flat_map-append attribute_bytes adds.attributes (attribute name value ∷ []),
+        append-nil (attribute_bytes (attribute name value)),
+      );
 }
   where
     each_last : (attributes : List Attribute) (a : Attribute)

@@ -239,7 +239,8 @@ module _ (opened : List Opened) where
       (grind arith)
       (grind arith)) last
 
-  pub style_read : (content : Html) (css : List ℕ) → has_elements (kind_of opened) ≡ true → IsTrue (is_css css)
+  pub style_read : (content : Html) (css : List ℕ) → has_elements (kind_of opened) ≡ true
+      → IsTrue (is_css css)
       → Reads (reading content) (html.style_bytes css) (reading (content ⊕ style [] css (text [])))
   unfolding html.style_bytes
   style_read content css has are =

@@ -1,6 +1,7 @@
 -- What is written to a report keeps it safe.
 use Rattle.std.specs.Prelude.{nat_eq, nat_lt}
-use Rattle.std.proofs.Common.{◌≡◌, ◌∙◌, ℕ, Bool, true, false, List, [], ◌∷◌, ◌++◌, append-nil, append_assoc, ap}
+use Rattle.std.proofs.Common.{◌≡◌, ◌∙◌, ℕ, Bool, true, false, List, [], ◌∷◌, ◌++◌, append-nil, append_assoc}
+use Rattle.std.proofs.Common.{ap}
 use Rattle.std.proofs.Common.{ap₂, arith, drop, flat_map, inl, inr, refl, subst, sym, take}
 use Rattle.std.specs.{Char.encode_utf8, Char.is_whitespace, List.AllByRecursion as Each, List.list_all}
 use Rattle.std.specs.Str.{IsCharBoundary, IsUtf8, chars, encode_utf8_all}
@@ -13,7 +14,8 @@ use Rattle.texting_robots.proofs.Shared.{each_append}
 use Rattle.printable_text.specs.{Lines.ended, declared.level.Level.Level}
 use Rattle.printable_text.specs.declared.level.Level.TheVariants.{Error, Note, Warning}
 use Rattle.printable_text.specs.Sanitize.{IsPrintable, IsPrintableIn, has_command, is_printable}
-use Rattle.printable_text.specs.Sanitize.{is_printable_byte, safe_in, sanitized, without_commands, without_hash}
+use Rattle.printable_text.specs.Sanitize.{is_printable_byte, safe_in, sanitized, without_commands}
+use Rattle.printable_text.specs.Sanitize.{without_hash}
 use Rattle.printable_text.specs.Text.{IsColored, IsColoredTo, IsPlainLine, IsReport, IsShownReport}
 use Rattle.printable_text.specs.Text.{begins_plainly, level_word, shown_word}
 use Rattle.printable_text.proofs.SanitizeLemmas.{append_printable, ascii_printable, brace_kept, ended-append}
@@ -61,12 +63,14 @@ plain_added old line mid new is printable inside begins first added =
     (line_added old line is (record { printable = printable; begins = begins; inside = inside }))
 
 -- an ASCII character that is neither white space nor `:`
-pub begins_with : (b : ℕ) (text : List ℕ) → nat_lt b 128 ≡ true → is_whitespace b ≡ false → nat_eq 58 b ≡ false
+pub begins_with : (b : ℕ) (text : List ℕ) → nat_lt b 128 ≡ true → is_whitespace b ≡ false → nat_eq 58 b
+    ≡ false
     → begins_plainly (b ∷ text) ≡ true
 unfolding kept_start spans_from encode_utf8
 begins_with b text low visible other =
     let first : encode_utf8 b ≡ b ∷ [] = rw low refl in
-    let read : decoded (b ∷ text) ≡ good b 1 = rw first at (decoded-encode b text (grind (arith, nat_tests))) in
+    let read : decoded (b ∷ text) ≡ good b 1 =
+    rw first at (decoded-encode b text (grind (arith, nat_tests))) in
     let unmarked : nat_eq 0xEF b ≡ false = grind (arith, nat_tests) in
     rw (unmarked, pieces-step (b ∷ text) (omega arith), read, visible, other) refl
 

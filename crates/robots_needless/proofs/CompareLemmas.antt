@@ -132,7 +132,8 @@ pub only_near : (near others : List PlacedRule) (rule : PlacedRule) → AddsNear
     → (outcome : Outcome) → IsOutcome near rule outcome → IsOutcome others rule outcome
 only_near near others rule are (outcomes.Goes reason) goes =
     let among : (x : PlacedRule) → Contains near x → Contains others x =
-    λ x has. elim (are.among x has) [ inl (k, below, at) ↦ absurd (omega arith) | inr other ↦ other ] in record {
+    λ x has. elim (are.among x has) [ inl (k, below, at) ↦ absurd (omega arith) | inr other ↦ other ] in
+    record {
       same = λ text. near_decide near others rule among are.only text goes.same;
       holds = reason_among near others among rule reason goes.holds;
     }

@@ -2,7 +2,8 @@
 use Rattle.std.proofs.Common.{◌≡◌, ◌≢◌, ℕ, zero, suc, ◌+◌, ◌<◌, ◌==◌, true, false, List, [], ◌∷◌}
 use Rattle.std.proofs.Common.{◌++◌, ◌∙◌, Option, Some, None, Bor, IfErr, Result, Ok, Err, length, map, refl}
 use Rattle.std.proofs.Common.{◌&&◌, Bool, arith, append_assoc, drop, if◌then◌else◌, slice_index_or, take}
-use Rattle.std.specs.{Io.BufRead.strip_last, List.list_all, Str.is_utf8, Option.IsSomeAnd, Option.option_map, Result.IsErrAnd}
+use Rattle.std.specs.{Io.BufRead.strip_last, List.list_all, Str.is_utf8, Option.IsSomeAnd}
+use Rattle.std.specs.{Option.option_map, Result.IsErrAnd}
 use Rattle.std.proofs.lemmas.{Bool.ne_eqb, List.append-nil, List.drop_more}
 use Rattle.printable_text.specs.{Lines.lf}
 use Rattle.robots_verdict.specs.declared.fault.Fault.{Fault}

@@ -147,8 +147,8 @@ lets_in lines = list_any (λ name. is_let_in lines name.now) SEARCH_ENGINES
 abbrev pub is_major : (let_in : Bool) → List LineValue → List ℕ → Bool
 is_major let_in lines agent = is_engine agent || (not let_in && is_any lines agent)
 
--- the line that is reported. One that closes the home page alone is reported only for search engines, `*`, and
--- crawlers that aren't named
+-- the line that is reported. One that closes the home page alone is reported only for search engines, `*`,
+-- and crawlers that aren't named
 abbrev pub line_reported : Part → List LineValue → List ℕ → Option ℕ
 line_reported Home lines agent =
     if is_some (line_closing_site lines agent) || not (is_major false lines agent) then None

@@ -1,6 +1,7 @@
 -- The lines within the size limit of a file.
 use Rattle.std.specs.Prelude.{ℕ, ◌==◌, Bool, true, ◌||◌, ◌&&◌, List, [], ◌∷◌, if◌then◌else◌, map}
-use Rattle.texting_robots.specs.Callers.{LineValue, Label, bodies_read, group_name, is_own, labels_of, lines_read}
+use Rattle.texting_robots.specs.Callers.{LineValue, Label, bodies_read, group_name, is_own, labels_of}
+use Rattle.texting_robots.specs.Callers.{lines_read}
 use Rattle.texting_robots.specs.{declared.labels.Membership.Membership}
 
 abbrev pub space : ℕ

@@ -70,8 +70,8 @@ abbrev pub file_lines_warnings : FileFacts → Bool → List Label → List Warn
 file_lines_warnings facts all_groups labels =
     if suppresses_line_warnings facts then [] else lines_warnings facts.has_cut_line all_groups labels
 
--- `last` is the number of the file's last rule or delay, `preceding` is what precedes the first of these lines,
--- and `above` and `delay` are the only name and the first delay of the group above it
+-- `last` is the number of the file's last rule or delay, `preceding` is what precedes the first of these
+-- lines, and `above` and `delay` are the only name and the first delay of the group above it
 abbrev pub positions_from : Option ℕ → Preceding → Option (List ℕ) → Option ℕ → List Label
     → List WarningValue
 positions_from last preceding above delay [] = []
@@ -212,8 +212,8 @@ general_warnings facts agents urls lines labels =
     warned None None (file_checks facts)
     ++ (site_warnings agents lines labels ++ flat_map url_warnings urls)
 
--- all warnings. If `all_groups` is false, in a report on a single crawler, other groups' rules aren't checked;
--- `agents` are the crawlers reported on, and `lines` the file's
+-- all warnings. If `all_groups` is false, in a report on a single crawler, other groups' rules aren't
+-- checked; `agents` are the crawlers reported on, and `lines` the file's
 abbrev pub warnings : (all_groups : Bool) → (agents urls : List (List ℕ)) → List ℕ → FileFacts
     → List Label → List LineValue → List WarningValue
 warnings all_groups agents urls file facts labels lines =

@@ -22,7 +22,8 @@ returns-clause-ok c =
     let lines = file_lines read.site in
     let (sitemaps, are, added) = c.in_ok-warn_of_sitemaps.ensures.ok in
     let found = c.in_ok-found.ensures
-    ∙ ap (λ urls. warnings c.is_none-all_groups.result given (map (λ url. url.now) urls) read.bytes.now read.facts labels lines)
+    ∙ ap (λ urls. warnings c.is_none-all_groups.result given (map (λ url. url.now) urls) read.bytes.now
+    read.facts labels lines)
     c.deref.ensures.value
     ∙ ap (λ all_groups. warnings all_groups given asked.urls read.bytes.now read.facts labels lines)
     (mapped (λ agent. agent.now) c.args.request.now.agent _ c.is_none-all_groups.ensures) in

@@ -6,7 +6,8 @@ pub returns-clause-ok : goal.returns-clause-ok
 returns-clause-ok c =
     let read = c.requires.read in
     let labels = c.requires.labels in
-    let names = rw (c.deref.ensures.value, c.deref-2.ensures.value, read.lines_are) at c.in_ok-names.ensures in
+    let names = rw (c.deref.ensures.value, c.deref-2.ensures.value, read.lines_are) at c.in_ok-names.ensures
+    in
     let (sitemaps, are, found) = c.in_ok-warnings.ensures.ok in
     let all = rw (
       c.deref-5.ensures.value,

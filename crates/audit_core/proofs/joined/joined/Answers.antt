@@ -13,6 +13,7 @@ loop-warning-preserved c =
       met = λ number. met_next warnings at _ number _ _ below (so_far.met number)
           (rw c.warning-item.is at (c.in_ok-is_first.ensures.met number));
       found = placed_next is_first warnings at _ _ c.loop-warning.found.items _ _ below
-          (first_is (take at warnings) item _ _ (so_far.met _) (rw c.warning-item.is at c.in_ok-is_first.ensures.first))
+          (first_is (take at warnings) item _ _ (so_far.met _)
+          (rw c.warning-item.is at c.in_ok-is_first.ensures.first))
           (rw c.warning-item.is at c.in_ok-push_if.ensures) so_far.found;
     }

@@ -22,7 +22,8 @@ returns-then-branch-clause-ok c =
 pub returns-clause-ok : goal.returns-clause-ok
 returns-clause-ok c =
     let read = c.args.read.now in
-    let not_closed_here : is_some (line_closing_site (file_lines read.site) (codes "*")) ≡ false = search rules in
+    let not_closed_here : is_some (line_closing_site (file_lines read.site) (codes "*")) ≡ false =
+    search rules in
     let not_closed = rw c.requires.read.site_is at not_closed_here in
     let star = rw c.in-Accepted.is at c.requires.star in
     all_asked read.bytes.now (map label_by_value read.labels.items) c.in-Accepted.robot _ _ star

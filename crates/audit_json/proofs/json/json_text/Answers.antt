@@ -13,7 +13,8 @@ pub returns : goal.returns
 returns c = record {
   warnings = c.in_ok-found.found.items;
   are = c.in_ok-found.ensures
-      ∙ ap (map warning_found) (c.deref.ensures.value ∙ ap (λ (audit : AuditValue). audit.warnings) c.audit.view_is);
+      ∙ ap (map warning_found)
+      (c.deref.ensures.value ∙ ap (λ (audit : AuditValue). audit.warnings) c.audit.view_is);
   text_is = c.in_ok-json_line.ensures ∙ ap json_line (c.in_ok-audit_json.ensures
       ∙ ap (audit_json c.args.has_rows c.args.audit.now) c.deref-2.ensures.value);
 }

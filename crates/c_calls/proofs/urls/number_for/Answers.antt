@@ -10,5 +10,6 @@ number_of-requires c =
 
 pub returns-clause-number : goal.returns-clause-number
 returns-clause-number c =
-    written_says c.args.robot.now.rules (prepared c.args.url.now) _ _ c.requires c.in_ok-decision.ensures.verdict
+    written_says c.args.robot.now.rules (prepared c.args.url.now) _ _ c.requires
+    c.in_ok-decision.ensures.verdict
     c.in_ok-decision.ensures.line _ c.number_of.ensures (search rules)

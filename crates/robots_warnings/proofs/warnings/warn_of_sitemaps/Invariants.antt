@@ -7,4 +7,5 @@ abbrev pub invariant-loop-labeled : goal.invariant-loop-labeled
 invariant-loop-labeled l =
     l.found.items
     ≡ l.fn.found.items
-    ++ flat_map (sitemap_warning (map label_by_value l.labels)) (map label_by_value (take l.labeled-index l.labels))
+    ++ flat_map (sitemap_warning (map label_by_value l.labels))
+    (map label_by_value (take l.labeled-index l.labels))
