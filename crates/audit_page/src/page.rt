@@ -26,7 +26,7 @@ use style::{CSS, POLICY};
 use verdicts::{write_crawler_entries, write_verdict_part};
 use warnings::write_warning_entry;
 
-/// Of a report on this crawler, or else on so many.
+/// The title of a report on this crawler, or on so many if it isn't about one.
 #[derive(Clone, Copy)]
 struct Title<'a>(Option<&'a str>, usize);
 
@@ -40,7 +40,7 @@ impl<'a> fmt::Display for Title<'a> {
     }
 }
 
-/// Else the file was probably put in its place by mistake, so what it opens isn't marked as good.
+/// Whether the file looks like a robots.txt file. If it doesn't, what it allows isn't marked as good.
 fn is_robots_file(audit: &Audit<'_>) -> bool {
     has_directive(&audit.labels)
         && !audit.warnings.iter().any(|found| matches!(
@@ -123,7 +123,7 @@ fn write_summary(
     page.html.close()
 }
 
-/// The page always has the lines of the file, to which its parts link.
+/// A page always shows the file's lines, since its other parts link to them.
 pub fn page_text(
     alloc: Global,
     request: &Request<'_>,
