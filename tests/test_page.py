@@ -266,8 +266,8 @@ def test_page_about_all_crawlers():
     rows = [["Crawler", "Group", "Rules", "Crawl delay", "May fetch", *URLS]]
     for it in found["agents"]:
         verdicts = [one["url"] + verdict(one) for one in it["verdicts"]]
-        still_open = STILL_OPEN if it["ignored_by"] else ""
-        rows.append([it["agent"], f"{it['agent']}, line {it['group_line']}{still_open}", str(it["rules"]), delay(it["delay"]), it["may_fetch"].replace("by-rules", "what its rules allow"), *verdicts])
+        still_open = STILL_OPEN if it["group"]["ignored_by"] else ""
+        rows.append([it["agent"], f"{it['agent']}, line {it['group']['line']}{still_open}", str(it["rules"]), delay(it["delay"]), it["may_fetch"].replace("by-rules", "what its rules allow"), *verdicts])
     assert [row[4] for row in rows] == ["May fetch", "what its rules allow", "nothing"]
     assert [cells for _, cells in children(elements, "tr")][: len(rows)] == rows
     assert [row for row in children(elements, "tr") if row[0]] == rows_of({**audit("--agent=*", "-"), "warnings": found["warnings"]})

@@ -105,8 +105,8 @@ verdict_whole verdict = rw (number_whole verdict.decision.line) refl
 agent_whole : (agent : AgentValue) → has_float (agent_json agent) ≡ false
 agent_whole agent = rw (
   number_whole agent.delay,
-  number_whole agent.group_line,
   list_whole string (λ text. refl) agent.ignored_by,
+  number_whole agent.group_line,
   word_whole (may_fetch agent.rejected agent.vendor agent.reach),
   number_whole agent.rejected,
   list_whole verdict_json verdict_whole agent.verdicts,

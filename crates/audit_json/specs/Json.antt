@@ -60,22 +60,26 @@ abbrev pub word_json : Option (List ℕ) → Data
 word_json None = null
 word_json (Some word) = string word
 
--- the crawler, its delay in microseconds, the group that applies to it, the first line that names it and who
--- ignores it, what the crawler may fetch, the line for which the file is rejected, how many rules apply,
--- which group its vendor applies, and the verdicts
+-- the known crawlers that ignore the group that applies, of what kind it is, and the first line that names it
+abbrev pub group_json : AgentValue → Data
+group_json agent = object
+    (member (codes "ignored_by") (list_json string agent.ignored_by)
+    (member (codes "kind") (string (group_word agent.group))
+    (member (codes "line") (number_json agent.group_line) no_members)))
+
+-- the crawler, its delay in microseconds, its group, what it may fetch, the line for which the file is
+-- rejected, how many rules apply, which group its vendor applies, and the verdicts
 abbrev pub agent_json : AgentValue → Data
 agent_json agent = object
     (member (codes "agent") (sanitized_json agent.agent)
     (member (codes "delay") (number_json agent.delay)
-    (member (codes "group") (string (group_word agent.group))
-    (member (codes "group_line") (number_json agent.group_line)
-    (member (codes "ignored_by") (list_json string agent.ignored_by)
+    (member (codes "group") (group_json agent)
     (member (codes "may_fetch")
     (word_json (may_fetch agent.rejected agent.vendor agent.reach))
     (member (codes "rejected") (number_json agent.rejected)
     (member (codes "rules") (count_json agent.rules)
     (member (codes "vendor") (string (vendor_word agent.vendor))
-    (member (codes "verdicts") (list_json verdict_json agent.verdicts) no_members))))))))))
+    (member (codes "verdicts") (list_json verdict_json agent.verdicts) no_members))))))))
 
 -- a delay in microseconds; for other lines the sanitized value; null if there is no value
 abbrev pub value_json : LineValue → Data

@@ -1,12 +1,12 @@
 //! The audit, or other findings, as one line of JSON.
 ghost use Rattle.std.specs.Prelude.{◌≡◌, false, IfOk, map, option_map, string_bytes};
-ghost use Rattle.serde_json.specs.{View.view, Written.has_float};
+ghost use Rattle.serde_json.specs.{Data.string, View.view, Written.has_float};
 ghost use Rattle.texting_robots.specs.Callers.{by_value, label_by_value, sitemaps_in};
 ghost use Rattle.audit_core.specs.Texts.{may_fetch};
 ghost use Rattle.audit_json.specs.Json.{IsJson, agent_json, audit_json, error_json, findings_json};
-ghost use Rattle.audit_json.specs.Json.{findings_text, group_word, json_line, known_json, line_json};
-ghost use Rattle.audit_json.specs.Json.{list_json, number_json, rows_json, sanitized_json, text_json};
-ghost use Rattle.audit_json.specs.Json.{value_json, vendor_word, word_json};
+ghost use Rattle.audit_json.specs.Json.{findings_text, group_json, group_word, json_line, known_json};
+ghost use Rattle.audit_json.specs.Json.{line_json, list_json, number_json, rows_json, sanitized_json};
+ghost use Rattle.audit_json.specs.Json.{text_json, value_json, vendor_word, word_json};
 ghost use Rattle.robots_warnings.specs.File.{lines_of};
 
 use audit_core::audit::{AgentAudit, Audit, Verdict};
@@ -124,14 +124,24 @@ fn fetch_json(alloc: Global, audit: &AgentAudit<'_>) -> Result<Value, AllocError
     word_json(alloc, may_fetch(audit.rejected, audit.vendor, audit.reach))
 }
 
-impl Json for &'static str {
-    ghost use Rattle.serde_json.specs.Data.{string};
-
-    ghost json = { λ text. string text.now };
-
-    fn json(&self, alloc: Global) -> Result<Value, AllocError> {
-        Ok(Value::String(String::from_str(alloc, self)?))
+fn names_json(alloc: Global, names: &[&'static str]) -> Result<Value, AllocError>
+    ensures { IfOk result (λ value. view value ≡ list_json string (map (λ name. name.now) names.now)) }
+{
+    let mut list = Vec::with_capacity(alloc, names.len())?;
+    for name in names {
+        list.push(Value::String(String::from_str(alloc, name)?))?;
     }
+    Ok(Value::Array(list))
+}
+
+fn group_json(alloc: Global, audit: &AgentAudit<'_>) -> Result<Value, AllocError>
+    ensures { IfOk result (λ value. view value ≡ group_json audit.now) }
+{
+    json!(in alloc; {
+        "ignored_by": names_json(alloc, &audit.ignored_by)?,
+        "kind": group_word(audit.group),
+        "line": line_number(audit.group_line),
+    })
 }
 
 impl<'a> Json for AgentAudit<'a> {
@@ -143,9 +153,7 @@ impl<'a> Json for AgentAudit<'a> {
         json!(in alloc; {
             "agent": sanitized_json(alloc, self.agent.as_bytes())?,
             "delay": delay_json(self.delay),
-            "group": group_word(self.group),
-            "group_line": line_number(self.group_line),
-            "ignored_by": list_json(alloc, &self.ignored_by)?,
+            "group": group_json(alloc, self)?,
             "may_fetch": fetch_json(alloc, self)?,
             "rejected": line_number(self.rejected),
             "rules": self.rules,

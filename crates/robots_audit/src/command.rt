@@ -40,7 +40,7 @@ Exit status, the first that applies; without --strict, warnings change nothing, 
   2  if the program couldn't do its work, or the file is rejected for a crawler
   3  if a warning at the level of --strict is reported: mend the file before you trust verdicts
   1  if a URL is denied, an expectation fails or something differs
-  0  otherwise, also for an HTML page or an empty file, except with --strict=error or --strict
+  0  otherwise, also for an HTML page or an empty file; --strict makes both 3
 
 Examples:
   robots_audit robots.txt
