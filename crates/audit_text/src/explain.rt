@@ -4,7 +4,7 @@ ghost use Rattle.robots_warnings.specs.Table.{is_name};
 ghost use Rattle.audit_core.specs.Answer.{IsText};
 ghost use Rattle.audit_text.specs.Explain.{IsUnexplained};
 
-use crate::proved::{Named, theorems};
+use crate::proved::theorems;
 use audit_core::answer::{Answer, text_answer};
 use audit_core::error::{Error, unknown};
 use printable_text::report::Report;
@@ -47,10 +47,20 @@ fn write_explained(out: &mut Report, cause: Cause) -> fmt::Result {
     Ok(())
 }
 
-fn write_texts(out: &mut Report, label: &str, name: &str, rows: &[Named]) -> fmt::Result {
-    for (of, text) in rows {
-        if *of == name && !text.is_empty() {
-            write!(out, "{label}: {text}")?;
+fn write_given(out: &mut Report, cause: Cause) -> fmt::Result {
+    for (own, text) in conditions() {
+        if *own as usize == cause as usize && !text.is_empty() {
+            write!(out, "given: {text}")?;
+            out.end_line()?;
+        }
+    }
+    Ok(())
+}
+
+fn write_proved(out: &mut Report, name: &str) -> fmt::Result {
+    for (of, text) in theorems() {
+        if *of == name {
+            write!(out, "proved: {text}")?;
             out.end_line()?;
         }
     }
@@ -58,13 +68,18 @@ fn write_texts(out: &mut Report, label: &str, name: &str, rows: &[Named]) -> fmt
 }
 
 fn write_explanation(alloc: Global, out: &mut Report, name: &str) -> fmt::Result {
-    for cause in &causes(alloc)? {
+    let all = causes(alloc)?;
+    for cause in &all {
         if cause.name() == name {
             write_explained(out, *cause)?;
         }
     }
-    write_texts(out, "given", name, conditions())?;
-    write_texts(out, "proved", name, theorems())
+    for cause in &all {
+        if cause.name() == name {
+            write_given(out, *cause)?;
+        }
+    }
+    write_proved(out, name)
 }
 
 /// The list of all warnings as the answer.

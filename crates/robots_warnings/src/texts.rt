@@ -27,7 +27,7 @@ macro_rules! corrections {
 macro_rules! conditions {
     ($($cause:ident $level:ident $name:literal
         $message:literal $example:literal $correction:literal $text:literal,)*) => {
-        [$(($name, $text)),*]
+        [$((Cause::$cause, $text)),*]
     };
 }
 
@@ -37,14 +37,14 @@ pub(crate) static EXAMPLES: [(Cause, &str); COUNT] = every_row!(examples);
 
 static CORRECTIONS: [(Cause, &str); COUNT] = every_row!(corrections);
 
-static CONDITIONS: [(&str, &str); COUNT] = every_row!(conditions);
+static CONDITIONS: [(Cause, &str); COUNT] = every_row!(conditions);
 
 /// The examples without the warnings, or nothing.
 pub fn corrections() -> &'static [(Cause, &'static str)] {
     &CORRECTIONS
 }
 
-/// When the warnings with a name are given, or nothing.
-pub fn conditions() -> &'static [(&'static str, &'static str)] {
+/// When the warnings are given, or nothing: the first warning of a name says it for all of that name.
+pub fn conditions() -> &'static [(Cause, &'static str)] {
     &CONDITIONS
 }
