@@ -30,10 +30,10 @@ use types.Kit.{use2, assume, fpick}
 use types.Run.{Opds, Rv}
 use types.ByLocal.{at}
 use denote.Builtin.{i32}
-use denote.Theorems.{Are, Is, Ises, Typed, owns_show, shows, showss}
+use denote.Laws.{Are, Is, Ises, Typed, owns_show, shows, showss}
 use denote.Memory.{hidden_shr, shared_of}
 use denote.Param.{layout}
-use denote.Param.Theorems.{param_laws, Theorems}
+use denote.Param.Laws.{param_laws, Laws}
 use denote.RattleType.{RattleType}
 use denote.RawPtr.{block_ptr, in_a_block, rawptr_Lawful, null_ptr}
 use denote.Ref.{ShrRef}
@@ -372,7 +372,7 @@ CanBeLent {𝓤 = 𝓤} 𝓛 R P at =
     𝓛.H.⇛ (ex 𝓤 (λ (x : R.Denot). guard 𝓤 (P x) (ex 𝓤 (Lent 𝓛 R at x))))
 
 module _ {M : Type 1} {𝓤 : Ura M} (𝓛 : Logic 𝓤) where
-  module _ (R : RattleType) (L : Theorems R) (static : R.lives ≡ []) where
+  module _ (R : RattleType) (L : Laws R) (static : R.lives ≡ []) where
     closable : (at : Ptr) (x : R.Denot) → ent 𝓤 (sem 𝓛 (owned_at R at x)) (sem 𝓛 (owned_or_null R at x))
     closable (block_ptr b o) x = id⊢ 𝓤 _
     closable null_ptr x = qed 𝓛 (‵ (owned_at R null_ptr x) ∷ []) ∵ fsplit ! $ move ! (1 ∷ []) $ drop ! $
@@ -411,7 +411,7 @@ LentToTwoCalls {𝓤 = 𝓤} 𝓛 R = (at : Ptr) (x : R.Denot) (κ : Lft) (q : S
     ent 𝓤 (one q) (sep 𝓤 (one l) (sep 𝓤 (one r) (wand 𝓤 (sep 𝓤 (token l) (token r)) (token q))))
 
 module _ {M : Type 1} {𝓤 : Ura M} (𝓛 : Logic 𝓤) where
-  lent_twice : (R : RattleType) → Theorems R → LentToTwoCalls 𝓛 R
+  lent_twice : (R : RattleType) → Laws R → LentToTwoCalls 𝓛 R
   unfolding kept.lends
   lent_twice R L at x κ q = let l = ‵ (flft κ (Share.left q)) in let r = ‵ (flft κ (Share.right q)) in
       qed 𝓛 (‵ (kept.lends R at (κ, q, x)) ∷ []) ∵ fsplit ! $

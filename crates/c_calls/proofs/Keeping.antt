@@ -29,7 +29,7 @@ use types.Kit.{fsplit3, join, now, pick, prop, show, suffices, updating, use2, r
 use contract.Monad.{fact_use, fact}
 use denote.RattleType.{RattleType, Valss}
 use denote.Builtin.{RawPtr, i32, unit}
-use denote.Theorems.{Is, shows}
+use denote.Laws.{Is, shows}
 use denote.Memory.{lone, cell_at, mem}
 use denote.RawPtr.{Ptr, Testable, ptr_val}
 use denote.Steps.{nothing, peeks, closes, heard, only, opens, owned}
@@ -53,7 +53,7 @@ use Rattle.c_calls.proofs.Borrowing.{CallGives, Exit, Good, Returns, Word, are_v
 use Rattle.c_calls.proofs.Borrowing.{values, 𝓣}
 use denote.Exit.{no}
 use denote.Param.{arg, layout}
-use denote.Param.Theorems.{Theorems, arg_laws}
+use denote.Param.Laws.{Laws, arg_laws}
 use Rattle.std_alloc.proofs.BoxSteps.Form as box
 use Rattle.std.specs.contracts.impls.GlobalAllocator.TheImpl as TheImpl
 use Rattle.std.specs.contracts.alloc.Global as Global
@@ -73,7 +73,7 @@ handle_word b o h = vstruct (vcons (vptr b o) (vcons h vnil))
 abbrev heap_row : RattleType
 heap_row = arg (bare (layout Global.the_row)) no Global.the_row
 
-abbrev pub heap_box : (T : RattleType) → Theorems T → box.Bx
+abbrev pub heap_box : (T : RattleType) → Laws T → box.Bx
 heap_box T L = record {
   row = T;
   laws = L;
