@@ -34,7 +34,7 @@ def found_in(lines):
 def verdicts_on(lines):
     """Of each crawler, the group and whether each URL is allowed."""
     agents = report_on("\n".join(lines).encode())["agents"]
-    return [(agent["group"], [verdict["allowed"] for verdict in agent["verdicts"]]) for agent in agents]
+    return [(agent["group"]["kind"], [verdict["allowed"] for verdict in agent["verdicts"]]) for agent in agents]
 
 
 @pytest.mark.parametrize("seed", range(40))
