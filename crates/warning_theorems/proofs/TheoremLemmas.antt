@@ -20,7 +20,7 @@ use Rattle.robots_needless.proofs.{SettledLemmas.nothing_found}
 use Rattle.audit_core.specs.Audit.{AgentValue, AreOfSitemaps, AuditValue, IsAgentAudit, IsAuditOf, IsRuling}
 use Rattle.audit_core.specs.Audit.{IsVerdictOn, VerdictValue, agents_requested, at_vendor, group_of}
 use Rattle.robots_warnings.specs.Crawlers.{other_group}
-use Rattle.audit_core.specs.Audit.{labels_requested, naming_line, sitemap_warning}
+use Rattle.audit_core.specs.Audit.{ignored_by, labels_requested, naming_line, sitemap_warning}
 use Rattle.audit_core.specs.Audit.{sitemaps_asked, warnings_requested}
 use Rattle.audit_core.specs.{Request.RequestValue, Target.asked_target}
 use Rattle.std.specs.{List.All, List.AllByRecursion as Each, List.AllZip, Bool.Decides}
@@ -246,6 +246,7 @@ some_agent urls lines agent =
         reach = Part;
         allows = [];
         vendor = at_vendor (other_group lines agent);
+        ignored_by = ignored_by lines agent;
         delay = delay_for agent lines;
         rejected = rejected;
         verdicts = verdicts;
