@@ -7,7 +7,8 @@ from typing import Final, NamedTuple
 from . import OverlongRuleError, Robots, TooCostlyError
 
 COST_LIMIT: Final = 20_000_000
-"""A verdict may take so many comparisons. A file whose rules could take more is asked with this budget."""
+"""A verdict on a URL of 2,000 bytes may take so many comparisons. A file whose rules could take more is asked with this budget, for a URL of
+any length; on another file a longer URL may take more."""
 
 _URL_LENGTH: Final = 2000
 _NAMES_KEPT: Final = 1000
