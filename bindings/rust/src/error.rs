@@ -6,15 +6,15 @@ use texting_robots_c_sys as sys;
 #[derive(Debug, Clone, Copy, PartialEq, Eq)]
 #[non_exhaustive]
 pub enum Error {
-    /// A rule for this crawler contains `$` and has more than 4,096 bytes, so the file can't be used for it. What that
-    /// means is the crawler's policy.
+    /// A rule for this crawler contains `$` and has more than 4,096 bytes when escaped, each run of stars counted as one,
+    /// so the file can't be used for it. What that means is the crawler's policy.
     OverlongRule {
         /// The number of the first line with such a rule, counted from 1.
         line: usize,
     },
     /// A query gave up, since it might have cost more than its budget.
     TooCostly,
-    /// An allocation failed, or a URL has 4 GiB or more.
+    /// An allocation failed, or a URL, escaped, has 4 GiB or more.
     OutOfMemory,
     /// The text isn't a URL of http or https with a host, so it has no robots.txt file.
     NoAddress,

@@ -24,7 +24,7 @@ class _Parked:
 
 
 class Parking:
-    """Holds requests outside of the downloader, whose limits don't count them, and lets no spider be closed for want of others.
+    """Holds requests outside of the downloader, whose limits don't count them, and keeps the spider open meanwhile.
 
     At most ``most`` requests wait, each for at most ``seconds``. ``ask`` is called with an address and a request when it is time to ask for
     the file again; its caller passes the outcome to ``known``.

@@ -54,7 +54,8 @@ class RobotsError(Exception):
 class OverlongRuleError(RobotsError):
     """A rule for this crawler is too long, so the file can't be used for it. What that means is the crawler's policy.
 
-    Such a rule contains ``$`` and has more than 4,096 bytes. ``line`` is the number of the first such line, counted from 1.
+    Such a rule contains ``$`` and has more than 4,096 bytes when escaped, each run of stars counted as one. ``line`` is the number of the
+    first such line, counted from 1.
     """
 
     def __init__(self, line: int) -> None:
@@ -91,7 +92,7 @@ class Verdict(NamedTuple):
 
 
 def product_token(user_agent: str) -> str:
-    """The name at the front of a User-Agent, after any spaces and up to its version or a space, or ``*`` if there is none.
+    """The name at the front of a User-Agent, after any spaces and up to a space or one of ``/(),;:``, or ``*`` if there is none.
 
     >>> product_token("GPTBot/1.2 (+https://openai.com/gptbot)")
     'GPTBot'
@@ -231,7 +232,7 @@ class Robot:
 
 
 class Robots:
-    """A robots.txt file, which is parsed for the first crawler alone, and from the second one on once for all.
+    """A robots.txt file. When one crawler is asked about, it is parsed for that one alone, and from a second one on once for all.
 
     ``body`` is the file: preferably its bytes as received, which needn't be UTF-8, in a ``bytes`` or any other buffer, which is copied. A
     ``str`` is encoded as UTF-8; what ``surrogateescape`` made of other bytes becomes these again. A ``url`` is a whole URL, or a path. An

@@ -74,8 +74,8 @@ class RobotsMiddleware:
     """Ignores requests that a robots.txt file denies, and waits between two requests to a site as long as it asks for.
 
     A site is a scheme with a host and a port. Its robots.txt file is fetched before anything else, by one request for all that wait for
-    it. What the answer means is in RFC 9309: without a file (400 to 499, or a sixth redirect) everything is allowed; if the server fails
-    (429, 500 to 599, half a file, no answer) the file that it gave before counts, or without one nothing may be fetched. Scrapy's own
+    it. What the answer means follows RFC 9309: without a file (400 to 499 but 429, or a sixth redirect) everything is allowed; if the server
+    fails (429, 500 to 599, half a file, no answer) the file that it gave before counts, or without one nothing may be fetched. Scrapy's own
     middleware then fetches everything.
 
     So in an outage requests to the site wait, and go on when its file can be fetched. The spider stays open meanwhile; when it is closed,
