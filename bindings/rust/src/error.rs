@@ -6,8 +6,8 @@ use texting_robots_c_sys as sys;
 #[derive(Debug, Clone, Copy, PartialEq, Eq)]
 #[non_exhaustive]
 pub enum Error {
-    /// A rule for this crawler contains `$` and has more than 4,096 bytes when escaped, each run of stars counted as one,
-    /// so the file can't be used for it. What that means is the crawler's policy.
+    /// A rule for this crawler contains `$` and has more than 4,096 bytes when escaped, each run of stars counted as
+    /// one, so the file can't be used for it. What that means is the crawler's policy.
     OverlongRule {
         /// The number of the first line with such a rule, counted from 1.
         line: usize,
