@@ -38,7 +38,8 @@ class RobotFileParser(UrllibParser):
         """Fetches the file, of which the first 512,000 bytes count. Without one, after a status 4xx, everything is allowed, but after 401
         or 403, as in urllib, denied. After 429 or 5xx, and after an error, it is as before: if no file was read yet, everything is denied.
 
-        It raises an OSError or an HTTPException if there is no response, or a body that is cut or compressed.
+        It raises an OSError or an HTTPException if there is no response, or a body that is cut or compressed. As in urllib, up to ten redirects
+        are followed, and no timeout holds but that of `socket.setdefaulttimeout`.
         """
         try:
             response = urllib.request.urlopen(self.url)
