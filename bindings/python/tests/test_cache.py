@@ -436,6 +436,16 @@ def test_a_file_that_takes_too_long(caches):
     assert cache.decide(fetched(cache, A, file(body))[0], "http://a.example/" + "a" * 2000, "x").allowed
 
 
+def test_a_long_url_that_takes_too_long(caches):
+    """One rule with a star takes twice the length of the URL at most."""
+    cache = caches(cost_limit=100_000)
+    site, _ = fetched(cache, A, file(b"User-agent: *\nDisallow: /*a*b\n"))
+    assert cache.decide(site, "http://a.example/" + "a" * 2_000, "x").allowed
+    assert cache.decide(site, "http://a.example/" + "a" * 60_000, "x") == (False, None, "a verdict may take too long")
+    assert cache.decide(site, "http://a.example/" + "\u20ac" * 5_500, "x").allowed  # 49,500 bytes, escaped
+    assert cache.decide(site, "http://a.example/" + "\u20ac" * 6_000, "x").problem == "a verdict may take too long"
+
+
 def test_without_memory(caches, monkeypatch):
     """A file that can't be parsed can't be reached, and what can't be decided is denied."""
     cache = caches()

@@ -7,10 +7,12 @@ from typing import Final, NamedTuple
 from . import OverlongRuleError, Robots, TooCostlyError
 
 COST_LIMIT: Final = 20_000_000
-"""A verdict on a URL of 2,000 bytes may take so many comparisons. A file whose rules could take more is asked with this budget, for a URL of
-any length; on another file a longer URL may take more."""
+"""A verdict may take so many comparisons. One that could take more is asked for with this budget."""
 
 _URL_LENGTH: Final = 2000
+_URL_CHARACTERS: Final = _URL_LENGTH // 12
+"""A character is at most four bytes, which are twelve when escaped. So the cost for `_URL_LENGTH` bounds that of so many characters."""
+
 _NAMES_KEPT: Final = 1000
 
 
@@ -39,7 +41,7 @@ class Rules:
     def decide(self, url: str, token: str) -> Decision:
         """Whether the crawler with this product token may fetch the URL."""
         try:
-            if self._is_costly(token):
+            if self._is_costly(token) or len(url) > _URL_CHARACTERS:
                 return Decision(*self._robots.verdict_within(url, token, self._limit))
             return Decision(*self._robots.verdict(url, token))
         except OverlongRuleError as error:

@@ -142,8 +142,7 @@ class RobotsCache:
 
     It takes about ``budget`` bytes of memory: a quarter for the parsed files that were used last, and the rest for all files, compressed.
     Where that doesn't suffice, the file that wasn't used for the longest time goes, and is fetched again; unless ``database`` names a sqlite3
-    file, in which all of them are kept, also for the next start. A verdict on a URL of 2,000 bytes takes at most
-    ``cost_limit`` comparisons; on a longer one it may take more.
+    file, in which all of them are kept, also for the next start. A verdict takes at most ``cost_limit`` comparisons.
 
     ``count`` is called with the name of an event: ``parsed`` again from compressed bytes, ``evicted`` from memory, ``read`` from the
     database, ``stale`` for a file that counts on, ``not_modified``. ``found`` is called with an address and its sitemaps, once a file has

@@ -94,8 +94,8 @@ class RobotsMiddleware:
     - ``TEXTING_ROBOTS_BUDGET = 100_000_000``: so much memory in bytes is taken for files, which are kept compressed (some 1,000 bytes for a
       usual file), and a quarter of it for those that are parsed. A file for which there is no room is fetched again.
     - ``TEXTING_ROBOTS_DATABASE = ""``: the path of a sqlite3 file, in which all files are kept, also for the next start.
-    - ``TEXTING_ROBOTS_COST = 20_000_000``: a file that could take more comparisons for a URL of 2,000 bytes gets a budget of so many, and a
-      URL that might need more is denied, with a warning.
+    - ``TEXTING_ROBOTS_COST = 20_000_000``: so many comparisons may be taken for a verdict. A URL that might need more is denied, with a
+      warning.
     - ``TEXTING_ROBOTS_MAX_DELAY = 60``: a longer delay is cut to so many seconds. 0 keeps no delays.
 
     The delay holds in the downloader's slots, whatever ``DOWNLOAD_DELAY``, ``download_slot`` and AutoThrottle say, which may only make it

@@ -17,8 +17,7 @@ NO_TOKEN = "User-Agent %r: the group of this crawler isn't found in a robots.txt
 
 class RobotParser(ScrapyRobotParser):
     """Parses the file's bytes as received, so that damaged files keep their rules. If a file can't be used, nothing is fetched, nor if an
-    allocation fails. A file that could take more than ``TEXTING_ROBOTS_COST`` comparisons for a URL of 2,000 bytes gets a budget of so many,
-    and a URL that might need more isn't fetched.
+    allocation fails, or if a verdict might take more than ``TEXTING_ROBOTS_COST`` comparisons.
 
     The crawler goes by the product token at the front of its User-Agent. One that begins with ``Mozilla/5.0`` sets
     ``ROBOTSTXT_USER_AGENT`` to its own; otherwise it gets the rules for ``*``, and a warning.
