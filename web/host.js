@@ -1,6 +1,6 @@
 "use strict";
 // A worker that runs the program once for each message. A run has a memory of its own, so it begins as a new process
-// does. Elsewhere a C library has the functions below, which the program calls. Pointers and lengths have 64 bits.
+// does. What the program calls is what it calls of a C library elsewhere. Pointers and lengths have 64 bits.
 
 const MOST = 2 ** 30; // bytes of memory
 const NO_SUCH_FILE = 2; // errno
