@@ -80,7 +80,7 @@ def choose(page, field, *files):
     return ended(page)
 
 
-def until_true(condition, seconds=10):
+def until_true(condition, seconds=60):
     limit = time.monotonic() + seconds
     while not condition():
         assert time.monotonic() < limit
