@@ -80,7 +80,7 @@ def choose(page, field, *files):
     return ended(page)
 
 
-def until_true(condition, seconds=60):
+def until_true(condition, seconds=10):
     limit = time.monotonic() + seconds
     while not condition():
         assert time.monotonic() < limit
