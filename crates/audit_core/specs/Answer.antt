@@ -1,5 +1,5 @@
--- What a run answers, and how its report is written. `old` and `new` are what a writer holds, or `None` if the
--- specification can't observe it: then `Appends` and `Keeps` claim nothing.
+-- What a run answers, and how its report is written. `old` and `new` are what a writer holds, or `None`
+-- if the specification can't observe it: then `Appends` and `Keeps` claim nothing.
 use Rattle.std.specs.Prelude.{◌≡◌, ℕ, true, false, List, [], Option, Result, Ok, Err, IfErr, IfOk}
 use Rattle.std.specs.Prelude.{string_bytes}
 use Rattle.std.specs.Io.KnownBytes.{Appends, Keeps}

@@ -78,7 +78,7 @@ pub fn needless_lines_can_be_deleted()
         → IsUtf8 agent → HaveSameRobot agent (take file_limit file) (take file_limit left) }
 {}
 
-/// A report says that the file has RFC 9309 syntax exactly if it has at most 512,000 bytes, all of which
+/// An audit gives a file RFC 9309 syntax exactly if it has at most 512,000 bytes, all of which
 /// follow the standard's grammar with the extensions of `rfc9309` (`syntax`). Then each crawler for
 /// which it isn't rejected gets the rules, the delay and the sitemaps that it states, where a Crawl-delay
 /// ends a list of user-agent lines (`robot`).

@@ -15,4 +15,5 @@ returns-in_err-parts-clause-rejected c = grind (arith, if_err, read)
 pub returns-in_err-parts-clause-without_memory : goal.returns-in_err-parts-clause-without_memory
 returns-in_err-parts-clause-without_memory c = λ nothing.
     let (rules, sitemaps) = nothing_of c.args.agent.now _ nothing in
-    absurd (false≢true ((rw (read _ _ _ c.min.ensures) at c.in_err-parts.ensures.without_memory) rules sitemaps))
+    absurd (false≢true ((rw (read _ _ _ c.min.ensures) at c.in_err-parts.ensures.without_memory)
+    rules sitemaps))

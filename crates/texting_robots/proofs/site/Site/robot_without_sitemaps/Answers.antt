@@ -14,8 +14,8 @@ returns-clause-robot c =
       robot_of c.args.agent.now c.args.self.now _ (record {
         delay = read_delay _ _ _ c.delay.ensures;
         sitemaps = refl;
-        rules = subst (λ (all : List PlacedRule). IsPermutation all c.sorted.result) c.in_ok-rules.ensures.rules
-            c.sorted.ensures;
+        rules = subst (λ (all : List PlacedRule). IsPermutation all c.sorted.result)
+            c.in_ok-rules.ensures.rules c.sorted.ensures;
         accepted = rw c.in_ok-rules.ensures.rules at none;
       }),
     )
