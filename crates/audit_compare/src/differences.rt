@@ -176,6 +176,21 @@ fn write_vendor(message: &mut Line, compared: &Compared<'_>) -> fmt::Result {
     }
 }
 
+fn write_url_change(
+    message: &mut Line,
+    compared: &Compared<'_>,
+    change: &UrlChange<'_>,
+    name: &str,
+) -> fmt::Result {
+    let (agent, url) = (compared.agent, change.url);
+    let (old, new) = (Decided(change.older), Decided(change.newer));
+    write!(message, "crawler {agent} {url}: {old} -> {new}")?;
+    if change.older.allowed != change.newer.allowed {
+        write!(message, ", {name}")?;
+    }
+    write_vendor(message, compared)
+}
+
 fn add_url(
     alloc: Global,
     found: &mut Findings,
@@ -185,15 +200,9 @@ fn add_url(
     ensures { OnOk result (Adds found.old.items found.new.items (url_change change.now ∷ [])) }
 {
     let (older, newer) = (change.older, change.newer);
-    let (agent, url) = (compared.agent, change.url);
-    let (old, new) = (Decided(older), Decided(newer));
-    let mut message = Line::new(alloc);
-    write!(message, "crawler {agent} {url}: {old} -> {new}")?;
     let name = change_name(older.allowed, newer.allowed);
-    if older.allowed != newer.allowed {
-        write!(message, ", {name}")?;
-    }
-    write_vendor(&mut message, compared)?;
+    let mut message = Line::new(alloc);
+    write_url_change(&mut message, compared, change, name)?;
     let level = if older.allowed && !newer.allowed {
         Level::Warning
     } else {
@@ -261,6 +270,27 @@ fn change_level(newer: Reach, example: &Example) -> Level
     }
 }
 
+/// What the crawler may fetch, if that changes, and a path whose verdict does.
+fn write_verdict_change(
+    message: &mut Line,
+    compared: &Compared<'_>,
+    example: &Example,
+) -> fmt::Result {
+    let (agent, older, newer) = (compared.agent, &compared.older, &compared.newer);
+    write!(message, "crawler {agent}: ")?;
+    if older.reach == newer.reach {
+        write!(message, "verdicts change")?;
+    } else {
+        let was = Fetched(older.reach, &older.allows);
+        let is = Fetched(newer.reach, &newer.allows);
+        write!(message, "may fetch {was} -> {is}")?;
+    }
+    let (old, new) = (Decided(example.older), Decided(example.newer));
+    let path = example.path.as_str();
+    write!(message, ", for example {path}: {old} -> {new}")?;
+    write_vendor(message, compared)
+}
+
 fn add_verdict_change(
     alloc: Global,
     found: &mut Findings,
@@ -270,28 +300,23 @@ fn add_verdict_change(
     ensures { OnOk result (Adds found.old.items found.new.items
         (verdict_change compared.now.newer.reach example.now ∷ [])) }
 {
-    let (agent, older, newer) = (compared.agent, &compared.older, &compared.newer);
-    let (path, line) = (example.path.as_str(), example.newer.line);
-    let (old, new) = (Decided(example.older), Decided(example.newer));
     let mut message = Line::new(alloc);
-    write!(message, "crawler {agent}: ")?;
-    if older.reach == newer.reach {
-        write!(message, "verdicts change")?;
-    } else {
-        let was = Fetched(older.reach, &older.allows);
-        let is = Fetched(newer.reach, &newer.allows);
-        write!(message, "may fetch {was} -> {is}")?;
-    }
-    write!(message, ", for example {path}: {old} -> {new}")?;
-    write_vendor(&mut message, compared)?;
+    write_verdict_change(&mut message, compared, example)?;
+    let level = change_level(compared.newer.reach, example);
     add(
         alloc,
         found,
-        change_level(newer.reach, example),
-        line,
+        level,
+        example.newer.line,
         "verdicts",
         &message,
     )
+}
+
+fn write_same_verdicts(message: &mut Line, compared: &Compared<'_>) -> fmt::Result {
+    let agent = compared.agent;
+    write!(message, "crawler {agent}: no URL's verdict changes")?;
+    write_vendor(message, compared)
 }
 
 /// Adds what becomes of the verdicts of all URLs, if something differs for the crawler.
@@ -306,8 +331,7 @@ fn add_verdicts(alloc: Global, found: &mut Findings, compared: &Compared<'_>) ->
     match &compared.verdicts {
         Verdicts::Other(example) => return add_verdict_change(alloc, found, compared, example),
         Verdicts::Same => {
-            write!(message, "crawler {agent}: no URL's verdict changes")?;
-            write_vendor(&mut message, compared)?;
+            write_same_verdicts(&mut message, compared)?;
             add(alloc, found, Level::Note, None, "same-verdicts", &message)
         }
         Verdicts::Undecided => {

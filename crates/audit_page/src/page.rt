@@ -124,6 +124,29 @@ fn write_summary(
 }
 
 /// A page always shows the file's lines, since its other parts link to them.
+fn write_body(
+    alloc: Global,
+    page: &mut Page,
+    title: Title<'_>,
+    request: &Request<'_>,
+    audit: &Audit<'_>,
+) -> fmt::Result {
+    page.html.open("body", &[])?;
+    if is_robots_file(audit) {
+        page.html.open("main", &[])?;
+    } else {
+        page.html.open("main", &[("class", "mistake")])?;
+    }
+    page.html.open("h1", &[])?;
+    write!(page.html, "{title}")?;
+    page.html.close()?;
+    write_summary(alloc, page, request, audit)?;
+    write_verdict_part(page, request.agent, &request.urls, &audit.agents)?;
+    write_file_table(alloc, page, request.agent, audit)?;
+    page.html.open("footer", &[])?;
+    write!(page.html, "robots_audit {VERSION}")
+}
+
 pub fn page_text(
     alloc: Global,
     request: &Request<'_>,
@@ -135,19 +158,6 @@ pub fn page_text(
     let title = Title(request.agent, audit.agents.len());
     page.html.open("html", &[("lang", "en")])?;
     write_head(&mut page, title)?;
-    page.html.open("body", &[])?;
-    if is_robots_file(audit) {
-        page.html.open("main", &[])?;
-    } else {
-        page.html.open("main", &[("class", "mistake")])?;
-    }
-    page.html.open("h1", &[])?;
-    write!(page.html, "{title}")?;
-    page.html.close()?;
-    write_summary(alloc, &mut page, request, audit)?;
-    write_verdict_part(&mut page, request.agent, &request.urls, &audit.agents)?;
-    write_file_table(alloc, &mut page, request.agent, audit)?;
-    page.html.open("footer", &[])?;
-    write!(page.html, "robots_audit {VERSION}")?;
+    write_body(alloc, &mut page, title, request, audit)?;
     page.html.finish()
 }

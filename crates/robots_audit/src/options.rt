@@ -249,6 +249,21 @@ fn with_names<'a>(arg: Arg<'a>, short: Option<char>, long: Option<&'a str>) -> A
     }
 }
 
+fn repeated<'a>(arg: Arg<'a>, name: &'a str) -> Arg<'a> {
+    arg.value_name(name).action(ArgAction::Append)
+}
+
+fn one_of<'a>(arg: Arg<'a>, name: &'a str, words: &'static [&'static str]) -> Arg<'a> {
+    arg.value_name(name).value_parser(ValueParser::Names(words))
+}
+
+/// `missing` is the value without a `=`.
+fn after_equals<'a>(arg: Arg<'a>, missing: &'a str) -> Arg<'a> {
+    arg.num_args(0..=1)
+        .require_equals(true)
+        .default_missing_value(missing)
+}
+
 fn with_value<'a>(arg: Arg<'a>, value: Value) -> Result<Arg<'a>, AllocError> {
     Ok(match value {
         Value::Absent => arg.action(ArgAction::SetTrue),
@@ -256,18 +271,12 @@ fn with_value<'a>(arg: Arg<'a>, value: Value) -> Result<Arg<'a>, AllocError> {
         Value::Text(name) => arg.value_name(name),
         Value::TextWith(name, other) => arg.value_name(name).requires_arg(other)?,
         Value::Texts(name) => arg.value_name(name).num_args(0..),
-        Value::RepeatedAs(name, other) => arg
-            .value_name(name)
-            .action(ArgAction::Append)
-            .visible_alias(other)?,
-        Value::Repeated(name) => arg.value_name(name).action(ArgAction::Append),
-        Value::OneOf(name, words) => arg.value_name(name).value_parser(ValueParser::Names(words)),
-        Value::OneOfAfterEquals(name, words, missing) => arg
-            .value_name(name)
-            .value_parser(ValueParser::Names(words))
-            .num_args(0..=1)
-            .require_equals(true)
-            .default_missing_value(missing),
+        Value::RepeatedAs(name, other) => repeated(arg, name).visible_alias(other)?,
+        Value::Repeated(name) => repeated(arg, name),
+        Value::OneOf(name, words) => one_of(arg, name, words),
+        Value::OneOfAfterEquals(name, words, missing) => {
+            after_equals(one_of(arg, name, words), missing)
+        }
     })
 }
 

@@ -2,7 +2,7 @@
 ghost use Rattle.std.specs.Prelude.{◌≡◌, ◌⊎◌, IfErr, IfOk, Some, map, option_map, string_bytes};
 ghost use Rattle.robots_audit.specs.Answer.{IsAudited, IsCompared, IsExpected, IsFileUnreadable, IsFormatError};
 ghost use Rattle.robots_audit.specs.Answer.{IsListed, IsOutput, given_name, has_all_urls, has_passed, is_warned, leaves_out_allowed};
-ghost use Rattle.printable_text.specs.Text.{IsShownReport};
+ghost use Rattle.printable_text.specs.Text.{IsReport, IsShownReport};
 ghost use Rattle.audit_compare.specs.Compare.{IsComparison};
 ghost use Rattle.audit_core.specs.declared.error.EntryKind.TheVariants.{Expectation};
 ghost use Rattle.audit_core.specs.{Request.requested_by};
@@ -21,7 +21,7 @@ use audit_expect::expectations::check;
 use audit_json::json::{findings_text, json_text};
 use audit_json::sarif::sarif_text;
 use audit_page::page::page_text;
-use audit_text::denied::{shown, totals_of};
+use audit_text::denied::{Totals, shown, totals_of};
 use audit_text::github::github_text;
 use audit_text::report::{write_report, write_totals, write_warnings};
 use printable_text::level::Level;
@@ -63,6 +63,22 @@ fn leaves_out_allowed(request: &Request<'_>) -> bool
     request.is_denied_only && !has_all_urls(request.format)
 }
 
+fn text_output(
+    alloc: Global,
+    request: &Request<'_>,
+    totals: Totals,
+    audit: &Audit<'_>,
+) -> Result<Vec<u8>, fmt::Error>
+    ensures { IfOk result (λ text. IsReport text.items) }
+{
+    let mut out = Report::new(alloc);
+    write_report(&mut out, request, audit)?;
+    if request.has_totals {
+        write_totals(&mut out, totals)?;
+    }
+    Ok(out.into_string().into_bytes())
+}
+
 fn output(alloc: Global, request: &Request<'_>, audit: Audit<'_>) -> Result<Vec<u8>, Error>
     ensures ok { IfOk result (λ report. IsOutput request.now.format (requested_by request.now) audit.entry report.items) }
     ensures error { IfErr result (λ error. error ≡ Error.Memory) }
@@ -70,14 +86,7 @@ fn output(alloc: Global, request: &Request<'_>, audit: Audit<'_>) -> Result<Vec<
     let totals = totals_of(&audit.agents);
     let reported = shown(leaves_out_allowed(request), audit);
     match request.format {
-        Format::Text => {
-            let mut out = Report::new(alloc);
-            write_report(&mut out, request, &reported)?;
-            if request.has_totals {
-                write_totals(&mut out, totals)?;
-            }
-            Ok(out.into_string().into_bytes())
-        }
+        Format::Text => Ok(text_output(alloc, request, totals, &reported)?),
         Format::Json => Ok(json_text(alloc, request.has_rows(), &reported)?.into_bytes()),
         Format::Html => Ok(page_text(alloc, request, &reported)?),
         Format::Github => {

@@ -51,14 +51,19 @@ const CASES: &[LookCase] = &[
     ),
 ];
 
-fn check_looks(rt: &impl Abort, robot: &Robot, text: &str, allowed: bool, least: u64, most: u64) {
+/// How many looks each of two queries takes, which agree.
+fn looks_taken(rt: &impl Abort, robot: &Robot, text: &str, allowed: bool) -> u64 {
     let (mut view, mut other) = (View::new(text), View::new(text));
     check_equal(rt, "view", &robot.allowed_view(&mut view), &allowed);
     let decision = robot.decision(&mut other);
     check_equal(rt, "decision", &decision, &robot.decide_prepared(text));
     check_equal(rt, "decision", &decision.allowed, &allowed);
     check_equal(rt, "looks", &other.seen(), &view.seen());
-    let seen = view.seen();
+    view.seen()
+}
+
+fn check_looks(rt: &impl Abort, robot: &Robot, text: &str, allowed: bool, least: u64, most: u64) {
+    let seen = looks_taken(rt, robot, text, allowed);
     assert!(rt; least <= seen && seen <= most, "{text:.60}: {seen} looks");
 }
 

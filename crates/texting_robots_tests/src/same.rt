@@ -32,14 +32,26 @@ fn site_of(rt: &(impl Abort + AllocGlobal), file: &str) -> Site {
     Site::new(rt.alloc(), file.as_bytes()).expect(rt, file)
 }
 
-fn check_files(rt: &(impl Abort + AllocGlobal), old: &str, new: &str, same: bool) {
+fn compared(
+    rt: &(impl Abort + AllocGlobal),
+    old: &str,
+    new: &str,
+    mut budget: usize,
+) -> Comparison {
     let (old_site, new_site) = (site_of(rt, old), site_of(rt, new));
-    match compare_sites(rt.alloc(), &old_site, &new_site, BOB, &mut 100_000).expect(rt, old) {
+    compare_sites(rt.alloc(), &old_site, &new_site, BOB, &mut budget).expect(rt, old)
+}
+
+fn allows(rt: &(impl Abort + AllocGlobal), file: &str, text: &str) -> bool {
+    robot_of(rt, file).allowed_prepared(text)
+}
+
+fn check_files(rt: &(impl Abort + AllocGlobal), old: &str, new: &str, same: bool) {
+    match compared(rt, old, new, 100_000) {
         Comparison::Same => check(rt, old, same),
         Comparison::Differ(text) => {
             let text = std::str::from_utf8(text.as_slice()).expect(rt, old);
-            let was = robot_of(rt, old).allowed_prepared(text);
-            let is = robot_of(rt, new).allowed_prepared(text);
+            let (was, is) = (allows(rt, old, text), allows(rt, new, text));
             check(rt, text, !same && was != is);
         }
         Comparison::Undecided => check(rt, old, false),
@@ -49,8 +61,7 @@ fn check_files(rt: &(impl Abort + AllocGlobal), old: &str, new: &str, same: bool
 /// Without a budget, nothing is decided.
 #[test]
 fn small_budgets_decide_nothing(rt: HostRuntime) {
-    let (old, new) = (site_of(&rt, "Disallow: /a"), site_of(&rt, ""));
-    let answer = compare_sites(rt.alloc(), &old, &new, BOB, &mut 0).expect(&rt, "budget");
+    let answer = compared(&rt, "Disallow: /a", "", 0);
     check(&rt, "budget", matches!(answer, Comparison::Undecided));
 }
 

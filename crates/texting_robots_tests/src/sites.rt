@@ -40,14 +40,15 @@ const CRAWLERS: &[CrawlerCase] = &[
     ("Gamma", b"*", &[10], &[("/", "/", false, 10)]),
 ];
 
-fn check_crawler(rt: &(impl Abort + AllocGlobal), site: &Site, case: &CrawlerCase) {
-    let (agent, group, numbers, rules) = *case;
-    check_equal(rt, agent, &site.group_name(agent), &group);
+fn check_lines(rt: &impl Abort, site: &Site, agent: &str, numbers: &[usize]) {
     let mut lines = site.own_lines(agent);
     for want in numbers {
         check_equal(rt, agent, &lines.next().expect(rt, agent).number, want);
     }
     check(rt, agent, lines.next().is_none());
+}
+
+fn check_rules(rt: &(impl Abort + AllocGlobal), site: &Site, agent: &str, rules: &[RuleCase]) {
     let mut found = site.rules(agent);
     for want in rules {
         let rule = found.next().expect(rt, agent);
@@ -56,6 +57,13 @@ fn check_crawler(rt: &(impl Abort + AllocGlobal), site: &Site, case: &CrawlerCas
         check_equal(rt, agent, &answer, want);
     }
     check(rt, agent, found.next().is_none());
+}
+
+fn check_crawler(rt: &(impl Abort + AllocGlobal), site: &Site, case: &CrawlerCase) {
+    let (agent, group, numbers, rules) = *case;
+    check_equal(rt, agent, &site.group_name(agent), &group);
+    check_lines(rt, site, agent, numbers);
+    check_rules(rt, site, agent, rules);
 }
 
 #[test]
@@ -68,11 +76,15 @@ fn each_crawler_gets_its_own_groups(rt: HostRuntime) {
 
 const SITEMAPS: &[u8] = b"Sitemap: /s\nSitemap: /t\nSitemap: /u\nSitemap: /v";
 
+fn robot_from(rt: &(impl Abort + AllocGlobal), file: &[u8]) -> Robot {
+    let site = Site::new(rt.alloc(), file).expect(rt, "site");
+    site.robot(rt.alloc(), "a").expect(rt, "robot")
+}
+
 /// Each sitemap takes the size of a `String`, and its text.
 #[test]
 fn bytes_of_sitemaps_are_counted(rt: HostRuntime) {
-    let site = Site::new(rt.alloc(), SITEMAPS).expect(&rt, "site");
-    let robot = site.robot(rt.alloc(), "a").expect(&rt, "robot");
+    let robot = robot_from(&rt, SITEMAPS);
     check_equal(
         &rt,
         "bytes",

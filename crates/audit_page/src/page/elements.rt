@@ -47,7 +47,15 @@ impl Page {
         self.html.close()
     }
 
-    /// The same, of bytes of a file or a URL.
+    /// The headings of columns.
+    pub(crate) fn columns(&mut self, texts: &[&str]) -> fmt::Result {
+        for text in texts {
+            self.heading("col", text)?;
+        }
+        Ok(())
+    }
+
+    /// A heading of bytes of a file or a URL.
     pub(crate) fn code_heading(&mut self, scope: &str, text: &[u8]) -> fmt::Result {
         self.html.open("th", &[("scope", scope)])?;
         self.code(text)?;

@@ -18,6 +18,16 @@ use texting_robots::parser::Line;
 /// A browser lays out later what isn't visible yet.
 const BODY_LINES: usize = 500;
 
+fn write_sitemaps(page: &mut Page, sitemaps: &[&[u8]]) -> fmt::Result {
+    page.html.open("ul", &[])?;
+    for sitemap in sitemaps {
+        page.html.open("li", &[])?;
+        page.code(sitemap)?;
+        page.html.close()?;
+    }
+    page.html.close()
+}
+
 pub(crate) fn write_sitemap_entry(
     alloc: Global,
     page: &mut Page,
@@ -25,13 +35,20 @@ pub(crate) fn write_sitemap_entry(
 ) -> fmt::Result {
     page.element("dt", "Sitemaps")?;
     page.html.open("dd", &[])?;
-    page.html.open("ul", &[])?;
-    for sitemap in &sitemaps_of(alloc, labels)? {
-        page.html.open("li", &[])?;
-        page.code(sitemap)?;
-        page.html.close()?;
+    write_sitemaps(page, &sitemaps_of(alloc, labels)?)?;
+    page.html.close()
+}
+
+/// The value and the comment of a line.
+fn write_value_cell(page: &mut Page, label: &LabeledLine<'_>) -> fmt::Result {
+    let value = Shown(label.line, label.body);
+    page.html.open("td", &[])?;
+    write!(page.html, "{value}")?;
+    let comment = comment_of(label.line, label.body);
+    if !comment.is_empty() {
+        let comment = Untrusted(comment);
+        write!(page.html, "  {comment}")?;
     }
-    page.html.close()?;
     page.html.close()
 }
 
@@ -51,15 +68,7 @@ fn write_line_row(page: &mut Page, label: &LabeledLine<'_>) -> fmt::Result {
     }
     page.html.write_str(shown_kind(label))?;
     page.html.close()?;
-    page.html.open("td", &[])?;
-    let value = Shown(label.line, label.body);
-    write!(page.html, "{value}")?;
-    let comment = comment_of(label.line, label.body);
-    if !comment.is_empty() {
-        let comment = Untrusted(comment);
-        write!(page.html, "  {comment}")?;
-    }
-    page.html.close()?;
+    write_value_cell(page, label)?;
     page.html.close()
 }
 
@@ -82,12 +91,20 @@ fn write_line_rows(
 fn write_line_columns(page: &mut Page) -> fmt::Result {
     page.html.open("thead", &[])?;
     page.html.open("tr", &[])?;
-    page.heading("col", "Line")?;
-    page.heading("col", "Group")?;
-    page.heading("col", "Directive")?;
-    page.heading("col", "Value")?;
+    page.columns(&["Line", "Group", "Directive", "Value"])?;
     page.html.close()?;
     page.html.close()
+}
+
+fn write_line_groups(alloc: Global, page: &mut Page, audit: &Audit<'_>) -> fmt::Result {
+    let lists = by_line(alloc, &in_order(alloc, &audit.warnings)?)?;
+    for at in 0..audit.labels.len().div_ceil(BODY_LINES) {
+        let lines = after(&audit.labels, at.saturating_mul(BODY_LINES));
+        page.html.open("tbody", &[])?;
+        write_line_rows(page, &lists, first(lines, BODY_LINES))?;
+        page.html.close()?;
+    }
+    Ok(())
 }
 
 pub(crate) fn write_file_table(
@@ -111,12 +128,6 @@ pub(crate) fn write_file_table(
     )?;
     page.html.close()?;
     write_line_columns(page)?;
-    let lists = by_line(alloc, &in_order(alloc, &audit.warnings)?)?;
-    for at in 0..audit.labels.len().div_ceil(BODY_LINES) {
-        let lines = after(&audit.labels, at.saturating_mul(BODY_LINES));
-        page.html.open("tbody", &[])?;
-        write_line_rows(page, &lists, first(lines, BODY_LINES))?;
-        page.html.close()?;
-    }
+    write_line_groups(alloc, page, audit)?;
     page.html.close()
 }

@@ -55,8 +55,7 @@ fn write_url_table(page: &mut Page, agent: &AgentAudit<'_>) -> fmt::Result {
     page.element("caption", "May the crawler fetch it?")?;
     page.html.open("thead", &[])?;
     page.html.open("tr", &[])?;
-    page.heading("col", "URL")?;
-    page.heading("col", "Verdict")?;
+    page.columns(&["URL", "Verdict"])?;
     page.html.close()?;
     page.html.close()?;
     page.html.open("tbody", &[])?;
@@ -145,11 +144,7 @@ fn write_agent_row(page: &mut Page, agent: &AgentAudit<'_>) -> fmt::Result {
 fn write_agent_columns(page: &mut Page, urls: &[&str]) -> fmt::Result {
     page.html.open("thead", &[])?;
     page.html.open("tr", &[])?;
-    page.heading("col", "Crawler")?;
-    page.heading("col", "Group")?;
-    page.heading("col", "Rules")?;
-    page.heading("col", "Crawl delay")?;
-    page.heading("col", "May fetch")?;
+    page.columns(&["Crawler", "Group", "Rules", "Crawl delay", "May fetch"])?;
     for url in urls {
         page.code_heading("col", url.as_bytes())?;
     }

@@ -93,10 +93,18 @@ fn write_counts(page: &mut Page, warnings: &[Warning<'_>]) -> fmt::Result {
     write_count(page, Level::Note, counts.notes)
 }
 
-pub(crate) fn write_warning_entry(
+fn write_more(page: &mut Page, more: usize) -> fmt::Result {
+    if more == 0 {
+        return Ok(());
+    }
+    page.html.open("p", &[])?;
+    write!(page.html, "and {more} more, below their lines")?;
+    page.html.close()
+}
+
+fn write_findings(
     alloc: Global,
     page: &mut Page,
-    agent: Option<&str>,
     rows: usize,
     warnings: &[Warning<'_>],
 ) -> fmt::Result {
@@ -104,6 +112,20 @@ pub(crate) fn write_warning_entry(
     let found = joined(alloc, &all)?;
     let later = after(&found, LISTED_WARNINGS);
     let others = without_row(alloc, rows, later)?;
+    page.html.open("ul", &[])?;
+    write_items(alloc, page, rows, &all, first(&found, LISTED_WARNINGS))?;
+    write_items(alloc, page, rows, &all, &others)?;
+    page.html.close()?;
+    write_more(page, later.len().saturating_sub(others.len()))
+}
+
+pub(crate) fn write_warning_entry(
+    alloc: Global,
+    page: &mut Page,
+    agent: Option<&str>,
+    rows: usize,
+    warnings: &[Warning<'_>],
+) -> fmt::Result {
     page.element("dt", "Findings")?;
     page.html.open("dd", &[])?;
     write_counts(page, warnings)?;
@@ -113,16 +135,7 @@ pub(crate) fn write_warning_entry(
             " (rules for crawlers other than {agent} aren't checked)"
         )?;
     }
-    page.html.open("ul", &[])?;
-    write_items(alloc, page, rows, &all, first(&found, LISTED_WARNINGS))?;
-    write_items(alloc, page, rows, &all, &others)?;
-    page.html.close()?;
-    let more = later.len().saturating_sub(others.len());
-    if more > 0 {
-        page.html.open("p", &[])?;
-        write!(page.html, "and {more} more, below their lines")?;
-        page.html.close()?;
-    }
+    write_findings(alloc, page, rows, warnings)?;
     page.html.close()
 }
 
