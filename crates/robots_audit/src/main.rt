@@ -17,13 +17,8 @@ ghost use Rattle.printable_text.specs.Text.{IsReport};
 ghost use Rattle.audit_core.specs.Error.{status_after};
 ghost use Rattle.clap.specs.Values.{kind_of};
 ghost use Rattle.audit_core.specs.{NotRobots.content_flaw, Request.requested_by};
-ghost use Rattle.robots_audit.specs.Answer.{Answers, AnswersAudit, AnswersComparison, AnswersExpectations};
-ghost use Rattle.robots_audit.specs.Answer.{HasUrls, HasWords, IsSafeAnswer};
-
-mod command;
-mod options;
-mod program;
-mod theorems;
+ghost use Rattle.audit_program.specs.Answer.{Answers, AnswersAudit, AnswersComparison, AnswersExpectations};
+ghost use Rattle.audit_program.specs.Answer.{HasUrls, HasWords, IsSafeAnswer};
 
 use audit_compare::compare::NamedFile;
 use audit_core::answer::{Answer, Outcome, text_answer, write_answer};
@@ -32,12 +27,14 @@ use audit_core::error::{Error, status_after, write_error};
 use audit_core::not_robots::check_content;
 use audit_core::request::Request;
 use audit_expect::url_list::with_urls;
+use audit_program::command::{
+    check_files, command, file_read, format_of, requested, without_brackets,
+};
+use audit_program::program::{audited, comparison, expectations, given_name, unread};
 use audit_text::explain::{explain, list_warnings};
 use clap::ArgMatches;
 use clap::error::ErrorKind as WordsKind;
-use command::{check_files, command, file_read, format_of, requested, without_brackets};
 use printable_text::report::Report;
-use program::{audited, comparison, expectations, given_name, unread};
 use robots_io::streams::{ReadError, read_all};
 use std::alloc::Global;
 use std::fs::File;
@@ -191,7 +188,7 @@ fn answered(rt: &HostRuntime, matches: &ArgMatches<'_>, has_colors: bool) -> Res
 }
 
 /// The answer if the arguments request help or the version; else the error for arguments that `clap` rejects.
-#[tactic(auto, using(crate::proofs::MessageLemmas::text_safe))]
+#[tactic(auto, using(audit_program::proofs::MessageLemmas::text_safe))]
 fn reported(rt: &HostRuntime, error: clap::Error) -> Result<Answer, Error>
     ensures safe { IfOk result IsSafeAnswer }
     ensures rejected { (kind_of error ≢ WordsKind.DisplayHelp) → (kind_of error ≢ WordsKind.DisplayVersion) → IsErr result }

@@ -1,4 +1,4 @@
-use Rattle.robots_audit.proofs.MessageLemmas.{if_ok, answer_safe}
+use Rattle.audit_program.proofs.MessageLemmas.{if_ok, answer_safe}
 use Rattle.robots_audit.proofs.answer.Goals as goal
 
 pub returns-in-Ok : goal.returns-in-Ok

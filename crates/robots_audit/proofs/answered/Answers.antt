@@ -1,5 +1,5 @@
 use Rattle.std.proofs.Common.{inr, refl}
-use Rattle.robots_audit.proofs.MessageLemmas.{if_ok}
+use Rattle.audit_program.proofs.MessageLemmas.{if_ok}
 use Rattle.robots_audit.proofs.answered.Goals as goal
 
 pub returns-in-None : goal.returns-in-None

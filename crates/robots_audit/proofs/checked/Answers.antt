@@ -1,4 +1,4 @@
-use Rattle.robots_audit.proofs.MessageLemmas.{if_ok}
+use Rattle.audit_program.proofs.MessageLemmas.{if_ok}
 use Rattle.robots_audit.proofs.checked.Goals as goal
 
 pub returns : goal.returns

@@ -1,5 +1,5 @@
 use Rattle.audit_core.specs.Request.{requested_by}
-use Rattle.robots_audit.proofs.MessageLemmas.{if_ok}
+use Rattle.audit_program.proofs.MessageLemmas.{if_ok}
 use Rattle.robots_audit.proofs.compared.Goals as goal
 
 pub returns : goal.returns

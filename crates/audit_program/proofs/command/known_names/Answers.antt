@@ -1,7 +1,7 @@
 use Rattle.std.proofs.Common.{ap, map, sym, ◌∙◌}
 use Rattle.std.proofs.lemmas.{Simd.map-map}
 use Rattle.robots_warnings.specs.{Crawlers.Row, Internal.row_value}
-use Rattle.robots_audit.proofs.command.known_names.Goals as goal
+use Rattle.audit_program.proofs.command.known_names.Goals as goal
 
 pub returns : goal.returns
 returns c =

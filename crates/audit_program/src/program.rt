@@ -1,7 +1,7 @@
 //! The audit of a file and the report on it, without the command line, input and output.
 ghost use Rattle.std.specs.Prelude.{◌≡◌, ◌⊎◌, IfErr, IfOk, Some, map, option_map, string_bytes};
-ghost use Rattle.robots_audit.specs.Answer.{IsAudited, IsCompared, IsExpected, IsFileUnreadable, IsFormatError};
-ghost use Rattle.robots_audit.specs.Answer.{IsListed, IsOutput, given_name, has_all_urls, has_passed, is_warned, leaves_out_allowed};
+ghost use Rattle.audit_program.specs.Answer.{IsAudited, IsCompared, IsExpected, IsFileUnreadable, IsFormatError};
+ghost use Rattle.audit_program.specs.Answer.{IsListed, IsOutput, given_name, has_all_urls, has_passed, is_warned, leaves_out_allowed};
 ghost use Rattle.printable_text.specs.Text.{IsReport, IsShownReport};
 ghost use Rattle.audit_compare.specs.Compare.{IsComparison};
 ghost use Rattle.audit_core.specs.declared.error.EntryKind.TheVariants.{Expectation};

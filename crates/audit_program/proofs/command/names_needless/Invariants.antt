@@ -1,7 +1,7 @@
 use Rattle.std.proofs.Common.{◌≡◌, drop, map}
 use Rattle.std.specs.List.{list_any}
-use Rattle.robots_audit.specs.Command.{is_needless}
-use Rattle.robots_audit.proofs.command.names_needless.Given as goal
+use Rattle.audit_program.specs.Command.{is_needless}
+use Rattle.audit_program.proofs.command.names_needless.Given as goal
 
 abbrev pub invariant-loop-name : goal.invariant-loop-name
 invariant-loop-name l =

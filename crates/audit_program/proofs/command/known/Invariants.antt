@@ -1,7 +1,7 @@
 use Rattle.std.proofs.Common.{◌≡◌, drop, map}
 use Rattle.std.specs.List.{list_all}
 use Rattle.robots_warnings.specs.Table.{is_name}
-use Rattle.robots_audit.proofs.command.known.Given as goal
+use Rattle.audit_program.proofs.command.known.Given as goal
 
 abbrev pub invariant-loop-name : goal.invariant-loop-name
 invariant-loop-name l =

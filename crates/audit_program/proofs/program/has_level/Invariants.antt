@@ -1,6 +1,6 @@
 use Rattle.std.proofs.Common.{◌≡◌, Some, drop}
-use Rattle.robots_audit.specs.Answer.{is_warned}
-use Rattle.robots_audit.proofs.program.has_level.Given as goal
+use Rattle.audit_program.specs.Answer.{is_warned}
+use Rattle.audit_program.proofs.program.has_level.Given as goal
 
 abbrev pub invariant-loop-warning : goal.invariant-loop-warning
 invariant-loop-warning l =

@@ -1,8 +1,8 @@
 //! Theorems about what the program writes, each written as the contract of an empty function.
 ghost use Rattle.std.specs.Prelude.{Bool, codes, List, ℕ, string_bytes};
 ghost use Rattle.clap.specs.{declared.parser.matches.ArgMatches.ArgMatches};
-ghost use Rattle.robots_audit.specs.Answer.{Answers, IsSafe};
-ghost use Rattle.robots_audit.specs.{Command.value_of};
+ghost use Rattle.audit_program.specs.Answer.{Answers, IsSafe};
+ghost use Rattle.audit_program.specs.{Command.value_of};
 ghost use Rattle.audit_core.specs.{Request.requested_colors};
 ghost use Rattle.audit_core.specs.{declared.answer.Answer.Answer};
 ghost use Rattle.printable_text.specs.Text.{IsShownReport};

@@ -1,4 +1,4 @@
-use Rattle.robots_audit.proofs.program.compared_for.Goals as goal
+use Rattle.audit_program.proofs.program.compared_for.Goals as goal
 
 pub returns-clause-ok : goal.returns-clause-ok
 returns-clause-ok c = rw (c.deref.ensures.value, c.deref-2.ensures.value) at c.compare.ensures.ok

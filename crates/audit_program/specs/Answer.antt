@@ -16,7 +16,7 @@ use Rattle.audit_core.specs.{declared.findings.Finding.Finding}
 use Rattle.audit_core.specs.Findings.{Found, findings, found_of}
 use Rattle.audit_core.specs.declared.error.Error.TheVariants.{File, Format as OfAudits, Memory, Words}
 use Rattle.audit_core.specs.declared.request.Format.TheVariants.{Github, Html, Json, Sarif}
-use Rattle.robots_audit.specs.Command.{HasFile, IsFormatOf, IsOn, IsRequestOf, IsWithoutBrackets, value_of}
+use Rattle.audit_program.specs.Command.{HasFile, IsFormatOf, IsOn, IsRequestOf, IsWithoutBrackets, value_of}
 use Rattle.audit_compare.specs.Compare.{ComparisonValue, IsComparison, all_differences, differs_nowhere}
 use Rattle.audit_compare.specs.Compare.{keeps_verdicts}
 use Rattle.audit_compare.specs.Compare.{rejects_some as rejects_one}

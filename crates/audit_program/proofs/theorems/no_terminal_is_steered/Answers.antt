@@ -1,5 +1,5 @@
-use Rattle.robots_audit.proofs.MessageLemmas.{answer_safe, safe_printable}
-use Rattle.robots_audit.proofs.theorems.no_terminal_is_steered.Goals as goal
+use Rattle.audit_program.proofs.MessageLemmas.{answer_safe, safe_printable}
+use Rattle.audit_program.proofs.theorems.no_terminal_is_steered.Goals as goal
 
 pub returns : goal.returns
 returns c = record {

@@ -3,10 +3,10 @@ ghost use Rattle.std.specs.Prelude.{◌≡◌, IfErr, IfOk, IsTrue, OnOk, codes,
 ghost use Rattle.std.specs.List.{list_all, list_any};
 ghost use Rattle.robots_warnings.specs.Table.{is_name};
 ghost use Rattle.audit_expect.specs.UrlList.{IsUrlError};
-ghost use Rattle.robots_audit.specs.Command.{AreAgentsOf, AreGiven, AreNamesOf, IsNoCrawlerOf, AreUrlsOf, Asks, AsksNeedless, HasFile};
-ghost use Rattle.robots_audit.specs.Command.{IsWithoutBrackets, LacksUrls, is_needless};
-ghost use Rattle.robots_audit.specs.Command.{file_read, IsFileError, IsFormatOf, requested_format, has_urls, is_stdin, IsUnknownIn, known_names};
-ghost use Rattle.robots_audit.specs.Command.{level_named, reads_stdin_twice, values_of};
+ghost use Rattle.audit_program.specs.Command.{AreAgentsOf, AreGiven, AreNamesOf, IsNoCrawlerOf, AreUrlsOf, Asks, AsksNeedless, HasFile};
+ghost use Rattle.audit_program.specs.Command.{IsWithoutBrackets, LacksUrls, is_needless};
+ghost use Rattle.audit_program.specs.Command.{file_read, IsFileError, IsFormatOf, requested_format, has_urls, is_stdin, IsUnknownIn, known_names};
+ghost use Rattle.audit_program.specs.Command.{level_named, reads_stdin_twice, values_of};
 
 use crate::options::with_options;
 use audit_core::chosen::are_apart;
