@@ -261,6 +261,12 @@ def test_page_has_the_verdicts_of_the_json():
     assert [cells for _, cells in children(elements, "tr")][: len(rows)] == rows
 
 
+@pytest.mark.parametrize("file, crawlers", [(b"Disallow: /a", "all crawlers"), (b"User-agent: A\nDisallow: /a", "2 crawlers")])
+def test_title_without_an_agent(file, crawlers):
+    """The second report is about `*` and `A`."""
+    assert f"<title>robots.txt for {crawlers}</title>" in page("-", file=file)
+
+
 def test_page_about_all_crawlers():
     elements, found = Reader(page("-", *URLS)).elements, audit("-", *URLS)
     rows = [["Crawler", "Group", "Rules", "Crawl delay", "May fetch", *URLS]]
@@ -333,6 +339,15 @@ def test_at_most_100_warnings_are_listed():
     elements = Reader(page(*FERRIS, file=b"User-agent: *\n" + b"".join(b"Disallow: /%d\nAllow: /%d\n" % (n, n) for n in range(104)))).elements
     assert len(texts(elements, "li")) == 100 and "and 4 more, below their lines" in texts(elements, "p")
     assert len(texts(elements, "tr", **{"class": "warning"})) == 104
+
+
+def test_what_has_a_row_and_is_not_listed_is_counted():
+    """Of 106 warnings, those about the file and about a group past the size limit have no row, so five are left."""
+    rules = b"User-agent: *\n" + b"".join(b"Disallow: /%d\nAllow: /%d\n" % (n, n) for n in range(104))
+    file = rules + b"#".ljust(511_999 - len(rules), b"x") + b"\nUser-agent: a\nDisallow: /"
+    elements = Reader(page(*FERRIS, file=file)).elements
+    listed = texts(elements, "li")
+    assert len(listed) == 101 and "[group-past-size-limit]" in listed[-1] and "and 5 more, below their lines" in texts(elements, "p")
 
 
 def test_all_warnings_without_a_row_are_listed():
