@@ -220,6 +220,11 @@ def test_the_name_of_a_file_begins_no_command(white, tmp_path):
     assert run("robots_audit", [path.name], cwd=tmp_path).err.startswith(f"\\{path.name}:2: ")
 
 
+def test_file_whose_reading_fails():
+    """Linux reports an error for the first page of a process's memory."""
+    assert run("robots_audit", ["mem"], cwd="/proc/self") == Result(2, "", "robots_audit: cannot read mem\n")
+
+
 def test_messages_of_robots_examples(tmp_path):
     """The program of docs/GUIDE.md. `rt ci` runs it on its data."""
     path = tmp_path / "robots.txt"
