@@ -7,9 +7,9 @@ use Rattle.std.proofs.{lemmas.List.drop_more}
 use Rattle.printable_text.specs.{declared.level.Level.Level, Sanitize.IsPrintable}
 use Rattle.printable_text.specs.Text.{IsReport, IsShownReport, reaches}
 use Rattle.robots_warnings.specs.{Table.level_of, Message.WarningValue}
-use Rattle.audit_program.specs.Answer.{Answers, AnswersAudit, AnswersOptions, AreAnnotations, HasUrls, IsAsked}
+use Rattle.audit_program.specs.Answer.{Answers, AnswersAudit, AnswersOptions, AreAnnotations, HasUrls}
 use Rattle.audit_program.specs.Answer.{IsListedIn, IsOutput, IsSafe, IsSafeAnswer, is_warned, reported}
-use Rattle.audit_program.specs.{Command.value_of}
+use Rattle.audit_program.specs.{Answer.IsAsked, Command.value_of}
 use Rattle.clap.specs.{declared.parser.matches.ArgMatches.ArgMatches}
 use Rattle.printable_text.proofs.ReportLemmas.{report_printable, shown_colored, shown_nil}
 use Rattle.audit_core.specs.Request.{RequestValue, has_rows, requested_by, requested_colors}
