@@ -196,11 +196,12 @@ def test_verdicts_alone_decide_the_status(tmp_path):
     assert (alone.status, alone.out) == (2, "") and "--compare <OLD>" in alone.err
 
 
-def test_verdicts_that_are_not_decided(tmp_path):
-    """The rule has too many stars."""
-    rule = b"Disallow: /" + 4000 * b"a*" + b"b"
+@pytest.mark.parametrize("stars, status, said", [(700, 0, "no URL's verdict changes"), (4000, 1, "it isn't decided whether a URL's verdict changes")])
+def test_a_rule_of_many_stars(tmp_path, stars, status, said):
+    """A star at its end changes nothing. Of hundreds of stars that is found, of thousands it isn't."""
+    rule = b"Disallow: /" + stars * b"a*" + b"b"
     result = for_ferris(tmp_path, rule, rule + b"*", "--verdicts")
-    assert (result.status, result.out.splitlines()[-1]) == (1, "crawler Ferris: it isn't decided whether a URL's verdict changes")
+    assert (result.status, result.out.splitlines()[-1]) == (status, f"crawler Ferris: {said}")
 
 
 def test_kinds_in_turn(tmp_path):
