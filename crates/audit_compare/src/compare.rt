@@ -122,6 +122,33 @@ fn crawlers_of<'a>(
     Ok(crawlers)
 }
 
+fn compared_files<'a>(
+    alloc: Global,
+    agents: &[&'a str],
+    urls: &[&'a str],
+    names: (&'a str, &'a str),
+    old: &FileRead<'a>,
+    new: &FileRead<'a>,
+) -> Result<Comparison<'a>, Error>
+    requires older { IsRead old.now }
+    requires newer { IsRead new.now }
+    ensures ok { IfOk result (IsComparison (map (λ agent. agent.now) agents.now) (map (λ url. url.now) urls.now)
+        names.entry.0.now old.now.bytes.now names.entry.1.now new.now.bytes.now) }
+    ensures error { IfErr result (λ error. error ≡ Error.Memory) }
+{
+    let agents = agents_of(alloc, agents, old, new)?;
+    let crawlers = crawlers_of(alloc, &agents, old, new, urls)?;
+    let removed = sitemaps_only_in(alloc, &old.labels, &new.labels)?;
+    let added = sitemaps_only_in(alloc, &new.labels, &old.labels)?;
+    Ok(Comparison {
+        older: side_of(names.0, old),
+        newer: side_of(names.1, new),
+        crawlers,
+        removed,
+        added,
+    })
+}
+
 /// Compares two files: what differs for the given crawlers, or if there are none for `*` and each crawler
 /// that one of the files names, and for each URL, and which sitemaps only one of them lists. A file that is
 /// rejected for a crawler isn't an error.
@@ -138,17 +165,7 @@ pub fn compare<'a>(
 {
     let old = FileRead::new(alloc, "*", older.bytes)?;
     let new = FileRead::new(alloc, "*", newer.bytes)?;
-    let names = agents_of(alloc, agents, &old, &new)?;
-    let crawlers = crawlers_of(alloc, &names, &old, &new, urls)?;
-    let removed = sitemaps_only_in(alloc, &old.labels, &new.labels)?;
-    let added = sitemaps_only_in(alloc, &new.labels, &old.labels)?;
-    Ok(Comparison {
-        older: side_of(older.name, &old),
-        newer: side_of(newer.name, &new),
-        crawlers,
-        removed,
-        added,
-    })
+    compared_files(alloc, agents, urls, (older.name, newer.name), &old, &new)
 }
 
 pub fn rejects_some(comparison: &Comparison<'_>) -> bool

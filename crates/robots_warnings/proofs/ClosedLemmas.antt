@@ -14,7 +14,7 @@ use Rattle.texting_robots.specs.Callers.{AreSitemapsOf, HasLines, PlacedRule, es
 use Rattle.texting_robots.specs.Callers.{sitemaps_in}
 use Rattle.texting_robots.specs.{Escape.is_escaped, Line.AreFileLinesOf, Line.nul_as_lf}
 use Rattle.texting_robots.proofs.Shared.{each_text_has_its_lines, of_lines, sitemaps_are_computed}
-use Rattle.robots_warnings.specs.{Closed.closes, Internal.IsRowAt, Internal.Row}
+use Rattle.robots_warnings.specs.{Closed.closes}
 use Rattle.robots_warnings.specs.Closed.{is_anything, is_closing, is_rival, is_star_or_dollar, is_literally}
 use Rattle.robots_warnings.specs.Closed.{is_number, is_root, is_whole_site, opened_path, without_stars}
 use Rattle.robots_warnings.specs.Closed.{is_for, is_home, is_home_root}
@@ -276,8 +276,8 @@ pub part_at : {R X : Type 0} (part : R → X) {rows : List R} {at : ℕ} {row : 
     → IsAt rows at row → slice_index_or (map part rows) at other ≡ part row
 part_at part {rows} {at} {row} other is = at_place part rows at row other is.found
 
-pub part_in : {X : Type 0} (part : Row → X) {rows : List Row} {at : ℕ} {row : Row} {all : List X} (other : X)
-    → IsRowAt rows at row → map part rows ≡ all → part row ≡ slice_index_or all at other
+pub part_in : {R X : Type 0} (part : R → X) {rows : List R} {at : ℕ} {row : R} {all : List X} (other : X)
+    → IsAt rows at row → map part rows ≡ all → part row ≡ slice_index_or all at other
 part_in part {rows} {at} {row} other is same =
     sym (at_place part rows at row other is.found) ∙ ap (λ all. slice_index_or all at other) same
 

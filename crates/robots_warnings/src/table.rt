@@ -10,7 +10,7 @@ ghost use Rattle.robots_warnings.specs.Table.{example_of, is_name, level_of, nam
 ghost use Rattle.robots_warnings.specs.declared.table.TheConstants.{WARNINGS};
 
 use crate::rows::{COUNT, every_row};
-use crate::texts::{EXAMPLES, MESSAGES};
+use crate::texts::{examples, messages};
 use printable_text::level::Level;
 use std::alloc::{AllocError, Global};
 
@@ -219,7 +219,7 @@ impl Cause {
         ensures own { result.now.0 ≡ self }
         ensures message { result.now.1.now ≡ text_of self }
     {
-        text_at(&MESSAGES, self as usize)
+        text_at(messages(), self as usize)
     }
 
     pub fn text(self) -> &'static str
@@ -232,7 +232,7 @@ impl Cause {
         ensures own { result.now.0 ≡ self }
         ensures example { result.now.1.now ≡ example_of self }
     {
-        text_at(&EXAMPLES, self as usize)
+        text_at(examples(), self as usize)
     }
 
     pub fn example(self) -> &'static str

@@ -1,4 +1,7 @@
 //! The texts of the warnings, in their order.
+ghost use Rattle.std.specs.Prelude.{◌≡◌, length, map};
+ghost use Rattle.robots_warnings.specs.Table.{all_causes, all_examples, all_texts};
+ghost use Rattle.robots_warnings.specs.declared.table.TheConstants.{WARNINGS};
 
 use crate::rows::{COUNT, every_row};
 use crate::table::Cause;
@@ -31,13 +34,31 @@ macro_rules! conditions {
     };
 }
 
-pub(crate) static MESSAGES: [(Cause, &str); COUNT] = every_row!(messages);
+static MESSAGES: [(Cause, &str); COUNT] = every_row!(messages);
 
-pub(crate) static EXAMPLES: [(Cause, &str); COUNT] = every_row!(examples);
+static EXAMPLES: [(Cause, &str); COUNT] = every_row!(examples);
 
 static CORRECTIONS: [(Cause, &str); COUNT] = every_row!(corrections);
 
 static CONDITIONS: [(Cause, &str); COUNT] = every_row!(conditions);
+
+#[tactic(auto, unfolding(crate::specs::Table::all_causes))]
+pub(crate) fn messages() -> &'static [(Cause, &'static str)]
+    ensures length { length result.now ≡ length WARNINGS }
+    ensures causes { map (λ row. row.0) result.now ≡ all_causes }
+    ensures texts { map (λ row. row.1.now) result.now ≡ all_texts }
+{
+    &MESSAGES
+}
+
+#[tactic(auto, unfolding(crate::specs::Table::all_causes))]
+pub(crate) fn examples() -> &'static [(Cause, &'static str)]
+    ensures length { length result.now ≡ length WARNINGS }
+    ensures causes { map (λ row. row.0) result.now ≡ all_causes }
+    ensures texts { map (λ row. row.1.now) result.now ≡ all_examples }
+{
+    &EXAMPLES
+}
 
 /// The examples without the warnings, or nothing.
 pub fn corrections() -> &'static [(Cause, &'static str)] {

@@ -1,12 +1,11 @@
-use Rattle.std.proofs.Common.{[], refl, sym}
-use Rattle.robots_warnings.specs.{Internal.Text, Table.all_causes, Table.text_of}
-use Rattle.robots_warnings.proofs.ClosedLemmas.{own_row, part_at}
+use Rattle.std.proofs.{Common.[]}
+use Rattle.robots_warnings.specs.{Internal.Text, Table.text_of}
+use Rattle.robots_warnings.proofs.ClosedLemmas.{own_row, part_in}
 use Rattle.robots_warnings.proofs.table.Cause.message_row.Goals as goal
 
 pub returns-clause-own : goal.returns-clause-own
-unfolding all_causes
-returns-clause-own c = own_row (λ (row : Text). row.0) c.args.self c.text_at.ensures refl
+returns-clause-own c = own_row (λ (row : Text). row.0) c.args.self c.text_at.ensures c.messages.ensures.causes
 
 pub returns-clause-message : goal.returns-clause-message
 unfolding text_of
-returns-clause-message c = sym (part_at (λ (row : Text). row.1.now) [] c.text_at.ensures)
+returns-clause-message c = part_in (λ (row : Text). row.1.now) [] c.text_at.ensures c.messages.ensures.texts

@@ -1,5 +1,5 @@
 use Rattle.std.proofs.Common.{ap, Bor, List, map, ◌≡◌, ◌∙◌, ℕ}
-use Rattle.audit_compare.proofs.compare.compare.Goals as goal
+use Rattle.audit_compare.proofs.compare.compared_files.Goals as goal
 
 same_names : (one other : List (Bor (List ℕ))) → one ≡ other
     → map (λ name. name.now) one ≡ map (λ name. name.now) other
@@ -7,16 +7,16 @@ same_names one other same = ap (λ (names : List (Bor (List ℕ))). map (λ name
 
 pub returns-clause-ok : goal.returns-clause-ok
 returns-clause-ok c =
-    let old = c.in_ok-old.ensures in
-    let new = c.in_ok-new.ensures in
-    rw (← old.bytes, ← new.bytes) (record {
+    let old = c.requires.older in
+    let new = c.requires.newer in
+    record {
       older_is = c.side_of.ensures;
       newer_is = c.side_of-2.ensures;
-      all = rw (same_names _ _ c.deref.ensures.value ∙ c.in_ok-names.ensures) at c.in_ok-crawlers.ensures.ok;
+      all = rw (same_names _ _ c.deref.ensures.value ∙ c.in_ok-agents.ensures) at c.in_ok-crawlers.ensures.ok;
       removed_are =
-          rw (c.deref-2.ensures.value, c.deref-3.ensures.value, old.read.lines_are, new.read.lines_are)
+          rw (c.deref-2.ensures.value, c.deref-3.ensures.value, old.lines_are, new.lines_are)
           at c.in_ok-removed.ensures;
       added_are =
-          rw (c.deref-4.ensures.value, c.deref-5.ensures.value, old.read.lines_are, new.read.lines_are)
+          rw (c.deref-4.ensures.value, c.deref-5.ensures.value, old.lines_are, new.lines_are)
           at c.in_ok-added.ensures;
-    })
+    }
