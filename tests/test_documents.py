@@ -9,7 +9,7 @@ import subprocess
 from pathlib import Path
 
 import pytest
-from support import ALL_WARNINGS, CRATES, DOCUMENTS, PAGES, ROOT, WARNINGS, Result, program, run, shown, spelled, tables
+from support import ALL_WARNINGS, CRATES, DOCUMENTS, PAGES, ROOT, WARNINGS, program, run, shown, spelled, tables
 
 LIBRARY = CRATES / "texting_robots"
 FINDINGS = {
@@ -220,9 +220,9 @@ def test_guide_shows_the_example():
 
 
 def test_guide_runs_its_program():
-    folder = CRATES / "robots_verdict"
-    given = (folder / re.search(r"^    rt run < (\S+)$", GUIDE, re.M)[1]).read_bytes()
-    assert run("robots_verdict", stdin=given) == Result(0, (folder / "stdout").read_text(), "")
+    words = shlex.split(re.search(r"^    rt run -- (.*)$", GUIDE, re.M)[1])
+    result = run("robots_examples", words, cwd=CRATES / "robots_examples")
+    assert (result.status, result.err) == (0, "") and words[-1] in result.out
 
 
 def test_readme_shows_what_its_first_command_prints():

@@ -93,7 +93,7 @@ def test_the_number_of_worked_examples():
 
 
 def test_the_number_of_callers_with_proofs():
-    callers = re.findall(r"^pub mod", source("robots_examples/src/lib.rt"), re.M)
+    callers = re.findall(r"^pub mod", source("robots_examples/src/main.rt"), re.M)
     words = ["no", "one", "two", "three", "four", "five", "six", "seven"]
     for text in (ARCHITECTURE, PROOFS):
         assert re.findall(r"(\w+) callers with proofs", text) == [words[len(callers)]]

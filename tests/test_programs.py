@@ -225,6 +225,16 @@ def test_file_whose_reading_fails():
     assert run("robots_audit", ["mem"], cwd="/proc/self") == Result(2, "", "robots_audit: cannot read mem\n")
 
 
+def test_messages_of_robots_examples(tmp_path):
+    """The program of docs/GUIDE.md. `rt ci` runs it on its data."""
+    path = tmp_path / "robots.txt"
+    path.write_bytes(b"Disallow: /$" + b"a" * 4096)
+    assert run("robots_examples", ["Ferris"]) == Result(0, "", "usage: robots_examples AGENT FILE URL..\n")
+    message = "robots_examples: a rule of the file is too long\n"
+    assert run("robots_examples", ["Ferris", path, "/a"]) == Result(0, "", message)
+    assert run("robots_examples", ["Ferris", tmp_path / "missing", "/a"]).status != 0
+
+
 def test_small_rules():
     """Each text of at most six bytes out of /, a, * and $, with / before it, where the text is the one Allow rule: it is allowed, by
     that rule or by none."""

@@ -15,7 +15,7 @@ FAILED = r"(?:\b(?:\w+::)*(?:AllocError|AllocFailed|OutOfMemory|Overflow|Memory|
 CONSTRUCTED = {
     ("audit_core/src/error.rt", "Error::Memory"): "`write!` into a report fails only if an allocation does",
     ("texting_robots/src/segments.rt", "AllocError"): "an index has more than 32 bits, as none has in a file of at most `FILE_LIMIT` bytes",
-    ("texting_robots_tests/src/callers.rt", "CacheError::Memory"): "an error whose message is printed",
+    ("robots_examples/src/tests.rt", "CacheError::Memory"): "an error whose message is printed",
     ("texting_robots_tests/src/files.rt", "-2"): "a verdict by line 2",
     ("texting_robots_tests/src/printed.rt", "Error::InvalidRobots"): "an error whose message is printed",
     ("texting_robots_tests/src/printed.rt", "Error::Memory"): "an error whose message is printed",

@@ -7,8 +7,6 @@
 //! `out of memory`. A name on standard input chooses one call.
 #![tactic(auto)]
 
-#[cfg(test)]
-mod callers;
 mod calls;
 #[cfg(test)]
 mod example;

@@ -1,9 +1,9 @@
-//! The callers of `robots_examples`: their contracts say what each returns if it succeeds, and with enough memory it does.
-use robots_examples::audit::audit;
-use robots_examples::cache::{Cache, CacheError, MAX_ROBOTS};
-use robots_examples::crawler::{DelayPolicy, plan_for};
-use robots_examples::link_check::{Denied, count_denied};
-use robots_examples::single_query::may_fetch;
+//! The contracts say what each caller returns if it succeeds. With enough memory it does.
+use crate::audit::audit;
+use crate::cache::{Cache, CacheError, MAX_ROBOTS};
+use crate::crawler::{DelayPolicy, plan_for};
+use crate::link_check::{Denied, count_denied};
+use crate::single_query::may_fetch;
 use std::process::Abort;
 use texting_robots::view::View;
 use texting_robots::{Error, Robot};
