@@ -13,6 +13,7 @@ import subprocess
 import sys
 import tarfile
 import threading
+import tomllib
 import types
 import zipfile
 from http.server import BaseHTTPRequestHandler, ThreadingHTTPServer
@@ -143,6 +144,40 @@ def test_a_folder_with_other_files_is_left_alone(tmp_path, release):
     ended = subprocess.run([sys.executable, ROOT / "release", tmp_path], capture_output=True, text=True)
     assert (ended.returncode, ended.stderr) == (1, f"release: {tmp_path} has other files than those of a release\n")
     assert (tmp_path / "letter").read_text() == "Dear"
+
+
+ADDRESSES = """\
+# no address
+repository = https://example.org/robots
+contact = robots@example.org
+"""
+
+
+@pytest.mark.parametrize("path", ["python/pyproject.toml", "rust/Cargo.toml", "rust/sys/Cargo.toml"])
+def test_a_package_has_the_addresses_of_the_project(path, tmp_path):
+    """And nothing else is added: nothing at all while there are none."""
+    made, addresses, text = tmp_path / Path(path).name, tmp_path / "ADDRESSES", (ROOT / "bindings" / path).read_text()
+    found = []
+    for stated in (ADDRESSES.splitlines()[0], ADDRESSES):
+        made.write_text(text)
+        addresses.write_text(stated)
+        MODULE.add_addresses(made, addresses)
+        found.append(made.read_text())
+    assert found[0] == text
+    wanted = tomllib.loads(text)
+    if "project" in wanted:
+        wanted["project"]["urls"]["Repository"] = "https://example.org/robots"
+        wanted["project"]["maintainers"] = [{"email": "robots@example.org"}]
+    else:
+        wanted["package"] |= {"repository": "https://example.org/robots", "authors": ["robots@example.org"]}
+    assert tomllib.loads(found[1]) == wanted
+
+
+@pytest.mark.parametrize("stated", ["repository: https://example.org", "contact =", "contact = ", "homepage = https://example.org"])
+def test_other_lines_are_no_addresses(stated, tmp_path):
+    (tmp_path / "ADDRESSES").write_text(f"# one\n{stated}\n")
+    with pytest.raises(SystemExit, match=f"^release: ADDRESSES: {stated}: this is neither"):
+        MODULE.add_addresses(ROOT / "bindings/rust/Cargo.toml", tmp_path / "ADDRESSES")
 
 
 MODULE = types.ModuleType("release")
