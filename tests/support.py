@@ -18,6 +18,14 @@ DOCUMENTS = {path.relative_to(ROOT).as_posix(): path.read_text() for path in [*s
 PAGES = DOCUMENTS | {f"bindings/{it}/README.md": (ROOT / f"bindings/{it}/README.md").read_text() for it in ("c", "python", "rust")}
 
 
+def toolchain():
+    """The toolchain that PROOFS names. Other builds of it with the same logic accept the same proofs: `rt` may be one of them."""
+    (named,) = re.findall(r"^ +(rattle-kit-\w+ logic [0-9a-f]+)$", DOCUMENTS["docs/PROOFS.md"], re.M)
+    ours = subprocess.run(["rt", "version"], capture_output=True, text=True).stdout.splitlines()[0]
+    assert named.split()[1:] == ours.split()[1:], f"PROOFS names {named}, and this is {ours}"
+    return named
+
+
 @dataclass
 class Result:
     """What a program wrote and ended with. Bytes that aren't UTF-8 are surrogates, so that pytest can show a difference by lines."""

@@ -293,11 +293,6 @@ def test_questions_are_those_of_the_document():
     assert list(QUESTIONS) == list(ANSWERS)
 
 
-def test_proofs_name_the_toolchain():
-    version = subprocess.run(["rt", "version"], capture_output=True, text=True).stdout.splitlines()[0]
-    assert version in [line.strip() for line in PROOFS.splitlines()]
-
-
 # ---- docs/PROGRAMS.md
 
 def examples_of_warnings():

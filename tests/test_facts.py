@@ -3,10 +3,9 @@ source that decides it."""
 
 import re
 import signal
-import subprocess
 
 import pytest
-from support import CRATES, DOCUMENTS, KEYS, PAGES, ROOT, run, tables
+from support import CRATES, DOCUMENTS, KEYS, PAGES, ROOT, run, tables, toolchain
 from library import kit
 from test_documents import GUIDE, PROGRAMS, PROOFS, README, section
 
@@ -244,9 +243,8 @@ def test_http_status_codes_are_those_of_the_standard():
 
 
 def test_one_version_of_the_toolchain():
-    version = subprocess.run(["rt", "version"], capture_output=True, text=True).stdout.splitlines()[0]
     named = [it for text in DOCUMENTS.values() for it in re.findall(r"rattle-kit-\w+ logic \w+", text)]
-    assert len(named) >= 2 and set(named) == {version}
+    assert len(named) >= 2 and set(named) == {toolchain()}
 
 
 def test_one_version_of_the_repository():

@@ -1,10 +1,9 @@
-"""One version: each place that names it has the one in the file VERSION. One toolchain: each place that names it has that of `rt version`."""
+"""One version: each place that names it has the one in the file VERSION. One toolchain: each place that names it has that of PROOFS."""
 
 import re
-import subprocess
 
 import pytest
-from support import ROOT, run
+from support import ROOT, run, toolchain
 
 VERSION = (ROOT / "VERSION").read_text().removesuffix("\n")
 MAJOR, MINOR, PATCH = VERSION.split(".")
@@ -31,10 +30,6 @@ PLACES = [
     ("crates/robots_c/robots.h", rf"ROBOTS_VERSION_TEXT {QUOTED}"),
     ("crates/robots_c/src/lib.rt", r"fn robots_version\(\) -> u32\n    ensures \{ result ≡ (\d+) \}\n\{\n    ([\d_]+)\n\}", NUMBER),
 ]
-
-
-def toolchain():
-    return subprocess.run(["rt", "version"], capture_output=True, text=True).stdout.splitlines()[0]
 
 
 def test_version_has_three_numbers():
