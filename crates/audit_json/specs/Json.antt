@@ -37,6 +37,9 @@ number_json (Some n) = count_json n
 abbrev pub list_json : {X : Type 0} → (X → Data) → List X → Data
 list_json value xs = array (items_of (map value xs))
 
+abbrev pub with_one : List ℕ → Data → Data
+with_one name value = object (member name value no_members)
+
 -- whether the URL is allowed, the line that decides, and the URL
 abbrev pub verdict_json : VerdictValue → Data
 verdict_json verdict = object

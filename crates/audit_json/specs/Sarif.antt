@@ -14,7 +14,7 @@ use Rattle.robots_warnings.specs.{declared.table.Cause.Cause}
 use Rattle.robots_warnings.specs.Table.{all_causes, example_of, level_of, name_of, text_of}
 use Rattle.audit_core.specs.{Audit.AuditValue, Findings.findings as findings_of, Findings.found_of}
 use Rattle.audit_core.specs.declared.findings.{Finding.Finding}
-use Rattle.audit_json.specs.Json.{json_line, list_json}
+use Rattle.audit_json.specs.Json.{json_line, list_json, with_one}
 
 -- a letter, a digit, or one of `-._~/`
 abbrev pub is_uri_byte : ℕ → Bool
@@ -145,9 +145,6 @@ has_level_for cause rule = not (bytes_eq rule.name (name_of cause)) || reaches r
 abbrev pub rules_named : List ℕ → ℕ
 rules_named name = count_by (λ (rule : SarifRuleValue). bytes_eq rule.name name) all_rules
 
-abbrev pub with_one : List ℕ → Data → Data
-with_one name value = object (member name value no_members)
-
 -- a message (section 3.11)
 abbrev pub message_json : List ℕ → Data
 message_json text = with_one (codes "text") (string (literal_text text))
@@ -178,15 +175,16 @@ place_json uri line = object
     (member (codes "artifactLocation") (artifact_json uri)
     (member (codes "region") (region_json line) no_members))
 
--- a location (section 3.28)
-abbrev pub location_json : List ℕ → Option ℕ → Data
-location_json uri line = with_one (codes "physicalLocation") (place_json uri line)
+-- the only location (section 3.28)
+abbrev pub locations_json : List ℕ → Option ℕ → Data
+locations_json uri line =
+    array (item (with_one (codes "physicalLocation") (place_json uri line)) no_items)
 
 -- a result (section 3.27)
 abbrev pub result_json : List ℕ → Finding → Data
 result_json uri finding = object
     (member (codes "level") (string (level_word finding.level))
-    (member (codes "locations") (array (item (location_json uri finding.line) no_items))
+    (member (codes "locations") (locations_json uri finding.line)
     (member (codes "message") (message_json (string_bytes finding.message))
     (member (codes "ruleId") (string finding.name.now) no_members))))
 

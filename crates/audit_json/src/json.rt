@@ -9,6 +9,7 @@ ghost use Rattle.audit_json.specs.Json.{line_json, list_json, number_json, rows_
 ghost use Rattle.audit_json.specs.Json.{text_json, value_json, vendor_word, word_json};
 ghost use Rattle.robots_warnings.specs.File.{lines_of};
 
+use crate::object::Object;
 use audit_core::audit::{AgentAudit, Audit, Verdict};
 use audit_core::findings::{Finding, warnings_found};
 use audit_core::group::{AtVendor, Group};
@@ -17,7 +18,7 @@ use audit_core::sitemaps::sitemaps_of;
 use audit_core::texts::may_fetch;
 use printable_text::sanitize::push_sanitized;
 use rfc9309::conformance::Conformance;
-use serde_json::{Value, json};
+use serde_json::Value;
 use std::alloc::{AllocError, Global};
 use std::fmt;
 use texting_robots::labels::LabeledLine;
@@ -68,11 +69,13 @@ impl<'a> Json for Verdict<'a> {
     ghost json = { verdict_json };
 
     fn json(&self, alloc: Global) -> Result<Value, AllocError> {
-        json!(in alloc; {
-            "allowed": self.decision.allowed,
-            "line": self.decision.line,
-            "url": sanitized_json(alloc, self.url.as_bytes())?,
-        })
+        Ok(
+            Object::new(alloc)
+                .with("allowed", Ok(Value::Bool(self.decision.allowed)))?
+                .with("line", Ok(line_number(self.decision.line)))?
+                .with("url", sanitized_json(alloc, self.url.as_bytes()))?
+                .value(),
+        )
     }
 }
 
@@ -137,11 +140,13 @@ fn names_json(alloc: Global, names: &[&'static str]) -> Result<Value, AllocError
 fn group_json(alloc: Global, audit: &AgentAudit<'_>) -> Result<Value, AllocError>
     ensures { IfOk result (λ value. view value ≡ group_json audit.now) }
 {
-    json!(in alloc; {
-        "ignored_by": names_json(alloc, &audit.ignored_by)?,
-        "kind": group_word(audit.group),
-        "line": line_number(audit.group_line),
-    })
+    Ok(
+        Object::new(alloc)
+            .with("ignored_by", names_json(alloc, &audit.ignored_by))?
+            .with("kind", Value::try_from_str(alloc, group_word(audit.group)))?
+            .with("line", Ok(line_number(audit.group_line)))?
+            .value(),
+    )
 }
 
 impl<'a> Json for AgentAudit<'a> {
@@ -150,16 +155,21 @@ impl<'a> Json for AgentAudit<'a> {
     ghost json = { agent_json };
 
     fn json(&self, alloc: Global) -> Result<Value, AllocError> {
-        json!(in alloc; {
-            "agent": sanitized_json(alloc, self.agent.as_bytes())?,
-            "delay": delay_json(self.delay),
-            "group": group_json(alloc, self)?,
-            "may_fetch": fetch_json(alloc, self)?,
-            "rejected": line_number(self.rejected),
-            "rules": self.rules,
-            "vendor": vendor_word(self.vendor),
-            "verdicts": list_json(alloc, &self.verdicts)?,
-        })
+        Ok(
+            Object::new(alloc)
+                .with("agent", sanitized_json(alloc, self.agent.as_bytes()))?
+                .with("delay", Ok(delay_json(self.delay)))?
+                .with("group", group_json(alloc, self))?
+                .with("may_fetch", fetch_json(alloc, self))?
+                .with("rejected", Ok(line_number(self.rejected)))?
+                .with("rules", Ok(Value::from(self.rules)))?
+                .with(
+                    "vendor",
+                    Value::try_from_str(alloc, vendor_word(self.vendor)),
+                )?
+                .with("verdicts", list_json(alloc, &self.verdicts))?
+                .value(),
+        )
     }
 }
 
@@ -180,13 +190,17 @@ fn value_json(alloc: Global, line: Line<'_>) -> Result<Value, AllocError>
 fn line_json(alloc: Global, labeled: &LabeledLine<'_>) -> Result<Value, AllocError>
     ensures { IfOk result (λ value. view value ≡ line_json (label_by_value labeled.now)) }
 {
-    json!(in alloc; {
-        "comment": text_json(alloc, comment_of(labeled.line, labeled.body))?,
-        "kind": kind_text(labeled.line),
-        "membership": membership_word(labeled.membership),
-        "number": labeled.number,
-        "value": value_json(alloc, labeled.line)?,
-    })
+    let comment = comment_of(labeled.line, labeled.body);
+    let membership = membership_word(labeled.membership);
+    Ok(
+        Object::new(alloc)
+            .with("comment", text_json(alloc, comment))?
+            .with("kind", Value::try_from_str(alloc, kind_text(labeled.line)))?
+            .with("membership", Value::try_from_str(alloc, membership))?
+            .with("number", Ok(Value::from(labeled.number)))?
+            .with("value", value_json(alloc, labeled.line))?
+            .value(),
+    )
 }
 
 impl<'a> Json for &'a [u8] {
@@ -205,12 +219,14 @@ impl Json for Finding {
     ghost json = { finding_json };
 
     fn json(&self, alloc: Global) -> Result<Value, AllocError> {
-        json!(in alloc; {
-            "level": self.level.word(),
-            "line": self.line,
-            "name": self.name,
-            "text": self.message.as_str(),
-        })
+        Ok(
+            Object::new(alloc)
+                .with("level", Value::try_from_str(alloc, self.level.word()))?
+                .with("line", Ok(line_number(self.line)))?
+                .with("name", Value::try_from_str(alloc, self.name))?
+                .with("text", Value::try_from_str(alloc, &self.message))?
+                .value(),
+        )
     }
 }
 
@@ -264,18 +280,23 @@ fn audit_json(
 ) -> Result<Value, AllocError>
     ensures { IfOk result (λ value. view value ≡ audit_json has_rows audit.now found.now) }
 {
-    let syntax = known_json(audit.syntax.has_syntax());
-    let verdicts = known_json(audit.syntax.has_verdicts());
-    let line = error_json(audit.syntax);
-    json!(in alloc; {
-        "agents": list_json(alloc, &audit.agents)?,
-        "has_rfc_9309_syntax": syntax,
-        "has_rfc_9309_verdicts": verdicts,
-        "lines": rows_json(alloc, has_rows, &audit.labels)?,
-        "rfc_9309_line": line,
-        "sitemaps": sitemaps_json(alloc, &audit.labels)?,
-        "warnings": list_json(alloc, found)?,
-    })
+    Ok(
+        Object::new(alloc)
+            .with("agents", list_json(alloc, &audit.agents))?
+            .with(
+                "has_rfc_9309_syntax",
+                Ok(known_json(audit.syntax.has_syntax())),
+            )?
+            .with(
+                "has_rfc_9309_verdicts",
+                Ok(known_json(audit.syntax.has_verdicts())),
+            )?
+            .with("lines", rows_json(alloc, has_rows, &audit.labels))?
+            .with("rfc_9309_line", Ok(error_json(audit.syntax)))?
+            .with("sitemaps", sitemaps_json(alloc, &audit.labels))?
+            .with("warnings", list_json(alloc, found))?
+            .value(),
+    )
 }
 
 /// A value without floating-point numbers, as one line.
@@ -307,11 +328,13 @@ fn findings_json(
 ) -> Result<Value, AllocError>
     ensures { IfOk result (λ value. view value ≡ findings_json file.now old.now findings.now) }
 {
-    json!(in alloc; {
-        "file": sanitized_json(alloc, file.as_bytes())?,
-        "findings": list_json(alloc, findings)?,
-        "old": text_json(alloc, old.as_bytes())?,
-    })
+    Ok(
+        Object::new(alloc)
+            .with("file", sanitized_json(alloc, file.as_bytes()))?
+            .with("findings", list_json(alloc, findings))?
+            .with("old", text_json(alloc, old.as_bytes()))?
+            .value(),
+    )
 }
 
 /// The findings about the file with this name, as one line.

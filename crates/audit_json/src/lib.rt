@@ -2,5 +2,6 @@
 #![tactic(auto)]
 
 pub mod json;
+mod object;
 pub mod sarif;
 pub mod theorems;

@@ -3,17 +3,18 @@ ghost use Rattle.std.specs.Prelude.{◌≡◌, ◌++◌, IfOk, OnOk, encode_utf8
 ghost use Rattle.serde_json.specs.View.{view};
 ghost use Rattle.audit_json.specs.Internal.{rule_value};
 ghost use Rattle.audit_json.specs.Json.{list_json};
-ghost use Rattle.audit_json.specs.Sarif.{all_rules, begins_with_slash, description_of, has_name, has_name_at, help_text, is_uri_byte, worst_level, literal_char, literal_text, log_json};
-ghost use Rattle.audit_json.specs.Sarif.{IsLog, message_json, one_slash, place_json, result_json, rule_json, rule_unless_later, rules_of, tool_json, uri_byte, uri_of};
+ghost use Rattle.audit_json.specs.Sarif.{all_rules, begins_with_slash, description_of, has_name, has_name_at, help_text, is_uri_byte, worst_level, literal_char, literal_text, locations_json, log_json};
+ghost use Rattle.audit_json.specs.Sarif.{IsLog, message_json, one_slash, place_json, result_json, rule_json, rule_unless_later, rules_of, run_json, tool_json, uri_byte, uri_of};
 
 use crate::json::json_line;
+use crate::object::{Object, array_of_one, with_one};
 use audit_core::audit::Audit;
 use audit_core::findings::{Finding, findings_of};
 use audit_core::version::VERSION;
 use percent_encoding::percent_encode_byte;
 use printable_text::level::Level;
 use robots_warnings::table::{Cause, causes};
-use serde_json::{Value, json};
+use serde_json::Value;
 use std::alloc::{AllocError, Global};
 use std::fmt;
 
@@ -103,7 +104,7 @@ fn message_json(alloc: Global, text: &str) -> Result<Value, AllocError>
     ensures { IfOk result (λ value. view value ≡ message_json text.now) }
 {
     let message = literal_text(alloc, text)?;
-    json!(in alloc; { "text": message.as_str() })
+    with_one(alloc, "text", Ok(Value::String(message)))
 }
 
 fn has_name(causes: &[Cause], name: &str) -> bool
@@ -212,13 +213,16 @@ fn help_json(alloc: Global, example: &str) -> Result<Value, AllocError>
 fn rule_json(alloc: Global, rule: &SarifRule) -> Result<Value, AllocError>
     ensures { IfOk result (λ value. view value ≡ rule_json (rule_value rule.now)) }
 {
-    json!(in alloc; {
-        "defaultConfiguration": { "level": rule.level.word() },
-        "fullDescription": message_json(alloc, rule.text)?,
-        "help": help_json(alloc, rule.example)?,
-        "id": rule.name,
-        "shortDescription": message_json(alloc, rule.text)?,
-    })
+    let level = Value::try_from_str(alloc, rule.level.word());
+    Ok(
+        Object::new(alloc)
+            .with("defaultConfiguration", with_one(alloc, "level", level))?
+            .with("fullDescription", message_json(alloc, rule.text))?
+            .with("help", help_json(alloc, rule.example))?
+            .with("id", Value::try_from_str(alloc, rule.name))?
+            .with("shortDescription", message_json(alloc, rule.text))?
+            .value(),
+    )
 }
 
 fn rules_json(alloc: Global, rules: &[SarifRule]) -> Result<Value, AllocError>
@@ -235,21 +239,34 @@ fn rules_json(alloc: Global, rules: &[SarifRule]) -> Result<Value, AllocError>
 fn place_json(alloc: Global, uri: &str, line: Option<usize>) -> Result<Value, AllocError>
     ensures { IfOk result (λ value. view value ≡ place_json uri.now line) }
 {
-    json!(in alloc; {
-        "artifactLocation": { "uri": uri },
-        "region": { "startLine": line.unwrap_or(1) },
-    })
+    let uri = Value::try_from_str(alloc, uri);
+    let line = Ok(Value::from(line.unwrap_or(1)));
+    Ok(
+        Object::new(alloc)
+            .with("artifactLocation", with_one(alloc, "uri", uri))?
+            .with("region", with_one(alloc, "startLine", line))?
+            .value(),
+    )
+}
+
+fn locations_json(alloc: Global, uri: &str, line: Option<usize>) -> Result<Value, AllocError>
+    ensures { IfOk result (λ value. view value ≡ locations_json uri.now line) }
+{
+    let place = place_json(alloc, uri, line);
+    array_of_one(alloc, with_one(alloc, "physicalLocation", place))
 }
 
 fn result_json(alloc: Global, uri: &str, finding: &Finding) -> Result<Value, AllocError>
     ensures { IfOk result (λ value. view value ≡ result_json uri.now finding.now) }
 {
-    json!(in alloc; {
-        "level": finding.level.word(),
-        "locations": [{ "physicalLocation": place_json(alloc, uri, finding.line)? }],
-        "message": message_json(alloc, &finding.message)?,
-        "ruleId": finding.name,
-    })
+    Ok(
+        Object::new(alloc)
+            .with("level", Value::try_from_str(alloc, finding.level.word()))?
+            .with("locations", locations_json(alloc, uri, finding.line))?
+            .with("message", message_json(alloc, &finding.message))?
+            .with("ruleId", Value::try_from_str(alloc, finding.name))?
+            .value(),
+    )
 }
 
 fn results_json(alloc: Global, uri: &str, findings: &[Finding]) -> Result<Value, AllocError>
@@ -265,23 +282,37 @@ fn results_json(alloc: Global, uri: &str, findings: &[Finding]) -> Result<Value,
 fn tool_json(alloc: Global) -> Result<Value, AllocError>
     ensures { IfOk result (λ value. view value ≡ tool_json) }
 {
-    json!(in alloc; {
-        "driver": {
-            "name": "robots_audit",
-            "rules": rules_json(alloc, &all_rules(alloc)?)?,
-            "version": VERSION,
-        },
-    })
+    let rules = all_rules(alloc)?;
+    let driver = Object::new(alloc)
+        .with("name", Value::try_from_str(alloc, "robots_audit"))?
+        .with("rules", rules_json(alloc, &rules))?
+        .with("version", Value::try_from_str(alloc, VERSION))?
+        .value();
+    with_one(alloc, "driver", Ok(driver))
+}
+
+fn run_json(alloc: Global, uri: &str, findings: &[Finding]) -> Result<Value, AllocError>
+    ensures { IfOk result (λ value. view value ≡ run_json uri.now findings.now) }
+{
+    Ok(
+        Object::new(alloc)
+            .with("results", results_json(alloc, uri, findings))?
+            .with("tool", tool_json(alloc))?
+            .value(),
+    )
 }
 
 fn log_json(alloc: Global, uri: &str, findings: &[Finding]) -> Result<Value, AllocError>
     ensures { IfOk result (λ value. view value ≡ log_json uri.now findings.now) }
 {
-    json!(in alloc; {
-        "$schema": "https://json.schemastore.org/sarif-2.1.0.json",
-        "runs": [{ "results": results_json(alloc, uri, findings)?, "tool": tool_json(alloc)? }],
-        "version": "2.1.0",
-    })
+    let schema = "https://json.schemastore.org/sarif-2.1.0.json";
+    Ok(
+        Object::new(alloc)
+            .with("$schema", Value::try_from_str(alloc, schema))?
+            .with("runs", array_of_one(alloc, run_json(alloc, uri, findings)))?
+            .with("version", Value::try_from_str(alloc, "2.1.0"))?
+            .value(),
+    )
 }
 
 /// The log of the findings of an audit of the file with this name, as one line of JSON.
