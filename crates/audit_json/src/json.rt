@@ -25,7 +25,7 @@ use texting_robots::labels::LabeledLine;
 use texting_robots::parser::Line;
 
 /// A value with a JSON form.
-trait Json {
+pub(crate) trait Json {
     ghost use Rattle.serde_json.specs.Data.{Data};
 
     ghost json: { Self → Data };
@@ -34,7 +34,7 @@ trait Json {
         ensures { IfOk result (λ value. view value ≡ json self.now) };
 }
 
-fn list_json<T: Json>(alloc: Global, items: &[T]) -> Result<Value, AllocError>
+pub(crate) fn list_json<T: Json>(alloc: Global, items: &[T]) -> Result<Value, AllocError>
     ensures { IfOk result (λ value. view value ≡ list_json T.json items.now) }
 {
     let mut list = Vec::with_capacity(alloc, items.len())?;
@@ -69,13 +69,11 @@ impl<'a> Json for Verdict<'a> {
     ghost json = { verdict_json };
 
     fn json(&self, alloc: Global) -> Result<Value, AllocError> {
-        Ok(
-            Object::new(alloc)
-                .with("allowed", Ok(Value::Bool(self.decision.allowed)))?
-                .with("line", Ok(line_number(self.decision.line)))?
-                .with("url", sanitized_json(alloc, self.url.as_bytes()))?
-                .value(),
-        )
+        let object = Object::new(alloc)
+            .with("allowed", Ok(Value::Bool(self.decision.allowed)))?
+            .with("line", Ok(line_number(self.decision.line)))?
+            .with("url", sanitized_json(alloc, self.url.as_bytes()))?;
+        Ok(object.value())
     }
 }
 
@@ -127,26 +125,30 @@ fn fetch_json(alloc: Global, audit: &AgentAudit<'_>) -> Result<Value, AllocError
     word_json(alloc, may_fetch(audit.rejected, audit.vendor, audit.reach))
 }
 
+impl Json for &'static str {
+    ghost use Rattle.serde_json.specs.Data.{string};
+
+    ghost json = { λ text. string text.now };
+
+    fn json(&self, alloc: Global) -> Result<Value, AllocError> {
+        Value::try_from_str(alloc, self)
+    }
+}
+
 fn names_json(alloc: Global, names: &[&'static str]) -> Result<Value, AllocError>
     ensures { IfOk result (λ value. view value ≡ list_json string (map (λ name. name.now) names.now)) }
 {
-    let mut list = Vec::with_capacity(alloc, names.len())?;
-    for name in names {
-        list.push(Value::String(String::from_str(alloc, name)?))?;
-    }
-    Ok(Value::Array(list))
+    list_json(alloc, names)
 }
 
 fn group_json(alloc: Global, audit: &AgentAudit<'_>) -> Result<Value, AllocError>
     ensures { IfOk result (λ value. view value ≡ group_json audit.now) }
 {
-    Ok(
-        Object::new(alloc)
-            .with("ignored_by", names_json(alloc, &audit.ignored_by))?
-            .with("kind", Value::try_from_str(alloc, group_word(audit.group)))?
-            .with("line", Ok(line_number(audit.group_line)))?
-            .value(),
-    )
+    let object = Object::new(alloc)
+        .with("ignored_by", names_json(alloc, &audit.ignored_by))?
+        .with("kind", Value::try_from_str(alloc, group_word(audit.group)))?
+        .with("line", Ok(line_number(audit.group_line)))?;
+    Ok(object.value())
 }
 
 impl<'a> Json for AgentAudit<'a> {
@@ -155,21 +157,19 @@ impl<'a> Json for AgentAudit<'a> {
     ghost json = { agent_json };
 
     fn json(&self, alloc: Global) -> Result<Value, AllocError> {
-        Ok(
-            Object::new(alloc)
-                .with("agent", sanitized_json(alloc, self.agent.as_bytes()))?
-                .with("delay", Ok(delay_json(self.delay)))?
-                .with("group", group_json(alloc, self))?
-                .with("may_fetch", fetch_json(alloc, self))?
-                .with("rejected", Ok(line_number(self.rejected)))?
-                .with("rules", Ok(Value::from(self.rules)))?
-                .with(
-                    "vendor",
-                    Value::try_from_str(alloc, vendor_word(self.vendor)),
-                )?
-                .with("verdicts", list_json(alloc, &self.verdicts))?
-                .value(),
-        )
+        let object = Object::new(alloc)
+            .with("agent", sanitized_json(alloc, self.agent.as_bytes()))?
+            .with("delay", Ok(delay_json(self.delay)))?
+            .with("group", group_json(alloc, self))?
+            .with("may_fetch", fetch_json(alloc, self))?
+            .with("rejected", Ok(line_number(self.rejected)))?
+            .with("rules", Ok(Value::from(self.rules)))?
+            .with(
+                "vendor",
+                Value::try_from_str(alloc, vendor_word(self.vendor)),
+            )?
+            .with("verdicts", list_json(alloc, &self.verdicts))?;
+        Ok(object.value())
     }
 }
 
@@ -187,20 +187,23 @@ fn value_json(alloc: Global, line: Line<'_>) -> Result<Value, AllocError>
     }
 }
 
-fn line_json(alloc: Global, labeled: &LabeledLine<'_>) -> Result<Value, AllocError>
-    ensures { IfOk result (λ value. view value ≡ line_json (label_by_value labeled.now)) }
-{
-    let comment = comment_of(labeled.line, labeled.body);
-    let membership = membership_word(labeled.membership);
-    Ok(
-        Object::new(alloc)
+impl<'a> Json for LabeledLine<'a> {
+    ghost use Rattle.texting_robots.specs.Callers.{label_by_value};
+    ghost use Rattle.audit_json.specs.Json.{line_json};
+
+    ghost json = { λ label. line_json (label_by_value label) };
+
+    fn json(&self, alloc: Global) -> Result<Value, AllocError> {
+        let comment = comment_of(self.line, self.body);
+        let membership = membership_word(self.membership);
+        let object = Object::new(alloc)
             .with("comment", text_json(alloc, comment))?
-            .with("kind", Value::try_from_str(alloc, kind_text(labeled.line)))?
+            .with("kind", Value::try_from_str(alloc, kind_text(self.line)))?
             .with("membership", Value::try_from_str(alloc, membership))?
-            .with("number", Ok(Value::from(labeled.number)))?
-            .with("value", value_json(alloc, labeled.line))?
-            .value(),
-    )
+            .with("number", Ok(Value::from(self.number)))?
+            .with("value", value_json(alloc, self.line))?;
+        Ok(object.value())
+    }
 }
 
 impl<'a> Json for &'a [u8] {
@@ -219,14 +222,12 @@ impl Json for Finding {
     ghost json = { finding_json };
 
     fn json(&self, alloc: Global) -> Result<Value, AllocError> {
-        Ok(
-            Object::new(alloc)
-                .with("level", Value::try_from_str(alloc, self.level.word()))?
-                .with("line", Ok(line_number(self.line)))?
-                .with("name", Value::try_from_str(alloc, self.name))?
-                .with("text", Value::try_from_str(alloc, &self.message))?
-                .value(),
-        )
+        let object = Object::new(alloc)
+            .with("level", Value::try_from_str(alloc, self.level.word()))?
+            .with("line", Ok(line_number(self.line)))?
+            .with("name", Value::try_from_str(alloc, self.name))?
+            .with("text", Value::try_from_str(alloc, &self.message))?;
+        Ok(object.value())
     }
 }
 
@@ -241,14 +242,11 @@ fn sitemaps_json(alloc: Global, labels: &[LabeledLine<'_>]) -> Result<Value, All
 fn rows_json(alloc: Global, has_rows: bool, labels: &[LabeledLine<'_>]) -> Result<Value, AllocError>
     ensures { IfOk result (λ value. view value ≡ rows_json has_rows (map label_by_value labels.now)) }
 {
-    if !has_rows {
-        return Ok(Value::Null);
+    if has_rows {
+        list_json(alloc, labels)
+    } else {
+        Ok(Value::Null)
     }
-    let mut list = Vec::new(alloc);
-    for labeled in labels {
-        list.push(line_json(alloc, labeled)?)?;
-    }
-    Ok(Value::Array(list))
 }
 
 fn known_json(is_known: bool) -> Value
@@ -280,23 +278,21 @@ fn audit_json(
 ) -> Result<Value, AllocError>
     ensures { IfOk result (λ value. view value ≡ audit_json has_rows audit.now found.now) }
 {
-    Ok(
-        Object::new(alloc)
-            .with("agents", list_json(alloc, &audit.agents))?
-            .with(
-                "has_rfc_9309_syntax",
-                Ok(known_json(audit.syntax.has_syntax())),
-            )?
-            .with(
-                "has_rfc_9309_verdicts",
-                Ok(known_json(audit.syntax.has_verdicts())),
-            )?
-            .with("lines", rows_json(alloc, has_rows, &audit.labels))?
-            .with("rfc_9309_line", Ok(error_json(audit.syntax)))?
-            .with("sitemaps", sitemaps_json(alloc, &audit.labels))?
-            .with("warnings", list_json(alloc, found))?
-            .value(),
-    )
+    let object = Object::new(alloc)
+        .with("agents", list_json(alloc, &audit.agents))?
+        .with(
+            "has_rfc_9309_syntax",
+            Ok(known_json(audit.syntax.has_syntax())),
+        )?
+        .with(
+            "has_rfc_9309_verdicts",
+            Ok(known_json(audit.syntax.has_verdicts())),
+        )?
+        .with("lines", rows_json(alloc, has_rows, &audit.labels))?
+        .with("rfc_9309_line", Ok(error_json(audit.syntax)))?
+        .with("sitemaps", sitemaps_json(alloc, &audit.labels))?
+        .with("warnings", list_json(alloc, found))?;
+    Ok(object.value())
 }
 
 /// A value without floating-point numbers, as one line.
@@ -328,13 +324,11 @@ fn findings_json(
 ) -> Result<Value, AllocError>
     ensures { IfOk result (λ value. view value ≡ findings_json file.now old.now findings.now) }
 {
-    Ok(
-        Object::new(alloc)
-            .with("file", sanitized_json(alloc, file.as_bytes()))?
-            .with("findings", list_json(alloc, findings))?
-            .with("old", text_json(alloc, old.as_bytes()))?
-            .value(),
-    )
+    let object = Object::new(alloc)
+        .with("file", sanitized_json(alloc, file.as_bytes()))?
+        .with("findings", list_json(alloc, findings))?
+        .with("old", text_json(alloc, old.as_bytes()))?;
+    Ok(object.value())
 }
 
 /// The findings about the file with this name, as one line.

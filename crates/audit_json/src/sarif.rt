@@ -6,7 +6,7 @@ ghost use Rattle.audit_json.specs.Json.{list_json};
 ghost use Rattle.audit_json.specs.Sarif.{all_rules, begins_with_slash, description_of, has_name, has_name_at, help_text, is_uri_byte, worst_level, literal_char, literal_text, locations_json, log_json};
 ghost use Rattle.audit_json.specs.Sarif.{IsLog, message_json, one_slash, place_json, result_json, rule_json, rule_unless_later, rules_of, run_json, tool_json, uri_byte, uri_of};
 
-use crate::json::json_line;
+use crate::json::{Json, json_line, list_json};
 use crate::object::{Object, array_of_one, with_one};
 use audit_core::audit::Audit;
 use audit_core::findings::{Finding, findings_of};
@@ -210,29 +210,28 @@ fn help_json(alloc: Global, example: &str) -> Result<Value, AllocError>
     message_json(alloc, &text)
 }
 
-fn rule_json(alloc: Global, rule: &SarifRule) -> Result<Value, AllocError>
-    ensures { IfOk result (λ value. view value ≡ rule_json (rule_value rule.now)) }
-{
-    let level = Value::try_from_str(alloc, rule.level.word());
-    Ok(
-        Object::new(alloc)
+impl Json for SarifRule {
+    ghost use Rattle.audit_json.specs.{Internal.rule_value, Sarif.rule_json};
+
+    ghost json = { λ rule. rule_json (rule_value rule) };
+
+    fn json(&self, alloc: Global) -> Result<Value, AllocError> {
+        let level = Value::try_from_str(alloc, self.level.word());
+        let object = Object::new(alloc)
             .with("defaultConfiguration", with_one(alloc, "level", level))?
-            .with("fullDescription", message_json(alloc, rule.text))?
-            .with("help", help_json(alloc, rule.example))?
-            .with("id", Value::try_from_str(alloc, rule.name))?
-            .with("shortDescription", message_json(alloc, rule.text))?
-            .value(),
-    )
+            .with("fullDescription", message_json(alloc, self.text))?
+            .with("help", help_json(alloc, self.example))?
+            .with("id", Value::try_from_str(alloc, self.name))?
+            .with("shortDescription", message_json(alloc, self.text))?;
+        Ok(object.value())
+    }
 }
 
-fn rules_json(alloc: Global, rules: &[SarifRule]) -> Result<Value, AllocError>
-    ensures { IfOk result (λ value. view value ≡ list_json rule_json (map rule_value rules.now)) }
+fn rules_json(alloc: Global) -> Result<Value, AllocError>
+    ensures { IfOk result (λ value. view value ≡ list_json rule_json all_rules) }
 {
-    let mut list = Vec::with_capacity(alloc, rules.len())?;
-    for rule in rules {
-        list.push(rule_json(alloc, rule)?)?;
-    }
-    Ok(Value::Array(list))
+    let rules = all_rules(alloc)?;
+    list_json(alloc, &rules)
 }
 
 /// The first line for a finding without a line.
@@ -241,12 +240,10 @@ fn place_json(alloc: Global, uri: &str, line: Option<usize>) -> Result<Value, Al
 {
     let uri = Value::try_from_str(alloc, uri);
     let line = Ok(Value::from(line.unwrap_or(1)));
-    Ok(
-        Object::new(alloc)
-            .with("artifactLocation", with_one(alloc, "uri", uri))?
-            .with("region", with_one(alloc, "startLine", line))?
-            .value(),
-    )
+    let object = Object::new(alloc)
+        .with("artifactLocation", with_one(alloc, "uri", uri))?
+        .with("region", with_one(alloc, "startLine", line))?;
+    Ok(object.value())
 }
 
 fn locations_json(alloc: Global, uri: &str, line: Option<usize>) -> Result<Value, AllocError>
@@ -259,14 +256,12 @@ fn locations_json(alloc: Global, uri: &str, line: Option<usize>) -> Result<Value
 fn result_json(alloc: Global, uri: &str, finding: &Finding) -> Result<Value, AllocError>
     ensures { IfOk result (λ value. view value ≡ result_json uri.now finding.now) }
 {
-    Ok(
-        Object::new(alloc)
-            .with("level", Value::try_from_str(alloc, finding.level.word()))?
-            .with("locations", locations_json(alloc, uri, finding.line))?
-            .with("message", message_json(alloc, &finding.message))?
-            .with("ruleId", Value::try_from_str(alloc, finding.name))?
-            .value(),
-    )
+    let object = Object::new(alloc)
+        .with("level", Value::try_from_str(alloc, finding.level.word()))?
+        .with("locations", locations_json(alloc, uri, finding.line))?
+        .with("message", message_json(alloc, &finding.message))?
+        .with("ruleId", Value::try_from_str(alloc, finding.name))?;
+    Ok(object.value())
 }
 
 fn results_json(alloc: Global, uri: &str, findings: &[Finding]) -> Result<Value, AllocError>
@@ -282,10 +277,9 @@ fn results_json(alloc: Global, uri: &str, findings: &[Finding]) -> Result<Value,
 fn tool_json(alloc: Global) -> Result<Value, AllocError>
     ensures { IfOk result (λ value. view value ≡ tool_json) }
 {
-    let rules = all_rules(alloc)?;
     let driver = Object::new(alloc)
         .with("name", Value::try_from_str(alloc, "robots_audit"))?
-        .with("rules", rules_json(alloc, &rules))?
+        .with("rules", rules_json(alloc))?
         .with("version", Value::try_from_str(alloc, VERSION))?
         .value();
     with_one(alloc, "driver", Ok(driver))
@@ -294,25 +288,21 @@ fn tool_json(alloc: Global) -> Result<Value, AllocError>
 fn run_json(alloc: Global, uri: &str, findings: &[Finding]) -> Result<Value, AllocError>
     ensures { IfOk result (λ value. view value ≡ run_json uri.now findings.now) }
 {
-    Ok(
-        Object::new(alloc)
-            .with("results", results_json(alloc, uri, findings))?
-            .with("tool", tool_json(alloc))?
-            .value(),
-    )
+    let object = Object::new(alloc)
+        .with("results", results_json(alloc, uri, findings))?
+        .with("tool", tool_json(alloc))?;
+    Ok(object.value())
 }
 
 fn log_json(alloc: Global, uri: &str, findings: &[Finding]) -> Result<Value, AllocError>
     ensures { IfOk result (λ value. view value ≡ log_json uri.now findings.now) }
 {
     let schema = "https://json.schemastore.org/sarif-2.1.0.json";
-    Ok(
-        Object::new(alloc)
-            .with("$schema", Value::try_from_str(alloc, schema))?
-            .with("runs", array_of_one(alloc, run_json(alloc, uri, findings)))?
-            .with("version", Value::try_from_str(alloc, "2.1.0"))?
-            .value(),
-    )
+    let object = Object::new(alloc)
+        .with("$schema", Value::try_from_str(alloc, schema))?
+        .with("runs", array_of_one(alloc, run_json(alloc, uri, findings)))?
+        .with("version", Value::try_from_str(alloc, "2.1.0"))?;
+    Ok(object.value())
 }
 
 /// The log of the findings of an audit of the file with this name, as one line of JSON.
