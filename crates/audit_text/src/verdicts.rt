@@ -5,7 +5,7 @@ ghost use Rattle.audit_text.specs.Verdicts.{verdict_word};
 use crate::lines::Lines;
 use audit_core::audit::Verdict;
 use std::fmt;
-use texting_robots::decision::Decision;
+use texting_robots::Decision;
 
 fn verdict_word(allowed: bool) -> &'static str
     ensures { result.now ≡ verdict_word allowed }
