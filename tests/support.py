@@ -26,6 +26,10 @@ def toolchain():
     return named
 
 
+# what `--version` says of the program
+PROOF = "not proved" if (CRATES / "robots_audit/out/not-proved").exists() else f"proved with {toolchain()}"
+
+
 @dataclass
 class Result:
     """What a program wrote and ended with. Bytes that aren't UTF-8 are surrogates, so that pytest can show a difference by lines."""
@@ -80,8 +84,8 @@ STILL_OPEN = f"; but crawlers that obey only a group with their own name may fet
 
 def spelled(text):
     r"""The bytes that a golden case means: \\ is a backslash, \r CR, \xHH a byte, \{N TEXT} N times the TEXT, \* who may fetch what is
-    denied to *, and \i their names in JSON."""
-    escapes = {b"\\": b"\\", b"r": b"\r", b"*": STILL_OPEN.encode(), b"i": json.dumps(IGNORING, separators=(",", ":")).encode()}
+    denied to *, \i their names in JSON, and \v what --version says of proofs."""
+    escapes = {b"\\": b"\\", b"r": b"\r", b"*": STILL_OPEN.encode(), b"i": json.dumps(IGNORING, separators=(",", ":")).encode(), b"v": PROOF.encode()}
     return re.sub(rb"\\(?:x([0-9A-F]{2})|(.?))", lambda it: bytes.fromhex(it[1].decode()) if it[1] else escapes[it[2]], repeated(text).encode())
 
 

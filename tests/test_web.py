@@ -16,8 +16,9 @@ from types import SimpleNamespace
 
 import pytest
 from browser import Browser
+from builds import built
 from library import kit
-from support import ROOT, Result, files_beside, input_of, repeated, run, spelled, wanted_of
+from support import PROOF, ROOT, Result, files_beside, input_of, repeated, run, spelled, wanted_of
 from test_page import HOSTILE, contrast, with_text
 from test_programs import golden
 
@@ -27,15 +28,15 @@ MISSING = [it for it in ("chromium", "wasm-opt") if not shutil.which(it)]
 pytestmark = pytest.mark.skipif(bool(MISSING), reason=f"{', '.join(MISSING)} is missing")
 
 
-release_page = runpy.run_path(str(ROOT / "release"))["release_page"]
-
-
 @pytest.fixture(scope="module")
 def path(tmp_path_factory):
-    """The page, as `./release --all` makes it."""
+    """The page in the environment variable PAGE, or one as `./release --all` makes it, but of a module that isn't proved."""
+    if page := os.environ.get("PAGE"):
+        return Path(page).absolute()
     folder = tmp_path_factory.mktemp("web")
-    release_page(folder, folder, kit())
-    return folder / "robots_audit.html"
+    made = folder / "robots_audit.html"
+    runpy.run_path(str(ROOT / "release"))["page_of"](built("page")["page"], folder, kit(), made)
+    return made
 
 
 @pytest.fixture(scope="module")
@@ -150,7 +151,7 @@ def test_golden_cases(page):
     cases = [*cases_in_the_page()]
     given = [[[text_of(it) for it in (b"robots_audit", *words)], text_of(stdin), [[*map(text_of, it)] for it in files]] for *_, words, stdin, files in cases]
     results = page.value(f"{RUN_ALL}('{text_of(gzip.compress(json.dumps(given).encode(), 1))}')")
-    results = [Result(status, base64.b64decode(out), base64.b64decode(err)) for status, out, err in results]
+    results = [Result(status, base64.b64decode(out).replace(b"not proved", PROOF.encode()), base64.b64decode(err)) for status, out, err in results]
     assert [(case[0], result, case[1]) for case, result in zip(cases, results, strict=True) if result != case[1]][:3] == []
     assert len(cases) > 1000
 
