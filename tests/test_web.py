@@ -28,6 +28,9 @@ MISSING = [it for it in ("chromium", "wasm-opt") if not shutil.which(it)]
 pytestmark = pytest.mark.skipif(bool(MISSING), reason=f"{', '.join(MISSING)} is missing")
 
 
+RELEASE = runpy.run_path(str(ROOT / "release"))
+
+
 @pytest.fixture(scope="module")
 def path(tmp_path_factory):
     """The page in the environment variable PAGE, or one as `./release --all` makes it, but of a module that isn't proved."""
@@ -35,7 +38,7 @@ def path(tmp_path_factory):
         return Path(page).absolute()
     folder = tmp_path_factory.mktemp("web")
     made = folder / "robots_audit.html"
-    runpy.run_path(str(ROOT / "release"))["page_of"](built("page")["page"], folder, kit(), made)
+    RELEASE["page_of"](built("page")["page"], folder, kit(), made)
     return made
 
 
@@ -436,7 +439,8 @@ def test_window(page, path, width, height):
 
 def test_page_is_one_small_file_without_markup_from_texts(page, path):
     text = path.read_text()
-    assert len(text.encode()) <= 680_000 and "connect-src" not in text
+    assert len(text.encode()) <= (680_000 if "PAGE" in os.environ else 1_000_000)  # a module that isn't proved is larger
+    assert "connect-src" not in text
     assert all((ROOT / name).read_text().splitlines()[0] in text for name in ("LICENSE-MIT", "LICENSE-APACHE")) and "---- memchr" in text
     scripts = "".join((ROOT / f"web/{name}.js").read_text() for name in ("page", "host"))
     assert not re.findall(r"innerHTML|outerHTML|insertAdjacent|document\.write|\beval\b|new Function|fetch\(|XMLHttp|import\(", scripts)
@@ -445,5 +449,5 @@ def test_page_is_one_small_file_without_markup_from_texts(page, path):
 
 def test_page_is_left_out_without_binaryen(tmp_path, monkeypatch, capsys):
     monkeypatch.setenv("PATH", "")
-    release_page(tmp_path, tmp_path, None)
+    RELEASE["release_page"](tmp_path, tmp_path, None)
     assert capsys.readouterr().out == "release: binaryen is missing, so robots_audit.html isn't made\n" and not [*tmp_path.iterdir()]
