@@ -84,8 +84,8 @@ def test_numbers_of_explanations(name, words, none, some):
 
 
 def test_sentences_about_proofs():
-    """The sentences of explanations that say what is proved, and their theorems, are those of tests/proved.toml; nothing else says so."""
-    rows = tomllib.loads((ROOT / "tests/proved.toml").read_text())["proved"]
+    """The sentences of explanations that say what is proved, and their theorems, are those of tests/theorems.toml; nothing else says so."""
+    rows = tomllib.loads((ROOT / "tests/theorems.toml").read_text())["proved"]
     printed = []
     for name in WARNINGS:
         for line in explained(name)[1]:
