@@ -115,6 +115,7 @@ OF_A_CRAWLER = {"vendor-group", "ignores-star"}
 OF_GROUP = {"vendor-group"}
 FIELDS = ("User-agent", "Allow", "Disallow", "Sitemap", "Crawl-delay")
 OF_RULES = {"replaces-star"}
+OF_SIZE = {"two-delays", "repeated-rule"}
 OF_CLOSED = {"closes-everything", "closes-home-page"}
 OF_A_LINE = {"allowed-and-disallowed", "empty-disallow", "sitemap-denied", "repeated-sitemap"}
 NEEDLESS = ["never", "nothing", "allowed", "covered"]  # in the order of the messages of `needless-rule`
@@ -122,7 +123,7 @@ WORDS = {"space", "comma", "tag", "invisible", "=", "??", "nothing"}  # each in 
 
 
 def level_and_text(name, detail=""):
-    """The level and message of a warning. Its detail is the field name that may be meant; the level of one before the last; a word of its
+    """The level and message of a warning. Its detail is, if that depends on the size, that the file is too `large`; the field name that may be meant; the level of one before the last; a word of its
     message; how many rules it is about; the line of another rule; the kind of a needless rule, possibly with such a line; the name of a
     crawler that may be meant, possibly after a name in quotes and `warning`; the name of one of several crawlers, in quotes, and that of the group that
     its vendor applies, if it isn't Googlebot; of `closes-everything` and `closes-home-page` the level, such a name, and how many other crawlers there are, if
@@ -131,6 +132,8 @@ def level_and_text(name, detail=""):
         kind, _, other = detail.partition(" ")
         level, text = WARNINGS[name][NEEDLESS.index(kind)]
         return level, f"{text} (see line {other})" if other else text
+    if name in OF_SIZE:
+        return WARNINGS[name][detail == "large"]
     if name in OF_CLOSED:
         level, crawler, others = re.fullmatch(r"(\w+) ('.*')(?: (\d+))?", detail).groups()
         more = f" (and {others} other crawler{'' if others == '1' else 's'})" if others else ""
@@ -222,7 +225,7 @@ def warning_lines(warnings, file="robots.txt", agent=None):
     return "".join(shown + more + total)
 
 
-VERDICTS = "RFC 9309 syntax and verdicts, for URLs with usual escapes (%20 for a space, not %41 for A)"
+VERDICTS = "RFC 9309 syntax, and verdicts for paths and queries in normal form (%20 for a space, not %41 for A)"
 KEYS = set("like args agent robots file expect old from pieces room out more rfc warn err status indented".split())
 
 
