@@ -12,14 +12,14 @@ mod warnings;
 
 use audit_core::audit::Audit;
 use audit_core::request::Request;
+use audit_core::sitemaps::sitemaps_of;
 use audit_core::syntax::{Standard, has_directive};
 use audit_core::version::VERSION;
-use elements::Page;
+use elements::{Page, put_text};
 use file::{write_file_table, write_sitemap_entry};
 use printable_text::report::Named;
-use rfc9309::conformance::Conformance;
 use robots_warnings::table::Cause;
-use std::alloc::Global;
+use std::alloc::{AllocError, Global};
 use std::fmt;
 use std::fmt::Write;
 use style::{CSS, POLICY};
@@ -49,54 +49,33 @@ fn is_robots_file(audit: &Audit<'_>) -> bool {
         ))
 }
 
-fn write_head(page: &mut Page, title: Title<'_>) -> fmt::Result {
-    page.html.open("head", &[])?;
-    page.html.void("meta", &[("charset", "utf-8")])?;
-    page.html.void(
+fn write_head(page: &mut Page, title: Title<'_>) {
+    page.open("head");
+    page.void("meta", &[("charset", "utf-8")]);
+    page.void(
         "meta",
         &[
             ("http-equiv", "Content-Security-Policy"),
             ("content", POLICY),
         ],
-    )?;
-    page.html.void(
+    );
+    page.void(
         "meta",
         &[
             ("name", "viewport"),
             ("content", "width=device-width, initial-scale=1"),
         ],
-    )?;
-    page.html.style(CSS)?;
-    page.id.clear();
-    write!(page.id, "{title}")?;
-    page.html.title(&page.id)?;
-    page.html.close()
+    );
+    page.style(CSS);
+    page.title(title);
+    page.close();
 }
 
-fn write_syntax_entry(page: &mut Page, syntax: Conformance) -> fmt::Result {
-    let standard = Standard(syntax);
-    page.element("dt", "Syntax")?;
-    page.html.open("dd", &[])?;
-    write!(page.html, "{standard}")?;
-    page.html.close()
-}
-
-fn write_file_entry(page: &mut Page, name: &str) -> fmt::Result {
-    page.element("dt", "File")?;
-    page.html.open("dd", &[])?;
-    page.code(name.as_bytes())?;
-    page.html.close()
-}
-
-fn write_date_entry(page: &mut Page, date: Option<&str>) -> fmt::Result {
-    let Some(date) = date else {
-        return Ok(());
-    };
-    let date = Named(date);
-    page.element("dt", "Date")?;
-    page.html.open("dd", &[])?;
-    write!(page.html, "{date}")?;
-    page.html.close()
+fn write_file_entry(page: &mut Page, name: &str) {
+    page.element("dt", "File");
+    page.open("dd");
+    page.code(name.as_bytes());
+    page.close();
 }
 
 fn write_summary(
@@ -104,10 +83,12 @@ fn write_summary(
     page: &mut Page,
     request: &Request<'_>,
     audit: &Audit<'_>,
-) -> fmt::Result {
-    page.html.open("dl", &[])?;
-    write_file_entry(page, request.shown_name())?;
-    write_date_entry(page, request.date)?;
+) -> Result<(), AllocError> {
+    page.open("dl");
+    write_file_entry(page, request.shown_name());
+    if let Some(date) = request.date {
+        page.entry("Date", Named(date));
+    }
     write_warning_entry(
         alloc,
         page,
@@ -115,12 +96,13 @@ fn write_summary(
         audit.labels.len(),
         &audit.warnings,
     )?;
-    write_crawler_entries(page, request.agent, &audit.agents)?;
-    write_sitemap_entry(alloc, page, &audit.labels)?;
+    write_crawler_entries(page, request.agent, &audit.agents);
+    write_sitemap_entry(page, &sitemaps_of(alloc, &audit.labels)?);
     if has_directive(&audit.labels) {
-        write_syntax_entry(page, audit.syntax)?;
+        page.entry("Syntax", Standard(audit.syntax));
     }
-    page.html.close()
+    page.close();
+    Ok(())
 }
 
 /// A page always shows the file's lines, since its other parts link to them.
@@ -130,21 +112,20 @@ fn write_body(
     title: Title<'_>,
     request: &Request<'_>,
     audit: &Audit<'_>,
-) -> fmt::Result {
-    page.html.open("body", &[])?;
+) -> Result<(), AllocError> {
+    page.open("body");
     if is_robots_file(audit) {
-        page.html.open("main", &[])?;
+        page.open("main");
     } else {
-        page.html.open("main", &[("class", "mistake")])?;
+        page.open_class("main", "mistake");
     }
-    page.html.open("h1", &[])?;
-    write!(page.html, "{title}")?;
-    page.html.close()?;
+    page.element("h1", title);
     write_summary(alloc, page, request, audit)?;
-    write_verdict_part(page, request.agent, &request.urls, &audit.agents)?;
+    write_verdict_part(page, request.agent, &request.urls, &audit.agents);
     write_file_table(alloc, page, request.agent, audit)?;
-    page.html.open("footer", &[])?;
-    write!(page.html, "robots_audit {VERSION}")
+    page.open("footer");
+    put_text!(page, "robots_audit {VERSION}");
+    Ok(())
 }
 
 pub fn page_text(
@@ -156,8 +137,8 @@ pub fn page_text(
 {
     let mut page = Page::new(alloc);
     let title = Title(request.agent, audit.agents.len());
-    page.html.open("html", &[("lang", "en")])?;
-    write_head(&mut page, title)?;
+    page.open_with("html", &[("lang", "en")]);
+    write_head(&mut page, title);
     write_body(alloc, &mut page, title, request, audit)?;
-    page.html.finish()
+    page.finish()
 }

@@ -4,6 +4,7 @@ ghost use Rattle.robots_warnings.specs.Table.{is_name};
 ghost use Rattle.audit_core.specs.Answer.{IsText};
 ghost use Rattle.audit_text.specs.Explain.{IsUnexplained};
 
+use crate::lines::Lines;
 use crate::proved::theorems;
 use audit_core::answer::{Answer, text_answer};
 use audit_core::error::{Error, unknown};
@@ -11,84 +12,73 @@ use printable_text::report::Report;
 use robots_warnings::table::{Cause, causes, is_name};
 use robots_warnings::texts::{conditions, corrections};
 use std::alloc::Global;
-use std::fmt;
-use std::fmt::Write;
 
-fn write_heading(out: &mut Report, cause: Cause) -> fmt::Result {
+fn write_heading(out: &mut Lines<'_>, cause: Cause) {
     let (level, name, text) = (cause.level().word(), cause.name(), cause.text());
-    write!(out, "{level} {name}: {text}")?;
-    out.end_line()
+    out.line(format_args!("{level} {name}: {text}"));
 }
 
-fn write_list(alloc: Global, out: &mut Report) -> fmt::Result {
-    for cause in &causes(alloc)? {
-        write_heading(out, *cause)?;
-    }
-    Ok(())
-}
-
-fn write_example(out: &mut Report, label: &str, example: &str) -> fmt::Result {
-    out.lines(label)?;
+fn write_example(out: &mut Lines<'_>, label: &str, example: &str) {
+    out.line(label);
     for line in example.lines() {
-        write!(out, "    {line}")?;
-        out.end_line()?;
+        out.line(format_args!("    {line}"));
     }
-    Ok(())
 }
 
-fn write_explained(out: &mut Report, cause: Cause) -> fmt::Result {
-    write_heading(out, cause)?;
-    write_example(out, "for example:", cause.example())?;
+fn write_explained(out: &mut Lines<'_>, cause: Cause) {
+    write_heading(out, cause);
+    write_example(out, "for example:", cause.example());
     for (own, example) in corrections() {
         if *own as usize == cause as usize && !example.is_empty() {
-            write_example(out, "instead:", example)?;
+            write_example(out, "instead:", example);
         }
     }
-    Ok(())
 }
 
-fn write_given(out: &mut Report, cause: Cause) -> fmt::Result {
+fn write_given(out: &mut Lines<'_>, cause: Cause) {
     for (own, text) in conditions() {
         if *own as usize == cause as usize && !text.is_empty() {
-            write!(out, "given: {text}")?;
-            out.end_line()?;
+            out.line(format_args!("given: {text}"));
         }
     }
-    Ok(())
 }
 
-fn write_proved(out: &mut Report, name: &str) -> fmt::Result {
+fn write_proved(out: &mut Lines<'_>, name: &str) {
     for (of, text) in theorems() {
         if *of == name {
-            write!(out, "proved: {text}")?;
-            out.end_line()?;
+            out.line(format_args!("proved: {text}"));
         }
     }
-    Ok(())
 }
 
-fn write_explanation(alloc: Global, out: &mut Report, name: &str) -> fmt::Result {
-    let all = causes(alloc)?;
-    for cause in &all {
+fn write_explanation(out: &mut Lines<'_>, all: &[Cause], name: &str) {
+    for cause in all {
         if cause.name() == name {
-            write_explained(out, *cause)?;
+            write_explained(out, *cause);
         }
     }
-    for cause in &all {
+    for cause in all {
         if cause.name() == name {
-            write_given(out, *cause)?;
+            write_given(out, *cause);
         }
     }
-    write_proved(out, name)
+    write_proved(out, name);
 }
 
 /// The list of all warnings as the answer.
 pub fn list_warnings(alloc: Global) -> Result<Answer, Error>
     ensures { IfOk result IsText }
 {
-    let mut out = Report::new(alloc);
-    write_list(alloc, &mut out)?;
-    Ok(text_answer(alloc, out))
+    let mut report = Report::new(alloc);
+    let mut out = Lines {
+        report: &mut report,
+        has_failed: false,
+    };
+    for cause in &causes(alloc)? {
+        write_heading(&mut out, *cause);
+    }
+    out.finish()?;
+    Ok(text_answer(alloc, report))
 }
 
 /// The explanation of the warning with this name as the answer. The error is `Error::UnknownWarning` if there
@@ -100,7 +90,12 @@ pub fn explain(alloc: Global, name: &str) -> Result<Answer, Error>
     if !is_name(name) {
         return Err(unknown(alloc, name)?);
     }
-    let mut out = Report::new(alloc);
-    write_explanation(alloc, &mut out, name)?;
-    Ok(text_answer(alloc, out))
+    let mut report = Report::new(alloc);
+    let mut out = Lines {
+        report: &mut report,
+        has_failed: false,
+    };
+    write_explanation(&mut out, &causes(alloc)?, name);
+    out.finish()?;
+    Ok(text_answer(alloc, report))
 }

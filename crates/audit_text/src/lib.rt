@@ -6,6 +6,7 @@ mod crawlers;
 pub mod denied;
 pub mod explain;
 pub mod github;
+mod lines;
 mod listed;
 mod proved;
 pub mod report;

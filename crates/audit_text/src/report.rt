@@ -1,6 +1,7 @@
 //! The audit as lines of text, and the warnings.
 use crate::crawlers::{write_crawlers, write_wrong};
 use crate::denied::Totals;
+use crate::lines::Lines;
 use crate::listed::{More, listing_of};
 use crate::verdicts::write_verdicts;
 use audit_core::audit::{AgentAudit, Audit};
@@ -11,7 +12,7 @@ use audit_core::reach::Reach;
 use audit_core::request::Request;
 use audit_core::rows::write_rows;
 use audit_core::syntax::{Standard, has_directive};
-use audit_core::texts::{Applied, Delayed, Elsewhere, Fetched, write_rejected};
+use audit_core::texts::{Applied, Delayed, Elsewhere, Fetched};
 use printable_text::level::Level;
 use printable_text::report::Report;
 use rfc9309::conformance::Conformance;
@@ -20,51 +21,45 @@ use std::alloc::Global;
 use std::fmt;
 use std::fmt::Write;
 
-fn write_fetched(out: &mut Report, audit: &AgentAudit<'_>) -> fmt::Result {
-    if audit.reach == Reach::Part {
-        return Ok(());
+fn write_fetched(out: &mut Lines<'_>, audit: &AgentAudit<'_>) {
+    if audit.reach != Reach::Part {
+        let fetched = Fetched(audit.reach, &audit.allows);
+        out.line(format_args!("may fetch: {fetched}"));
     }
-    let fetched = Fetched(audit.reach, &audit.allows);
-    write!(out, "may fetch: {fetched}")?;
-    out.end_line()
 }
 
-fn write_agent(out: &mut Report, is_quiet: bool, audit: &AgentAudit<'_>) -> fmt::Result {
+fn write_agent(out: &mut Lines<'_>, is_quiet: bool, audit: &AgentAudit<'_>) {
     let (applied, elsewhere, delayed) = (Applied(audit), Elsewhere(audit), Delayed(audit));
-    write!(out, "group: {applied}{elsewhere}")?;
+    write!(out, "group: {applied}{elsewhere}");
     if audit.group != Group::Star {
-        write_wrong(out, audit.agent)?;
+        write_wrong(out, audit.agent);
     }
-    out.end_line()?;
-    write!(out, "delay: {delayed}")?;
-    out.end_line()?;
+    out.end_line();
+    out.line(format_args!("delay: {delayed}"));
     if !is_quiet {
-        write_fetched(out, audit)?;
+        write_fetched(out, audit);
     }
-    write_rejected(out, audit.agent, audit.rejected)?;
-    write_verdicts(out, None, &audit.verdicts)
+    out.rejected(audit.agent, audit.rejected);
+    write_verdicts(out, None, &audit.verdicts);
 }
 
-fn write_agents(out: &mut Report, request: &Request<'_>, audit: &Audit<'_>) -> fmt::Result {
+fn write_agents(out: &mut Lines<'_>, request: &Request<'_>, audit: &Audit<'_>) {
     if request.agent.is_none() {
-        return write_crawlers(out, request.is_denied_only, audit);
+        write_crawlers(out, request.is_denied_only, audit);
+        return;
     }
     for agent in &audit.agents {
-        write_agent(out, !request.has_rows(), agent)?;
+        write_agent(out, !request.has_rows(), agent);
     }
-    Ok(())
 }
 
 /// Nothing of a file that only has comments.
-fn write_syntax(out: &mut Report, audit: &Audit<'_>) -> fmt::Result {
+fn write_syntax(out: &mut Lines<'_>, audit: &Audit<'_>) {
     match audit.syntax {
-        Conformance::OtherFile => return Ok(()),
-        Conformance::Verdicts if !has_directive(&audit.labels) => return Ok(()),
-        _ => {}
+        Conformance::OtherFile => {}
+        Conformance::Verdicts if !has_directive(&audit.labels) => {}
+        _ => out.line(Standard(audit.syntax)),
     }
-    let standard = Standard(audit.syntax);
-    write!(out, "{standard}")?;
-    out.end_line()
 }
 
 /// Writes the requested report on an audit.
@@ -72,8 +67,13 @@ pub fn write_report(out: &mut Report, request: &Request<'_>, audit: &Audit<'_>) 
     if request.has_rows() {
         write_rows(out, &audit.labels)?;
     }
-    write_agents(out, request, audit)?;
-    write_syntax(out, audit)
+    let mut lines = Lines {
+        report: out,
+        has_failed: false,
+    };
+    write_agents(&mut lines, request, audit);
+    write_syntax(&mut lines, audit);
+    lines.finish()
 }
 
 /// Writes the line with the numbers of allowed and denied URLs.
@@ -84,32 +84,47 @@ pub fn write_totals(out: &mut Report, totals: Totals) -> fmt::Result {
 }
 
 /// Begins a line as compilers do, such as `robots.txt:5: warning: `.
-fn write_front(out: &mut Report, file: &str, line: Option<usize>, level: Level) -> fmt::Result {
+fn write_front(out: &mut Lines<'_>, file: &str, line: Option<usize>, level: Level) {
     match line {
-        Some(line) => write!(out, "{file}:{line}: ")?,
-        None => write!(out, "{file}: ")?,
+        Some(line) => write!(out, "{file}:{line}: "),
+        None => write!(out, "{file}: "),
     }
-    out.level(level)?;
-    out.write_str(": ")
+    out.level(level);
+    write!(out, ": ");
 }
 
 /// `lines` are those of all warnings that are written as this one.
-fn write_warning(
-    out: &mut Report,
-    file: &str,
-    lines: &[usize],
-    warning: &Warning<'_>,
-) -> fmt::Result {
-    write_front(out, file, warning.line, warning.cause.level())?;
+fn write_warning(out: &mut Lines<'_>, file: &str, lines: &[usize], warning: &Warning<'_>) {
+    write_front(out, file, warning.line, warning.cause.level());
     let (also, name) = (AlsoIn(lines), warning.cause.name());
-    write!(out, "{warning}{also} [{name}]")?;
-    out.end_line()
+    out.line(format_args!("{warning}{also} [{name}]"));
 }
 
-fn write_more(out: &mut Report, file: &str, more: &More) -> fmt::Result {
+fn write_more(out: &mut Lines<'_>, file: &str, more: &More) {
     let (level, name, number) = (more.cause.level().word(), more.cause.name(), more.number);
-    write!(out, "{file}: {level}: and {number} more [{name}]")?;
-    out.end_line()
+    out.line(format_args!("{file}: {level}: and {number} more [{name}]"));
+}
+
+/// How many warnings of each level there are, and in how many messages; and for which crawler alone rules are checked.
+fn write_counts(
+    out: &mut Lines<'_>,
+    request: &Request<'_>,
+    warnings: &[Warning<'_>],
+    messages: usize,
+) {
+    let (file, counts) = (request.shown_name(), counts_of(warnings));
+    write!(out, "{file}: {counts}");
+    if messages < warnings.len() {
+        let end = if messages > 1 { "s" } else { "" };
+        write!(out, " in {messages} message{end}");
+    }
+    if let Some(agent) = request.agent {
+        write!(
+            out,
+            " (rules for crawlers other than {agent} aren't checked)"
+        );
+    }
+    out.end_line();
 }
 
 /// Writes the warnings that are listed, how many more there are, and how many there are of each level; and for which
@@ -126,26 +141,19 @@ pub fn write_warnings(
     let file = request.shown_name();
     let all = in_order(alloc, warnings)?;
     let found = listing_of(alloc, &all)?;
+    let mut lines = Lines {
+        report: out,
+        has_failed: false,
+    };
     for warning in &found.warnings {
-        let lines = shared_lines(alloc, warning, &all)?;
-        write_warning(out, file, &lines, warning)?;
+        let shared = shared_lines(alloc, warning, &all)?;
+        write_warning(&mut lines, file, &shared, warning);
     }
     let mut messages = found.warnings.len();
     for more in &found.more {
-        write_more(out, file, more)?;
+        write_more(&mut lines, file, more);
         messages = messages.saturating_add(more.number);
     }
-    let counts = counts_of(warnings);
-    write!(out, "{file}: {counts}")?;
-    if messages < warnings.len() {
-        let end = if messages > 1 { "s" } else { "" };
-        write!(out, " in {messages} message{end}")?;
-    }
-    if let Some(agent) = request.agent {
-        write!(
-            out,
-            " (rules for crawlers other than {agent} aren't checked)"
-        )?;
-    }
-    out.end_line()
+    write_counts(&mut lines, request, warnings, messages);
+    lines.finish()
 }
