@@ -58,7 +58,7 @@ def run(command, args=(), stdin=b"", **options):
     """Runs a program of the repository, by its name, or any other, by its path."""
     path = program(command) if isinstance(command, str) else command
     given = {"input": stdin} if isinstance(stdin, bytes) else {"stdin": stdin}
-    given = {"cwd": ROOT, "stdout": subprocess.PIPE, "stderr": subprocess.PIPE, "timeout": 60, **given, **options}
+    given = {"cwd": ROOT, "stdout": subprocess.PIPE, "stderr": subprocess.PIPE, "timeout": 180, **given, **options}
     ended = subprocess.run([path, *args], **given)
     return Result(ended.returncode, ended.stdout, ended.stderr)
 
