@@ -6,7 +6,7 @@ pub(crate) type Named = (&'static str, &'static str);
 #[rattlefmt::skip]
 static THEOREMS: [(&str, &str); 17] = [
     ("closes-everything",
-        "each path is denied to the crawler, unless it begins with /robots.txt or with the path of a sitemap, or an Allow matches it that is /$, is for static files (as /*.css$ is), or begins with /.well-known or /sitemap (theorem closes_everything)"),
+        "each path is denied to the crawler, unless it begins with /robots.txt or with the path of a sitemap, or an Allow matches it that is /$, ends, but for *, $ and ?, as a static file does (.css, .js, .txt, .xml, .json, a picture or a font), or begins with /.well-known or /sitemap (theorem closes_everything)"),
     ("url-not-normal",
         "without this note the path and the query that are compared are the normal form of what is written, so the sentence about verdicts applies (theorem url_not_normal)"),
     ("hash-cuts-rule", "as an error: what is left of the rule matches every path (theorem hash_cuts_rule)"),

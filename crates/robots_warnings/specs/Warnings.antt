@@ -78,8 +78,8 @@ positions_from is_too_large last preceding above delay [] = []
 positions_from is_too_large last preceding above delay (label ∷ labels) =
     warned (Some label.number) None
     (position_checks is_too_large last preceding above delay label (lines_of (label ∷ labels)))
-    ++ positions_from is_too_large last (preceding_with preceding label.line) (sole_name preceding above label.line)
-    (first_delay delay label.line) labels
+    ++ positions_from is_too_large last (preceding_with preceding label.line)
+    (sole_name preceding above label.line) (first_delay delay label.line) labels
 
 abbrev pub position_warnings : (is_too_large : Bool) → List Label → List WarningValue
 position_warnings is_too_large labels =

@@ -367,7 +367,7 @@ macro_rules! every_row {
                 "the delay differs from one above it in the same group, so it isn't used here, but other crawlers may use it; delete all but one"
                 "User-agent: *\nCrawl-delay: 1\nCrawl-delay: 2"
                 "User-agent: *\nCrawl-delay: 1"
-                "the delay differs from the first one below the same User-agent lines; in a file of more than 512,000 bytes it isn't said that lines can be deleted, as more of the file would be read then",
+                "the delay differs from the first one below the same User-agent lines; in a file of more than 512,000 bytes the message doesn't propose a deletion, since more of the file would be read then",
             TwoDelaysPastLimit Warning "two-delays"
                 "the delay differs from one above it in the same group, so it isn't used here, but other crawlers may use it"
                 "User-agent: *\nCrawl-delay: 1\nCrawl-delay: 2\n\\{512000 #}" "" "",
@@ -402,7 +402,7 @@ macro_rules! every_row {
                 "the same rule is above in the same group, so this one decides no verdict; delete it, or correct it if another path is meant"
                 "User-agent: *\nDisallow: /a\nDisallow: /a"
                 "User-agent: *\nDisallow: /a"
-                "the same rule is above it below the same User-agent lines; an empty Disallow counts as the Allow of / that it means here, so keep an Allow of / below one if there is a Disallow of /, since other crawlers need it; in a file of more than 512,000 bytes it isn't said that a line can be deleted, as more of the file would be read then",
+                "the same rule is above it below the same User-agent lines; an empty Disallow counts as the Allow of / that it means here, so keep an Allow of / below one if there is a Disallow of /, since other crawlers need it; in a file of more than 512,000 bytes the message doesn't propose a deletion, since more of the file would be read then",
             RepeatedPastLimit Note "repeated-rule"
                 "the same rule is above in the same group, so this one decides no verdict"
                 "User-agent: *\nDisallow: /a\nDisallow: /a\n\\{512000 #}" "" "",

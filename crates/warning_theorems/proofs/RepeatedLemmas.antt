@@ -272,7 +272,8 @@ pub same_left : (numbers file left agent : List ℕ) → length file ≤ file_li
     → Same agent (lines_read left) agent (lines_without numbers (lines_read file))
 same_left numbers file left agent short is front =
     let less = left_within numbers file left is in
-    subst₂ (λ all more. Same agent (file_lines more) agent (lines_without numbers (file_lines all)))
+    subst₂ (λ (all more : List ℕ).
+    Same agent (file_lines more) agent (lines_without numbers (file_lines all)))
     (sym (take_all file_limit file short)) (sym (take_all file_limit left (omega arith)))
     (same_result numbers file left is front agent)
 
@@ -282,7 +283,8 @@ pub repeated_can_be_deleted : (all_groups : Bool) (name agent file left : List �
     → IsLeftOf numbers file left → begin_with_mark (lines_without numbers (file_bodies file)) ≡ false
     → IsVerdict (rules_for agent (lines_read file)) text answer
     ↔ IsVerdict (rules_for agent (lines_read left)) text answer
-repeated_can_be_deleted all_groups name agent file left labels numbers text answer short labeled all is front =
+repeated_can_be_deleted all_groups name agent file left labels numbers text answer short labeled all is
+    front =
     let same = (same_left numbers file left agent short is front).0.verdict text answer in
     Iff.trans
     (verdict_as_before all_groups name agent (lines_read file) labels numbers text answer labeled all)

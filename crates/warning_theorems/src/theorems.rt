@@ -205,9 +205,9 @@ pub fn repeated_rule()
         → ¬ IsDecidingLine rules text (Some number) }
 {}
 
-/// If lines with `repeated-rule` are deleted from a file of at most 512,000 bytes, one or several or all, with
-/// their line ends, every verdict stays the same, for any crawler, unless the first line that stays begins with
-/// a byte of the byte order mark.
+/// If lines with `repeated-rule` are deleted from a file of at most 512,000 bytes, one or several or all,
+/// with their line ends, every verdict stays the same, for any crawler, unless the first line that stays
+/// begins with a byte of the byte order mark.
 pub fn repeated_rules_can_be_deleted()
     ensures { (all_groups : Bool) (name agent file left : List ℕ) (labels : List Label)
         (numbers text : List ℕ) (answer : Bool) → length file ≤ file_limit
