@@ -196,13 +196,29 @@ def shared(level, name, text):
     return name, re.sub(r"^(crawler|URL) '.*?': |( \(and \d+ other crawlers?\))$", "", text) if level == "note" else text
 
 
+def ranges(lines):
+    """Lines, those that follow one another as a range, such as `3-27, 31`."""
+    starts = [line for line in lines if line - 1 not in lines]
+    ends = [line for line in lines if line + 1 not in lines]
+    return ", ".join(str(start) if start == end else f"{start}-{end}" for start, end in zip(starts, ends, strict=True))
+
+
+def together(lines):
+    """The message that stands for those about the needless rules in these lines."""
+    return f"lines {ranges(lines)} can be deleted, but only all of them together"
+
+
 def warning_lines(warnings, file="robots.txt", agent=None):
-    """The lines for such warnings, by line and level: those with one message are one, and a note may name another crawler or URL; of each
-    name and level the first twenty, and how many more there are; and how many of each level there are, in how many messages, and, in a
-    report on one crawler, that rules of others aren't checked."""
+    """The lines for such warnings, by line and level: those about needless rules are one; those with one message are one, and a note may
+    name another crawler or URL; of each name and level the first twenty, and how many more there are; and how many of each level there
+    are, in how many messages, and, in a report on one crawler, that rules of others aren't checked."""
     joined, met = [], {}
-    for warning in sorted(warnings, key=order_of):
+    ordered = sorted(warnings, key=order_of)
+    needless = [int(line) for line, name, *_ in map(parts_of, ordered) if name == "needless-rule"]
+    for warning in ordered:
         line, name, level, text = parts_of(warning)
+        if name == "needless-rule" and int(line) != needless[0]:
+            continue
         key = shared(level, name, text)
         if key:
             met.setdefault(key, []).append(line)
@@ -215,7 +231,10 @@ def warning_lines(warnings, file="robots.txt", agent=None):
     for warning, name, level, lines in joined:
         kind = level, name
         counts[kind] = counts.get(kind, 0) + 1
-        shown += [warning_line(warning, file, lines[1:])] * (counts[kind] <= 20)
+        line = warning_line(warning, file, lines[1:])
+        if name == "needless-rule" and len(needless) > 1:
+            line = f"{file}:{needless[0]}: note: {together(needless)} [needless-rule]\n"
+        shown += [line] * (counts[kind] <= 20)
         if counts[kind] == 21:  # the numbers are in the order of these
             counts[kind] = counts.pop(kind)
     more = [f"{file}: {level}: and {count - 20} more [{name}]\n" for (level, name), count in counts.items() if count > 20]

@@ -117,9 +117,45 @@ def test_one_of_each_level():
 
 
 def test_notes_about_another_line_stay_apart():
-    """Their messages end with the line of the other rule."""
-    err = audit(FRONT + "Disallow: /a/b\nDisallow: /a/c\n", "--needless", "--only", "needless-rule").err
-    assert err.count("(see line 2) [needless-rule]") == 2 and "(also" not in err and err.endswith(total("2 notes"))
+    """Their messages end with the line of the other one."""
+    sitemap = "Sitemap: https://example.com/a\n"
+    err = audit(FRONT + sitemap * 3).err
+    assert err.count("(see line 3) [repeated-sitemap]") == 2 and "(also" not in err and err.endswith(total("2 notes"))
+
+
+# `Disallow: /p` covers each of the 25 longer Disallows, and an Allow decides only where none of them does. So all 50 can be deleted, but
+# without the first twenty alone the first twenty Allows decide.
+LETTERS = "abcdefghijklmnopqrstuvwxy"
+NEEDLESS = "User-agent: *\nDisallow: /p\n" + "".join([f"Disallow: /pq{it}*\n" for it in LETTERS] + [f"Allow: /pq{it}\n" for it in LETTERS])
+TOGETHER = "lines 3-52 can be deleted, but only all of them together"
+
+
+@pytest.mark.parametrize("more", [[], ["--only=needless-rule"], ["--ignore=one-line"], ["--denied", "/x"]])
+def test_needless_rules_are_one_message(more):
+    err = run("robots_audit", ["-q", "--agent=Other", "--needless", "-", *more], NEEDLESS.encode()).err
+    assert err == f"robots.txt:3: note: {TOGETHER} [needless-rule]\n" + total("50 notes in 1 message").replace("Ferris", "Other")
+
+
+def test_needless_rules_of_another_crawler_go_with_them():
+    text = "User-agent: a\nDisallow: /x\nDisallow: /xy\n\nUser-agent: b\nDisallow: /x\nDisallow: /xy\nDisallow: /xz\n"
+    err = run("robots_audit", ["-q", "--agent=b", "--needless", "-"], text.encode()).err
+    assert err.startswith("robots.txt:3: note: lines 3, 7-8 can be deleted, but only all of them together [needless-rule]\n")
+
+
+def test_needless_rules_are_one_annotation():
+    out = run("robots_audit", ["--github", "--agent=Ferris", "--needless", "-"], NEEDLESS.encode()).out
+    assert out == f"::notice file=robots.txt,line=3,title=needless-rule::{TOGETHER}\n"
+
+
+def test_needless_rules_are_one_row_of_a_page():
+    out = run("robots_audit", ["--html", "--agent=Ferris", "--needless", "-"], NEEDLESS.encode()).out
+    assert (out.count(TOGETHER), out.count("needless-rule")) == (2, 2)  # in the list at its top, and below line 3
+
+
+def test_each_result_on_a_needless_rule_names_all():
+    out = run("robots_audit", ["--sarif", "--agent=Ferris", "--needless", "-"], NEEDLESS.encode()).out
+    texts = [it["message"]["text"] for it in json.loads(out)["runs"][0]["results"]]
+    assert len(texts) == 50 and all(it.endswith("; only together with lines 3-52") for it in texts)
 
 
 def test_a_file_of_a_hundred_closed_groups():

@@ -1,3 +1,4 @@
 pub mod AuditLemmas
 pub mod ReachLemmas
 pub mod JoinedLemmas
+pub mod TogetherLemmas

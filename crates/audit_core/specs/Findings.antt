@@ -1,10 +1,11 @@
 -- What an audit found, as one list, for formats that don't distinguish verdicts and warnings.
-use Rattle.std.specs.Prelude.{◌≡◌, ℕ, Bool, true, false, not, List, [], ◌∷◌, ◌++◌, Option, Some, None, codes}
+use Rattle.std.specs.Prelude.{◌≡◌, ℕ, ◌&&◌, Bool, true, false, not, List, [], ◌∷◌, ◌++◌, Option, Some, None, codes}
 use Rattle.std.specs.Prelude.{flat_map, if◌then◌else◌, map}
 use Rattle.printable_text.specs.{Text.reaches}
 use Rattle.printable_text.specs.declared.level.Level.{Level, TheVariants.Error}
 use Rattle.robots_warnings.specs.{Message.WarningValue, Table.level_of, Table.name_of}
 use Rattle.audit_core.specs.Audit.{AgentValue, AuditValue, VerdictValue}
+use Rattle.audit_core.specs.Together.{is_shown, needless_line}
 use Rattle.audit_core.specs.declared.findings.{Finding.Finding}
 
 -- what is found: how serious it is, the number of its line, if it has one, and its name; besides, a finding
@@ -47,15 +48,19 @@ abbrev pub is_in_part : (errors : Bool) → WarningValue → Bool
 is_in_part true warning = reaches (level_of warning.cause) Error
 is_in_part false warning = not (reaches (level_of warning.cause) Error)
 
-abbrev pub finding_in_part : (errors : Bool) → WarningValue → List Found
-finding_in_part errors warning = if is_in_part errors warning then warning_found warning ∷ [] else []
+-- `lines` are those of needless rules
+abbrev pub finding_in_part : (errors is_one : Bool) (lines : List ℕ) → WarningValue → List Found
+finding_in_part errors is_one lines warning =
+    if is_in_part errors warning && is_shown is_one lines warning then warning_found warning ∷ [] else []
 
-abbrev pub warning_findings : (errors : Bool) → List WarningValue → List Found
-warning_findings errors warnings = flat_map (finding_in_part errors) warnings
+abbrev pub warning_findings : (errors is_one : Bool) (lines : List ℕ) → List WarningValue → List Found
+warning_findings errors is_one lines warnings = flat_map (finding_in_part errors is_one lines) warnings
 
 -- first the errors among the warnings, as a service may show only the first findings; then for each crawler
--- why the file is rejected or which URLs are denied; and then the other warnings
-abbrev pub findings : AuditValue → List Found
-findings audit =
-    warning_findings true audit.warnings ++ flat_map agent_findings audit.agents
-    ++ warning_findings false audit.warnings
+-- why the file is rejected or which URLs are denied; and then the other warnings; if `is_one`, one finding
+-- stands for all needless rules
+abbrev pub findings : (is_one : Bool) → AuditValue → List Found
+findings is_one audit =
+    let lines = flat_map needless_line audit.warnings in
+    warning_findings true is_one lines audit.warnings ++ flat_map agent_findings audit.agents
+    ++ warning_findings false is_one lines audit.warnings

@@ -12,4 +12,5 @@ pub mod Counts
 pub mod Needless
 pub mod Findings
 pub mod Joined
+pub mod Together
 pub mod Internal

@@ -10,6 +10,12 @@ reach_word Nothing = codes "nothing"
 reach_word Listed = codes "listed"
 reach_word Part = codes "by-rules"
 
+-- the text for a crawler that may fetch everything or nothing; that for another isn't specified
+abbrev pub all_or_nothing : Reach → Option (List ℕ)
+all_or_nothing Everything = Some (reach_word Everything)
+all_or_nothing Nothing = Some (reach_word Nothing)
+all_or_nothing reach = None
+
 -- the word for what a crawler may fetch; nothing is said if the file is rejected for it, or if its vendor
 -- applies another group
 abbrev pub may_fetch : (rejected : Option ℕ) → AtVendor → Reach → Option (List ℕ)

@@ -2,10 +2,12 @@
 ghost use Rattle.std.specs.Prelude.{◌≡◌, ◌∷◌, [], IfOk, OnOk, flat_map, map};
 ghost use Rattle.audit_core.specs.Findings.{Adds, agent_findings, denials, finding_in_part, findings};
 ghost use Rattle.audit_core.specs.Findings.{found_of, rejections, warning_findings, warning_found};
+ghost use Rattle.audit_core.specs.Together.{lines_in};
 
 use crate::audit::{AgentAudit, Audit, Verdict};
 use crate::group::AtVendor;
 use crate::texts::Rejected;
+use crate::together::{Message, Together, is_shown, needless_lines};
 use printable_text::level::Level;
 use printable_text::report::Line;
 use printable_text::sanitize::push_sanitized;
@@ -129,11 +131,16 @@ fn add_agents(alloc: Global, found: &mut Findings, agents: &[AgentAudit<'_>]) ->
     Ok(())
 }
 
-fn add_warning(alloc: Global, found: &mut Findings, warning: &Warning<'_>) -> fmt::Result
+fn add_warning(
+    alloc: Global,
+    found: &mut Findings,
+    together: Together<'_>,
+    warning: &Warning<'_>,
+) -> fmt::Result
     ensures { OnOk result (Adds found.old.items found.new.items (warning_found warning.now ∷ [])) }
 {
-    let mut message = Line::new(alloc);
-    write!(message, "{warning}")?;
+    let (mut message, text) = (Line::new(alloc), Message(warning, together));
+    write!(message, "{text}")?;
     let (level, name) = (warning.cause.level(), warning.cause.name());
     add(alloc, found, level, warning.line, name, &message)
 }
@@ -142,39 +149,49 @@ fn add_in_part(
     alloc: Global,
     found: &mut Findings,
     errors: bool,
+    together: Together<'_>,
     warning: &Warning<'_>,
 ) -> fmt::Result
-    ensures { OnOk result (Adds found.old.items found.new.items (finding_in_part errors warning.now)) }
+    ensures { OnOk result (Adds found.old.items found.new.items
+        (finding_in_part errors together.is_one (lines_in together.ranges.now) warning.now)) }
 {
-    if warning.cause.level().reaches(Level::Error) != errors {
+    if warning.cause.level().reaches(Level::Error) != errors || !is_shown(together, warning) {
         return Ok(());
     }
-    add_warning(alloc, found, warning)
+    add_warning(alloc, found, together, warning)
 }
 
 fn add_warnings(
     alloc: Global,
     found: &mut Findings,
     errors: bool,
+    together: Together<'_>,
     warnings: &[Warning<'_>],
 ) -> fmt::Result
-    ensures { OnOk result (Adds found.old.items found.new.items (warning_findings errors warnings.now)) }
+    ensures { OnOk result (Adds found.old.items found.new.items
+        (warning_findings errors together.is_one (lines_in together.ranges.now) warnings.now)) }
 {
     for warning in warnings {
-        add_in_part(alloc, found, errors, warning)?;
+        add_in_part(alloc, found, errors, together, warning)?;
     }
     Ok(())
 }
 
 /// The errors among the warnings; for each crawler why the file is rejected or which URLs are denied; and
-/// then the other warnings.
-pub fn findings_of(alloc: Global, audit: &Audit<'_>) -> Result<Findings, fmt::Error>
-    ensures { IfOk result (λ found. map found_of found.items ≡ findings audit.now) }
+/// then the other warnings. If `is_one`, one finding stands for all needless rules; else the message about each
+/// names them all.
+pub fn findings_of(alloc: Global, audit: &Audit<'_>, is_one: bool) -> Result<Findings, fmt::Error>
+    ensures { IfOk result (λ found. map found_of found.items ≡ findings is_one audit.now) }
 {
+    let ranges = needless_lines(alloc, &audit.warnings)?;
+    let together = Together {
+        ranges: &ranges,
+        is_one,
+    };
     let mut found = Vec::new(alloc);
-    add_warnings(alloc, &mut found, true, &audit.warnings)?;
+    add_warnings(alloc, &mut found, true, together, &audit.warnings)?;
     add_agents(alloc, &mut found, &audit.agents)?;
-    add_warnings(alloc, &mut found, false, &audit.warnings)?;
+    add_warnings(alloc, &mut found, false, together, &audit.warnings)?;
     Ok(found)
 }
 
@@ -183,8 +200,12 @@ pub fn warnings_found(alloc: Global, warnings: &[Warning<'_>]) -> Result<Finding
     ensures { IfOk result (λ found. map found_of found.items ≡ map warning_found warnings.now) }
 {
     let mut found = Vec::new(alloc);
+    let together = Together {
+        ranges: &[],
+        is_one: false,
+    };
     for warning in warnings {
-        add_warning(alloc, &mut found, warning)?;
+        add_warning(alloc, &mut found, together, warning)?;
     }
     Ok(found)
 }

@@ -23,4 +23,5 @@ pub mod sitemaps;
 pub mod syntax;
 pub mod target;
 pub mod texts;
+pub mod together;
 pub mod version;

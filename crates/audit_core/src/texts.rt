@@ -71,10 +71,13 @@ impl<'a> fmt::Display for Lines<'a> {
 pub struct Fetched<'a>(pub Reach, pub &'a [usize]);
 
 impl<'a> fmt::Display for Fetched<'a> {
+    ghost use Rattle.audit_core.specs.Texts.{all_or_nothing};
+
+    ghost output = { λ fetched. all_or_nothing fetched.0 };
+
     fn fmt<W: fmt::Write>(&self, f: &mut fmt::Formatter<W>) -> fmt::Result {
         match self.0 {
-            Reach::Everything => f.write_str("everything"),
-            Reach::Nothing => f.write_str("nothing"),
+            Reach::Everything | Reach::Nothing => f.write_str(reach_word(self.0)),
             Reach::Listed => {
                 let lines = Lines(self.1);
                 let end = if self.1.len() == 1 { "s" } else { "" };

@@ -211,5 +211,5 @@ log_json uri findings = object
 -- of an audit of the file with this name
 pub record IsLog (file : List ℕ) (audit : AuditValue) (text : List ℕ) : Type 0 where
   pub findings : List Finding
-  pub are : map found_of findings ≡ findings_of audit
+  pub are : map found_of findings ≡ findings_of false audit
   pub text_is : text ≡ json_line (log_json (uri_of file) findings)

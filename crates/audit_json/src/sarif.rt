@@ -309,7 +309,7 @@ fn log_json(alloc: Global, uri: &str, findings: &[Finding]) -> Result<Value, All
 pub fn sarif_text(alloc: Global, file: &str, audit: &Audit<'_>) -> Result<String, fmt::Error>
     ensures { IfOk result (λ text. IsLog file.now audit.now (string_bytes text)) }
 {
-    let findings = findings_of(alloc, audit)?;
+    let findings = findings_of(alloc, audit, false)?;
     let uri = uri_of(alloc, file.as_bytes())?;
     Ok(json_line(alloc, &log_json(alloc, &uri, &findings)?)?)
 }

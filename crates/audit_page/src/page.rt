@@ -11,14 +11,17 @@ mod verdicts;
 mod warnings;
 
 use audit_core::audit::Audit;
+use audit_core::joined::in_order;
 use audit_core::request::Request;
 use audit_core::sitemaps::sitemaps_of;
 use audit_core::syntax::{Standard, has_directive};
+use audit_core::together::{Together, keep_shown, needless_lines};
 use audit_core::version::VERSION;
 use elements::{Page, put_text};
 use file::{write_file_table, write_sitemap_entry};
 use printable_text::report::Named;
 use robots_warnings::table::Cause;
+use robots_warnings::warning::Warning;
 use std::alloc::{AllocError, Global};
 use std::fmt;
 use std::fmt::Write;
@@ -83,19 +86,15 @@ fn write_summary(
     page: &mut Page,
     request: &Request<'_>,
     audit: &Audit<'_>,
+    together: Together<'_>,
+    shown: &[Warning<'_>],
 ) -> Result<(), AllocError> {
     page.open("dl");
     write_file_entry(page, request.shown_name());
     if let Some(date) = request.date {
         page.entry("Date", Named(date));
     }
-    write_warning_entry(
-        alloc,
-        page,
-        request.agent,
-        audit.labels.len(),
-        &audit.warnings,
-    )?;
+    write_warning_entry(alloc, page, request, audit, together, shown)?;
     write_crawler_entries(page, request.agent, &audit.agents);
     write_sitemap_entry(page, &sitemaps_of(alloc, &audit.labels)?);
     if has_directive(&audit.labels) {
@@ -113,6 +112,13 @@ fn write_body(
     request: &Request<'_>,
     audit: &Audit<'_>,
 ) -> Result<(), AllocError> {
+    let mut shown = in_order(alloc, &audit.warnings)?;
+    let ranges = needless_lines(alloc, &shown)?;
+    let together = Together {
+        ranges: &ranges,
+        is_one: true,
+    };
+    keep_shown(together, &mut shown);
     page.open("body");
     if is_robots_file(audit) {
         page.open("main");
@@ -120,9 +126,9 @@ fn write_body(
         page.open_class("main", "mistake");
     }
     page.element("h1", title);
-    write_summary(alloc, page, request, audit)?;
+    write_summary(alloc, page, request, audit, together, &shown)?;
     write_verdict_part(page, request.agent, &request.urls, &audit.agents);
-    write_file_table(alloc, page, request.agent, audit)?;
+    write_file_table(alloc, page, request.agent, &audit.labels, together, &shown)?;
     page.open("footer");
     put_text!(page, "robots_audit {VERSION}");
     Ok(())

@@ -47,7 +47,7 @@ abbrev pub IsOutput : Format → RequestValue → AuditValue → List ℕ → Ty
 IsOutput Json requested audit text = IsJson (has_rows requested) (reported requested audit) text
 IsOutput Html requested audit text = IsSomePage text
 IsOutput Github requested audit text =
-    AreAnnotations (shown_name requested.file) (findings (reported requested audit)) text
+    AreAnnotations (shown_name requested.file) (findings true (reported requested audit)) text
 IsOutput Sarif requested audit text = IsLog (shown_name requested.file) (reported requested audit) text
 IsOutput format requested audit text = IsReport text
 

@@ -90,7 +90,7 @@ fn output(alloc: Global, request: &Request<'_>, audit: Audit<'_>) -> Result<Vec<
         Format::Json => Ok(json_text(alloc, request.has_rows(), &reported)?.into_bytes()),
         Format::Html => Ok(page_text(alloc, request, &reported)?),
         Format::Github => {
-            let found = findings_of(alloc, &reported)?;
+            let found = findings_of(alloc, &reported, true)?;
             Ok(github_text(alloc, request.shown_name(), &found)?.into_bytes())
         }
         Format::Sarif => { Ok(sarif_text(alloc, request.shown_name(), &reported)?.into_bytes()) }

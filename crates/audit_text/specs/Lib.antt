@@ -1,4 +1,5 @@
 pub mod Listed
 pub mod Explain
 pub mod Github
+pub mod Verdicts
 pub mod Internal

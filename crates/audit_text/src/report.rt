@@ -13,6 +13,7 @@ use audit_core::request::Request;
 use audit_core::rows::write_rows;
 use audit_core::syntax::{Standard, has_directive};
 use audit_core::texts::{Applied, Delayed, Elsewhere, Fetched};
+use audit_core::together::{Message, Together, keep_shown, needless_lines};
 use printable_text::level::Level;
 use printable_text::report::Report;
 use rfc9309::conformance::Conformance;
@@ -94,10 +95,17 @@ fn write_front(out: &mut Lines<'_>, file: &str, line: Option<usize>, level: Leve
 }
 
 /// `lines` are those of all warnings that are written as this one.
-fn write_warning(out: &mut Lines<'_>, file: &str, lines: &[usize], warning: &Warning<'_>) {
+fn write_warning(
+    out: &mut Lines<'_>,
+    file: &str,
+    together: Together<'_>,
+    lines: &[usize],
+    warning: &Warning<'_>,
+) {
     write_front(out, file, warning.line, warning.cause.level());
-    let (also, name) = (AlsoIn(lines), warning.cause.name());
-    out.line(format_args!("{warning}{also} [{name}]"));
+    let (message, also) = (Message(warning, together), AlsoIn(lines));
+    let name = warning.cause.name();
+    out.line(format_args!("{message}{also} [{name}]"));
 }
 
 fn write_more(out: &mut Lines<'_>, file: &str, more: &More) {
@@ -139,7 +147,13 @@ pub fn write_warnings(
         return Ok(());
     }
     let file = request.shown_name();
-    let all = in_order(alloc, warnings)?;
+    let mut all = in_order(alloc, warnings)?;
+    let ranges = needless_lines(alloc, &all)?;
+    let together = Together {
+        ranges: &ranges,
+        is_one: true,
+    };
+    keep_shown(together, &mut all);
     let found = listing_of(alloc, &all)?;
     let mut lines = Lines {
         report: out,
@@ -147,7 +161,7 @@ pub fn write_warnings(
     };
     for warning in &found.warnings {
         let shared = shared_lines(alloc, warning, &all)?;
-        write_warning(&mut lines, file, &shared, warning);
+        write_warning(&mut lines, file, together, &shared, warning);
     }
     let mut messages = found.warnings.len();
     for more in &found.more {

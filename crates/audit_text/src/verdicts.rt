@@ -1,24 +1,45 @@
 //! The lines with verdicts.
+ghost use Rattle.std.specs.Prelude.{◌≡◌};
+ghost use Rattle.audit_text.specs.Verdicts.{verdict_word};
+
 use crate::lines::Lines;
 use audit_core::audit::Verdict;
+use std::fmt;
+use texting_robots::Decision;
+
+fn verdict_word(allowed: bool) -> &'static str
+    ensures { result.now ≡ verdict_word allowed }
+{
+    if allowed { "allow" } else { "deny" }
+}
+
+/// Such as `deny 3`, or `allow -` if no line decides.
+#[derive(Clone, Copy)]
+struct Decided(Decision);
+
+impl fmt::Display for Decided {
+    ghost use Rattle.std.specs.Prelude.{Some};
+    ghost use Rattle.audit_text.specs.Verdicts.{verdict_front};
+
+    ghost output = { λ decided. Some (verdict_front decided.0.allowed decided.0.line) };
+
+    fn fmt<W: fmt::Write>(&self, f: &mut fmt::Formatter<W>) -> fmt::Result {
+        let word = verdict_word(self.0.allowed);
+        match self.0.line {
+            Some(line) => write!(f, "{word} {line}"),
+            None => write!(f, "{word} -"),
+        }
+    }
+}
 
 /// Such as `deny 3 https://example.com/search`; a crawler's name is between the line and the URL.
 fn write_verdict(out: &mut Lines<'_>, name: Option<&str>, verdict: &Verdict<'_>) {
-    let word = if verdict.decision.allowed {
-        "allow"
-    } else {
-        "deny"
-    };
-    match verdict.decision.line {
-        Some(line) => write!(out, "{word} {line}"),
-        None => write!(out, "{word} -"),
-    }
+    let (decided, url) = (Decided(verdict.decision), verdict.url);
+    write!(out, "{decided}");
     if let Some(name) = name {
         write!(out, " {name}");
     }
-    let url = verdict.url;
-    write!(out, " {url}");
-    out.end_line();
+    out.line(format_args!(" {url}"));
 }
 
 pub(crate) fn write_verdicts(out: &mut Lines<'_>, name: Option<&str>, verdicts: &[Verdict<'_>]) {

@@ -19,7 +19,7 @@ use Rattle.printable_text.proofs.{EscapeLemmas.escaped_printable}
 use Rattle.html_writer.specs.Html.{AreAttributes, Attribute, IsContent, IsText, doctype, is_css}
 use Rattle.html_writer.specs.Html.{style, style_bytes, written, attribute_bytes, end_tag}
 use Rattle.html_writer.specs.Html.{escaped, escaped_byte, attribute, has_attribute, is_character, is_letter}
-use Rattle.html_writer.specs.Html.{is_name, is_no_bracket}
+use Rattle.html_writer.specs.Html.{Html, is_name, is_no_bracket}
 use Rattle.html_writer.specs.Html.{is_name_byte, is_ordinary, is_title, is_style, start_tag, tag_close}
 use Rattle.html_writer.specs.Html.{tag_open, text}
 use Rattle.html_writer.specs.Html.{void, void_close, void_names, void_tag, is_among}
@@ -29,7 +29,7 @@ use Rattle.html_writer.specs.Reader.{kind_of, new_tag, reader, run}
 use Rattle.html_writer.specs.Page.{AddsAttributes, AddsTag, HasVoid, IsOpen, Opens, are_names}
 use Rattle.html_writer.specs.Page.{IsSafe, closed, is_safe_byte}
 use Rattle.std.specs.{Borrow.Bor}
-use Rattle.html_writer.specs.Page.{AddsStart, AddsVoid, IsSomePage, names_in, names_of, title}
+use Rattle.html_writer.specs.Page.{AddsStart, AddsVoid, all_closed, all_closed_in, IsPage, names_in, names_of, title}
 use Rattle.html_writer.specs.Page.{closed_in, followed_by, is_tag, is_void, name_in, so_far}
 use Rattle.html_writer.proofs.WritingLemmas.{Reads, attributes_weaker, content_read, style_read, end_read}
 use Rattle.html_writer.proofs.WritingLemmas.{each_form, escaped-is, kind_inside, start_read, text_read}
@@ -334,6 +334,19 @@ pub element_ended : (before after : List (Bor (List ℕ))) (name : Bor (List ℕ
 element_ended before after name old new is pops added =
     end_is (names_of after) name.now old new (popped before after name old is pops) added
 
+same_tree : (opened : List Opened) (content : Html) → all_closed (closed_in opened content)
+    ≡ all_closed_in opened content
+same_tree [] content = refl
+same_tree (innermost ∷ outer) content = refl
+
+-- to end an element changes nothing of what the page contains once all have ended
+pub tree_kept : (before after : List (Bor (List ℕ))) (name : Bor (List ℕ)) (old new : List ℕ) (tree : Html)
+    → IsOpen (names_of before) old → before ≡ after ++ name ∷ [] → new ≡ old ++ end_tag name.now
+    → all_closed (so_far old) ≡ tree → all_closed (so_far new) ≡ tree
+tree_kept before after name old new tree is pops added same =
+    ap all_closed (element_ended before after name old new is pops added)
+    ∙ same_tree (so_far old).opened (so_far old).content ∙ same
+
 pub ended_open : (before after : List (Bor (List ℕ))) (name : Bor (List ℕ)) (old new : List ℕ)
     → IsOpen (names_of before) old → before ≡ after ++ name ∷ [] → new ≡ old ++ end_tag name.now
     → IsOpen (names_of after) new
@@ -397,18 +410,18 @@ none_opened : (opened : List Opened) → [] ≡ map name_in opened → opened �
 none_opened [] is = refl
 none_opened (o ∷ opened) is = absurd (cc)
 
-pub page_finished : (before : List (Bor (List ℕ))) (bytes front page : List ℕ)
-    → IsOpen (names_of before) bytes → before ≡ [] → front ≡ doctype → page ≡ front ++ bytes → IsSomePage page
+pub page_finished : (before : List (Bor (List ℕ))) (bytes front page : List ℕ) (tree : Html)
+    → IsOpen (names_of before) bytes → before ≡ [] → front ≡ doctype → page ≡ front ++ bytes
+    → all_closed (so_far bytes) ≡ tree → IsPage tree page
 unfolding doctype
-page_finished before bytes front page is none first added =
+page_finished before bytes front page tree is none first added same =
     let opened = none_opened (so_far bytes).opened
     (cc) in
     let whole = both_safe (ascii_safe doctype refl) is.safe in
-    subst IsSomePage (cc) (
-      (so_far bytes).content,
-      record {
-        printable = whole.0;
-        quiet = bracketless_quiet (doctype ++ bytes) whole.1;
-        read = cc;
-      },
-    )
+    let content : (so_far bytes).content ≡ tree =
+    sym (ap (λ opened. all_closed_in opened (so_far bytes).content) opened) ∙ same in
+    subst (IsPage tree) (cc) (record {
+      printable = whole.0;
+      quiet = bracketless_quiet (doctype ++ bytes) whole.1;
+      read = cc;
+    })

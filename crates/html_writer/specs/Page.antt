@@ -105,6 +105,16 @@ closed_in (innermost ∷ outer) content =
 abbrev pub closed : Reader → Reader
 closed page = closed_in page.opened page.content
 
+abbrev pub all_closed_in : List Opened → Html → Html
+all_closed_in [] content = content
+all_closed_in (innermost ∷ outer) content =
+    all_closed_in outer
+    (innermost.before ⊕ element [] innermost.tag.name innermost.tag.attributes content (text []))
+
+-- what the page contains once all open elements have ended
+abbrev pub all_closed : Reader → Html
+all_closed page = all_closed_in page.opened page.content
+
 abbrev pub title : List ℕ → Html
 title bytes = tag (codes "title") [] (text bytes)
 

@@ -6,8 +6,8 @@ ghost use Rattle.printable_text.specs.Sanitize.{sanitized};
 ghost use Rattle.html_writer.specs.Html.{escaped, is_css, is_plain};
 ghost use Rattle.html_writer.specs.Html as html;
 ghost use Rattle.html_writer.specs.Page.{AddsAttributes, AddsStart, AddsTag, AddsVoid, HasVoid, Opens};
-ghost use Rattle.html_writer.specs.Page.{are_names, closed};
-ghost use Rattle.html_writer.specs.Page.{followed_by, IsOpen, IsSomePage, is_safe_byte, is_tag, is_void};
+ghost use Rattle.html_writer.specs.Page.{all_closed, are_names, closed};
+ghost use Rattle.html_writer.specs.Page.{followed_by, IsOpen, IsPage, is_safe_byte, is_tag, is_void};
 ghost use Rattle.html_writer.specs.Page.{names_in, names_of, so_far, title};
 
 use crate::write::{
@@ -133,7 +133,7 @@ fn lost(bytes: &mut Vec<u8>, opened: &mut Vec<&'static str>) -> fmt::Error
 
 fn finished(bytes: Vec<u8>, opened: Vec<&'static str>) -> Result<Vec<u8>, fmt::Error>
     requires { IsOpen (names_of opened.items) bytes.items }
-    ensures { IfOk result (λ page. IsSomePage page.items) }
+    ensures { IfOk result (λ page. IsPage (all_closed (so_far bytes.items)) page.items) }
 {
     let mut content = bytes;
     let mut rest = opened;
@@ -215,7 +215,7 @@ impl Html {
 
     /// The page, in which all elements are ended.
     pub fn finish(self) -> Result<Vec<u8>, fmt::Error>
-        ensures { IfOk result (λ page. IsSomePage page.items) }
+        ensures { IfOk result (λ page. IsPage (all_closed (so_far self)) page.items) }
     {
         finished(self.bytes, self.opened)
     }

@@ -3,9 +3,9 @@ use crate::page::by_line::by_line;
 use crate::page::elements::{Page, put_text};
 use crate::page::slices::{after, first};
 use crate::page::warnings::write_warning_row;
-use audit_core::audit::{Audit, labeling_agent};
-use audit_core::joined::in_order;
+use audit_core::audit::labeling_agent;
 use audit_core::rows::{Shown, comment_of, membership_word, shown_kind};
+use audit_core::together::Together;
 use printable_text::report::Untrusted;
 use robots_warnings::warning::Warning;
 use std::alloc::{AllocError, Global};
@@ -59,12 +59,17 @@ fn write_line_row(page: &mut Page, label: &LabeledLine<'_>) {
     page.close();
 }
 
-fn write_line_rows(page: &mut Page, lists: &[Vec<Warning<'_>>], labels: &[LabeledLine<'_>]) {
+fn write_line_rows(
+    page: &mut Page,
+    together: Together<'_>,
+    lists: &[Vec<Warning<'_>>],
+    labels: &[LabeledLine<'_>],
+) {
     for label in labels {
         write_line_row(page, label);
         if let Some(list) = lists.get(label.number) {
             for warning in list {
-                write_warning_row(page, warning);
+                write_warning_row(page, together, warning);
             }
         }
     }
@@ -78,11 +83,16 @@ fn write_line_columns(page: &mut Page) {
     page.close();
 }
 
-fn write_line_groups(page: &mut Page, lists: &[Vec<Warning<'_>>], labels: &[LabeledLine<'_>]) {
+fn write_line_groups(
+    page: &mut Page,
+    together: Together<'_>,
+    lists: &[Vec<Warning<'_>>],
+    labels: &[LabeledLine<'_>],
+) {
     for at in 0..labels.len().div_ceil(BODY_LINES) {
         let lines = after(labels, at.saturating_mul(BODY_LINES));
         page.open("tbody");
-        write_line_rows(page, lists, first(lines, BODY_LINES));
+        write_line_rows(page, together, lists, first(lines, BODY_LINES));
         page.close();
     }
 }
@@ -91,9 +101,11 @@ pub(crate) fn write_file_table(
     alloc: Global,
     page: &mut Page,
     agent: Option<&str>,
-    audit: &Audit<'_>,
+    labels: &[LabeledLine<'_>],
+    together: Together<'_>,
+    shown: &[Warning<'_>],
 ) -> Result<(), AllocError> {
-    let lists = by_line(alloc, &in_order(alloc, &audit.warnings)?)?;
+    let lists = by_line(alloc, shown)?;
     let class = if agent.is_none() {
         "lines all"
     } else {
@@ -106,7 +118,7 @@ pub(crate) fn write_file_table(
     put_text!(page, "Lines, and whether they are in the group of {agent}");
     page.close();
     write_line_columns(page);
-    write_line_groups(page, &lists, &audit.labels);
+    write_line_groups(page, together, &lists, labels);
     page.close();
     Ok(())
 }

@@ -1,8 +1,11 @@
 //! The findings of a page: the list at the top, and the rows below their lines.
 use crate::page::elements::{Page, put_text};
 use crate::page::slices::{after, first};
+use audit_core::audit::Audit;
 use audit_core::counts::counts_of;
-use audit_core::joined::{AlsoIn, in_order, joined, shared_lines};
+use audit_core::joined::{AlsoIn, joined, shared_lines};
+use audit_core::request::Request;
+use audit_core::together::{Message, Together};
 use printable_text::level::Level;
 use robots_warnings::warning::Warning;
 use std::alloc::{AllocError, Global};
@@ -19,10 +22,10 @@ fn level_front(level: Level) -> &'static str {
 }
 
 /// The lines are those of all that are written as one.
-fn write_warning(page: &mut Page, lines: &[usize], warning: &Warning<'_>) {
+fn write_warning(page: &mut Page, together: Together<'_>, lines: &[usize], warning: &Warning<'_>) {
     let (level, name) = (level_front(warning.cause.level()), warning.cause.name());
-    let also = AlsoIn(lines);
-    put_text!(page, "{level}: {warning}{also} [{name}]");
+    let (message, also) = (Message(warning, together), AlsoIn(lines));
+    put_text!(page, "{level}: {message}{also} [{name}]");
 }
 
 /// The warnings that have no row in the table of lines, which has so many rows.
@@ -58,6 +61,7 @@ fn write_items(
     alloc: Global,
     page: &mut Page,
     rows: usize,
+    together: Together<'_>,
     all: &[Warning<'_>],
     warnings: &[Warning<'_>],
 ) -> Result<(), AllocError> {
@@ -65,7 +69,7 @@ fn write_items(
         let lines = shared_lines(alloc, warning, all)?;
         page.open_class("li", warning.cause.level().word());
         write_place(page, rows, warning.line);
-        write_warning(page, &lines, warning);
+        write_warning(page, together, &lines, warning);
         page.close();
     }
     Ok(())
@@ -96,15 +100,22 @@ fn write_findings(
     alloc: Global,
     page: &mut Page,
     rows: usize,
-    warnings: &[Warning<'_>],
+    together: Together<'_>,
+    all: &[Warning<'_>],
 ) -> Result<(), AllocError> {
-    let all = in_order(alloc, warnings)?;
-    let found = joined(alloc, &all)?;
+    let found = joined(alloc, all)?;
     let later = after(&found, LISTED_WARNINGS);
     let others = without_row(alloc, rows, later)?;
     page.open("ul");
-    write_items(alloc, page, rows, &all, first(&found, LISTED_WARNINGS))?;
-    write_items(alloc, page, rows, &all, &others)?;
+    write_items(
+        alloc,
+        page,
+        rows,
+        together,
+        all,
+        first(&found, LISTED_WARNINGS),
+    )?;
+    write_items(alloc, page, rows, together, all, &others)?;
     page.close();
     let more = later.len().saturating_sub(others.len());
     if more > 0 {
@@ -118,28 +129,29 @@ fn write_findings(
 pub(crate) fn write_warning_entry(
     alloc: Global,
     page: &mut Page,
-    agent: Option<&str>,
-    rows: usize,
-    warnings: &[Warning<'_>],
+    request: &Request<'_>,
+    audit: &Audit<'_>,
+    together: Together<'_>,
+    shown: &[Warning<'_>],
 ) -> Result<(), AllocError> {
     page.element("dt", "Findings");
     page.open("dd");
-    write_counts(page, warnings);
-    if let Some(agent) = agent {
+    write_counts(page, &audit.warnings);
+    if let Some(agent) = request.agent {
         put_text!(
             page,
             " (rules for crawlers other than {agent} aren't checked)"
         );
     }
-    write_findings(alloc, page, rows, warnings)?;
+    write_findings(alloc, page, audit.labels.len(), together, shown)?;
     page.close();
     Ok(())
 }
 
-pub(crate) fn write_warning_row(page: &mut Page, warning: &Warning<'_>) {
+pub(crate) fn write_warning_row(page: &mut Page, together: Together<'_>, warning: &Warning<'_>) {
     page.open_class("tr", warning.cause.level().word());
     page.open_with("td", &[("colspan", "4")]);
-    write_warning(page, &[], warning);
+    write_warning(page, together, &[], warning);
     page.close();
     page.close();
 }

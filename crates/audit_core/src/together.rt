@@ -1,0 +1,140 @@
+//! Needless rules can be deleted, but only all together: their lines as ranges, which a message names.
+ghost use Rattle.std.specs.Prelude.{◌≡◌, ◌++◌, ◌∷◌, [], filter, flat_map, IfOk, MatchOption, OnOk, ⊤};
+ghost use Rattle.audit_core.specs.Together.{is_first, is_needless, is_shown, lines_in, lines_of, needless_line};
+
+use robots_warnings::table::Cause;
+use robots_warnings::warning::Warning;
+use std::alloc::{AllocError, Global};
+use std::fmt;
+
+/// Lines that follow one another: the first one, and how many more.
+#[derive(Clone, Copy)]
+pub struct Range {
+    pub first: usize,
+    pub more: usize,
+}
+
+/// With this line, if it is the next one.
+#[tactic(auto, using(crate::proofs::TogetherLemmas::line_added))]
+fn extended(range: Range, line: usize) -> Option<Range>
+    ensures { MatchOption result ⊤ (λ longer. lines_of longer ≡ lines_of range ++ line ∷ []) }
+{
+    if line > range.first && line - range.first - 1 == range.more {
+        let (first, more) = (range.first, line - range.first);
+        return Some(Range { first, more });
+    }
+    None
+}
+
+/// The line is in the last range, if it follows on its last line.
+#[tactic(auto, using(crate::proofs::TogetherLemmas::one_more_range))]
+fn add_line(ranges: &mut Vec<Range>, line: usize) -> Result<(), AllocError>
+    ensures { OnOk result (lines_in ranges.new.items ≡ lines_in ranges.old.items ++ line ∷ []) }
+{
+    if let Some(last) = ranges.pop() {
+        if let Some(longer) = extended(last, line) {
+            return Ok(ranges.push(longer)?);
+        }
+        ranges.push(last)?;
+    }
+    Ok(ranges.push(Range {
+        first: line,
+        more: 0,
+    })?)
+}
+
+fn is_needless(cause: Cause) -> bool
+    ensures { result ≡ is_needless cause }
+{
+    matches!(
+        cause,
+        Cause::NeverDecides | Cause::MatchesNothing | Cause::AllowedAnyway | Cause::NotNeeded
+    )
+}
+
+fn add_needless_line(ranges: &mut Vec<Range>, warning: &Warning<'_>) -> Result<(), AllocError>
+    ensures { OnOk result (lines_in ranges.new.items ≡ lines_in ranges.old.items ++ needless_line warning.now) }
+{
+    match warning.line {
+        Some(line) if is_needless(warning.cause) => add_line(ranges, line),
+        _ => Ok(()),
+    }
+}
+
+/// The lines of needless rules, in the order of the warnings.
+pub fn needless_lines(alloc: Global, warnings: &[Warning<'_>]) -> Result<Vec<Range>, AllocError>
+    ensures { IfOk result (λ ranges. lines_in ranges.items ≡ flat_map needless_line warnings.now) }
+{
+    let mut ranges = Vec::new(alloc);
+    for warning in warnings {
+        add_needless_line(&mut ranges, warning)?;
+    }
+    Ok(ranges)
+}
+
+/// The lines of needless rules, and whether the message about the first of them stands for all.
+#[derive(Clone, Copy)]
+pub struct Together<'a> {
+    pub ranges: &'a [Range],
+    pub is_one: bool,
+}
+
+fn is_first(ranges: &[Range], line: Option<usize>) -> bool
+    ensures { result ≡ is_first (lines_in ranges.now) line }
+{
+    match (ranges, line) {
+        ([range, ..], Some(line)) => line == range.first,
+        _ => false,
+    }
+}
+
+/// Whether there is a message about the warning.
+pub(crate) fn is_shown(together: Together<'_>, warning: &Warning<'_>) -> bool
+    ensures { result ≡ is_shown together.is_one (lines_in together.ranges.now) warning.now }
+{
+    !(together.is_one && is_needless(warning.cause)) || is_first(together.ranges, warning.line)
+}
+
+pub fn keep_shown(together: Together<'_>, warnings: &mut Vec<Warning<'_>>)
+    ensures { warnings.new.items ≡ filter (is_shown together.is_one (lines_in together.ranges.now)) warnings.old.items }
+{
+    warnings.retain(|warning| is_shown(together, warning));
+}
+
+/// Such as `lines 3-27, 31`.
+#[derive(Clone, Copy)]
+struct Ranges<'a>(&'a [Range]);
+
+impl<'a> fmt::Display for Ranges<'a> {
+    fn fmt<W: fmt::Write>(&self, f: &mut fmt::Formatter<W>) -> fmt::Result {
+        let mut front = "lines ";
+        for range in self.0 {
+            let (first, last) = (range.first, range.first.saturating_add(range.more));
+            if range.more == 0 {
+                write!(f, "{front}{first}")?;
+            } else {
+                write!(f, "{front}{first}-{last}")?;
+            }
+            front = ", ";
+        }
+        Ok(())
+    }
+}
+
+/// The message of a warning, with the lines of all rules that have to be deleted together, if it is about one of them.
+#[derive(Clone, Copy)]
+pub struct Message<'a, 'b, 'c>(pub &'a Warning<'b>, pub Together<'c>);
+
+impl<'a, 'b, 'c> fmt::Display for Message<'a, 'b, 'c> {
+    fn fmt<W: fmt::Write>(&self, f: &mut fmt::Formatter<W>) -> fmt::Result {
+        let (warning, lines) = (self.0, Ranges(self.1.ranges));
+        match self.1.ranges {
+            [] | [Range { more: 0, .. }] => write!(f, "{warning}"),
+            _ if !is_needless(warning.cause) => write!(f, "{warning}"),
+            _ if self.1.is_one => {
+                write!(f, "{lines} can be deleted, but only all of them together")
+            }
+            _ => write!(f, "{warning}; only together with {lines}"),
+        }
+    }
+}
