@@ -15,7 +15,6 @@ use audit_core::group::{AtVendor, Group};
 use audit_core::reach::Reach;
 use audit_core::texts::{DelayOrNone, Fetched, Rejected};
 use printable_text::level::Level;
-use printable_text::report::Line;
 use robots_same::rule::Rule;
 use std::alloc::Global;
 use std::fmt;
@@ -66,9 +65,8 @@ fn add_groups(
         return Ok(());
     }
     let (old, new) = (group_name(agent, older), group_name(agent, newer));
-    let mut message = Line::new(alloc);
-    write!(message, "crawler {agent}: group {old} -> {new}")?;
-    add(alloc, found, Level::Note, None, "group", &message)
+    let message = format_args!("crawler {agent}: group {old} -> {new}");
+    add(alloc, found, Level::Note, None, "group", message)
 }
 
 fn add_delays(
@@ -84,9 +82,8 @@ fn add_delays(
         return Ok(());
     }
     let (old, new) = (DelayOrNone(older), DelayOrNone(newer));
-    let mut message = Line::new(alloc);
-    write!(message, "crawler {agent}: delay {old} -> {new}")?;
-    add(alloc, found, Level::Note, None, "delay", &message)
+    let message = format_args!("crawler {agent}: delay {old} -> {new}");
+    add(alloc, found, Level::Note, None, "delay", message)
 }
 
 fn rule_name(is_added: bool) -> &'static str
@@ -111,19 +108,15 @@ fn add_rule(
     let sign = if is_added { "+" } else { "-" };
     let kind = if rule.is_allow { "Allow" } else { "Disallow" };
     let (pattern, number) = (rule.pattern.as_str(), rule.line);
-    let mut message = Line::new(alloc);
-    write!(
-        message,
-        "crawler {agent}: {sign} {kind}: {pattern} (line {number})"
-    )?;
     let line = if is_added { Some(number) } else { None };
+    let message = format_args!("crawler {agent}: {sign} {kind}: {pattern} (line {number})");
     add(
         alloc,
         found,
         Level::Note,
         line,
         rule_name(is_added),
-        &message,
+        message,
     )
 }
 
@@ -167,28 +160,28 @@ impl fmt::Display for Decided {
 }
 
 /// What a crawler's vendor does otherwise in the new file, or else that it did in the old one.
-fn write_vendor(message: &mut Line, compared: &Compared<'_>) -> fmt::Result {
-    match (compared.older.vendor, compared.newer.vendor) {
-        (AtVendor::NoGroup | AtVendor::OtherGroup, AtVendor::Same) => {
-            message.write_str("; but before, its vendor applied no group or another one")
+#[derive(Clone, Copy)]
+struct Vendors {
+    older: AtVendor,
+    newer: AtVendor,
+}
+
+impl fmt::Display for Vendors {
+    fn fmt<W: fmt::Write>(&self, f: &mut fmt::Formatter<W>) -> fmt::Result {
+        match (self.older, self.newer) {
+            (AtVendor::NoGroup | AtVendor::OtherGroup, AtVendor::Same) => {
+                f.write_str("; but before, its vendor applied no group or another one")
+            }
+            (_, vendor) => write!(f, "{vendor}"),
         }
-        (_, vendor) => write!(message, "{vendor}"),
     }
 }
 
-fn write_url_change(
-    message: &mut Line,
-    compared: &Compared<'_>,
-    change: &UrlChange<'_>,
-    name: &str,
-) -> fmt::Result {
-    let (agent, url) = (compared.agent, change.url);
-    let (old, new) = (Decided(change.older), Decided(change.newer));
-    write!(message, "crawler {agent} {url}: {old} -> {new}")?;
-    if change.older.allowed != change.newer.allowed {
-        write!(message, ", {name}")?;
+fn vendors_of(compared: &Compared<'_>) -> Vendors {
+    Vendors {
+        older: compared.older.vendor,
+        newer: compared.newer.vendor,
     }
-    write_vendor(message, compared)
 }
 
 fn add_url(
@@ -201,14 +194,20 @@ fn add_url(
 {
     let (older, newer) = (change.older, change.newer);
     let name = change_name(older.allowed, newer.allowed);
-    let mut message = Line::new(alloc);
-    write_url_change(&mut message, compared, change, name)?;
     let level = if older.allowed && !newer.allowed {
         Level::Warning
     } else {
         Level::Note
     };
-    add(alloc, found, level, newer.line, name, &message)
+    let (comma, effect) = if older.allowed == newer.allowed {
+        ("", "")
+    } else {
+        (", ", name)
+    };
+    let (agent, url, vendors) = (compared.agent, change.url, vendors_of(compared));
+    let (old, new) = (Decided(older), Decided(newer));
+    let message = format_args!("crawler {agent} {url}: {old} -> {new}{comma}{effect}{vendors}");
+    add(alloc, found, level, newer.line, name, message)
 }
 
 fn add_urls(
@@ -270,25 +269,21 @@ fn change_level(newer: Reach, example: &Example) -> Level
     }
 }
 
-/// What the crawler may fetch, if that changes, and a path whose verdict does.
-fn write_verdict_change(
-    message: &mut Line,
-    compared: &Compared<'_>,
-    example: &Example,
-) -> fmt::Result {
-    let (agent, older, newer) = (compared.agent, &compared.older, &compared.newer);
-    write!(message, "crawler {agent}: ")?;
-    if older.reach == newer.reach {
-        write!(message, "verdicts change")?;
-    } else {
-        let was = Fetched(older.reach, &older.allows);
-        let is = Fetched(newer.reach, &newer.allows);
-        write!(message, "may fetch {was} -> {is}")?;
+/// What the crawler may fetch, if that changes.
+#[derive(Clone, Copy)]
+struct ReachChange<'a> {
+    older: Fetched<'a>,
+    newer: Fetched<'a>,
+}
+
+impl<'a> fmt::Display for ReachChange<'a> {
+    fn fmt<W: fmt::Write>(&self, f: &mut fmt::Formatter<W>) -> fmt::Result {
+        let (older, newer) = (self.older, self.newer);
+        if older.0 == newer.0 {
+            return f.write_str("verdicts change");
+        }
+        write!(f, "may fetch {older} -> {newer}")
     }
-    let (old, new) = (Decided(example.older), Decided(example.newer));
-    let path = example.path.as_str();
-    write!(message, ", for example {path}: {old} -> {new}")?;
-    write_vendor(message, compared)
 }
 
 fn add_verdict_change(
@@ -300,23 +295,18 @@ fn add_verdict_change(
     ensures { OnOk result (Adds found.old.items found.new.items
         (verdict_change compared.now.newer.reach example.now ∷ [])) }
 {
-    let mut message = Line::new(alloc);
-    write_verdict_change(&mut message, compared, example)?;
-    let level = change_level(compared.newer.reach, example);
-    add(
-        alloc,
-        found,
-        level,
-        example.newer.line,
-        "verdicts",
-        &message,
-    )
-}
-
-fn write_same_verdicts(message: &mut Line, compared: &Compared<'_>) -> fmt::Result {
-    let agent = compared.agent;
-    write!(message, "crawler {agent}: no URL's verdict changes")?;
-    write_vendor(message, compared)
+    let (agent, older, newer) = (compared.agent, &compared.older, &compared.newer);
+    let change = ReachChange {
+        older: Fetched(older.reach, &older.allows),
+        newer: Fetched(newer.reach, &newer.allows),
+    };
+    let (old, new) = (Decided(example.older), Decided(example.newer));
+    let (path, vendors) = (example.path.as_str(), vendors_of(compared));
+    let message = format_args!(
+        "crawler {agent}: {change}, for example {path}: {old} -> {new}{vendors}"
+    );
+    let level = change_level(newer.reach, example);
+    add(alloc, found, level, example.newer.line, "verdicts", message)
 }
 
 /// Adds what becomes of the verdicts of all URLs, if something differs for the crawler.
@@ -327,25 +317,24 @@ fn add_verdicts(alloc: Global, found: &mut Findings, compared: &Compared<'_>) ->
     if is_unchanged(compared) {
         return Ok(());
     }
-    let (mut message, agent) = (Line::new(alloc), compared.agent);
+    let (agent, vendors) = (compared.agent, vendors_of(compared));
     match &compared.verdicts {
-        Verdicts::Other(example) => return add_verdict_change(alloc, found, compared, example),
+        Verdicts::Other(example) => add_verdict_change(alloc, found, compared, example),
         Verdicts::Same => {
-            write_same_verdicts(&mut message, compared)?;
-            add(alloc, found, Level::Note, None, "same-verdicts", &message)
+            let message = format_args!("crawler {agent}: no URL's verdict changes{vendors}");
+            add(alloc, found, Level::Note, None, "same-verdicts", message)
         }
         Verdicts::Undecided => {
-            write!(
-                message,
+            let message = format_args!(
                 "crawler {agent}: it isn't decided whether a URL's verdict changes"
-            )?;
+            );
             add(
                 alloc,
                 found,
                 Level::Note,
                 None,
                 "undecided-verdicts",
-                &message,
+                message,
             )
         }
     }
@@ -370,17 +359,16 @@ fn add_rejection(
     let Some(line) = rejected else {
         return Ok(());
     };
-    let (mut message, reason) = (Line::new(alloc), Rejected { agent, line });
-    let version = if is_new { "new" } else { "old" };
-    write!(message, "the {version} file is {reason}")?;
+    let (version, reason) = (if is_new { "new" } else { "old" }, Rejected { agent, line });
     let line = if is_new { rejected } else { None };
+    let message = format_args!("the {version} file is {reason}");
     add(
         alloc,
         found,
         Level::Error,
         line,
         rejection_name(is_new),
-        &message,
+        message,
     )
 }
 

@@ -26,17 +26,19 @@ pub struct Finding {
 pub type Findings = Vec<Finding>;
 
 /// In the message, the start of a command of a workflow is escaped, too.
-pub fn add(
+pub fn add<M: fmt::Display + Drop>(
     alloc: Global,
     found: &mut Findings,
     level: Level,
     line: Option<usize>,
     name: &'static str,
-    text: &Line,
+    message: M,
 ) -> fmt::Result
     ensures { OnOk result (Adds found.old.items found.new.items
         ((record { level = level; line = line; name = name.now }) ∷ [])) }
 {
+    let mut text = Line::new(alloc);
+    write!(text, "{message}")?;
     let mut message = String::new(alloc);
     push_sanitized(&mut message, text.as_str().as_bytes())?;
     let finding = Finding {
@@ -69,15 +71,14 @@ fn add_denial(
     if is_allowed(verdict) {
         return Ok(());
     }
-    let (mut message, url) = (Line::new(alloc), verdict.url);
-    write!(message, "{agent} may not fetch {url}{vendor}")?;
+    let (line, url) = (verdict.decision.line, verdict.url);
     add(
         alloc,
         found,
         Level::Error,
-        verdict.decision.line,
+        line,
         "denied",
-        &message,
+        format_args!("{agent} may not fetch {url}{vendor}"),
     )
 }
 
@@ -107,10 +108,8 @@ fn add_rejection(
     let Some(line) = rejected else {
         return Ok(());
     };
-    let mut message = Line::new(alloc);
     let reason = Rejected { agent, line };
-    write!(message, "{reason}")?;
-    add(alloc, found, Level::Error, rejected, "rejected", &message)
+    add(alloc, found, Level::Error, rejected, "rejected", reason)
 }
 
 fn add_agent(alloc: Global, found: &mut Findings, agent: &AgentAudit<'_>) -> fmt::Result
@@ -132,10 +131,8 @@ fn add_agents(alloc: Global, found: &mut Findings, agents: &[AgentAudit<'_>]) ->
 fn add_warning(alloc: Global, found: &mut Findings, warning: &Warning<'_>) -> fmt::Result
     ensures { OnOk result (Adds found.old.items found.new.items (warning_found warning.now ∷ [])) }
 {
-    let mut message = Line::new(alloc);
-    write!(message, "{warning}")?;
     let (level, name) = (warning.cause.level(), warning.cause.name());
-    add(alloc, found, level, warning.line, name, &message)
+    add(alloc, found, level, warning.line, name, warning)
 }
 
 fn add_in_part(
