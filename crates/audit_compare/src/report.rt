@@ -6,8 +6,8 @@ ghost use Rattle.audit_compare.specs.Compare.{sitemap_changes, sitemap_name};
 
 use crate::compare::{Comparison, Side};
 use crate::compared::Compared;
-use crate::differences::{Section, add_crawler, is_unchanged};
-use audit_core::findings::{Findings, add};
+use crate::differences::{Section, add_crawler, is_unchanged, unchanged_words};
+use audit_core::findings::{Findings, add, message};
 use printable_text::level::Level;
 use printable_text::report::{Report, Untrusted};
 use std::alloc::Global;
@@ -45,7 +45,7 @@ fn add_sitemap(alloc: Global, found: &mut Findings, is_added: bool, sitemap: &[u
 {
     let what = if is_added { "added" } else { "removed" };
     let sitemap = Untrusted(sitemap);
-    let message = format_args!("sitemap {what}: {sitemap}");
+    let message = message(alloc, format_args!("sitemap {what}: {sitemap}"));
     add(
         alloc,
         found,
@@ -95,7 +95,7 @@ fn add_emptied(
     if older.has_no_directive || !newer.has_no_directive {
         return Ok(());
     }
-    let message = "the new file has no directive";
+    let message = message(alloc, "the new file has no directive");
     add(alloc, found, Level::Warning, None, "empty", message)
 }
 
@@ -147,11 +147,11 @@ struct Unchanged<'a, 'c>(&'c [Compared<'a>]);
 
 impl<'a, 'c> fmt::Display for Unchanged<'a, 'c> {
     fn fmt<W: fmt::Write>(&self, f: &mut fmt::Formatter<W>) -> fmt::Result {
-        let mut separator = "";
+        let mut is_first = true;
         for compared in self.0.iter().filter(|compared| is_unchanged(compared)) {
-            let agent = compared.agent;
+            let (separator, agent) = (if is_first { "" } else { ", " }, compared.agent);
             write!(f, "{separator}{agent}")?;
-            separator = ", ";
+            is_first = false;
         }
         Ok(())
     }
@@ -159,22 +159,22 @@ impl<'a, 'c> fmt::Display for Unchanged<'a, 'c> {
 
 /// Writes which crawlers are unchanged, if some are.
 fn write_unchanged(out: &mut Report, crawlers: &[Compared<'_>]) -> fmt::Result {
+    let words = unchanged_words(crawlers);
+    if words.is_empty() {
+        return Ok(());
+    }
     let number = crawlers
         .iter()
         .filter(|compared| is_unchanged(compared))
         .count();
     let (who, named) = match number {
-        0 => return Ok(()),
         _ if number > 1 && number == crawlers.len() => ("all compared crawlers", &crawlers[..0]),
         1 => ("crawler ", crawlers),
         2..=5 => ("crawlers ", crawlers),
         _ => ("other compared crawlers", &crawlers[..0]),
     };
     let names = Unchanged(named);
-    write!(
-        out,
-        "{who}{names}: same group, delay and rules, so the same verdicts"
-    )?;
+    write!(out, "{who}{names}{words}")?;
     out.end_line()
 }
 

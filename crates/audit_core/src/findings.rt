@@ -25,20 +25,26 @@ pub struct Finding {
 
 pub type Findings = Vec<Finding>;
 
-/// In the message, the start of a command of a workflow is escaped, too.
-pub fn add<M: fmt::Display + Drop>(
+/// A finding's message, for `add`.
+pub fn message<M: fmt::Display + Drop>(alloc: Global, text: M) -> Result<Line, fmt::Error> {
+    let mut message = Line::new(alloc);
+    write!(message, "{text}")?;
+    Ok(message)
+}
+
+/// In the message, the start of a command of a workflow is escaped, too. Its error is returned.
+pub fn add(
     alloc: Global,
     found: &mut Findings,
     level: Level,
     line: Option<usize>,
     name: &'static str,
-    message: M,
+    message: Result<Line, fmt::Error>,
 ) -> fmt::Result
     ensures { OnOk result (Adds found.old.items found.new.items
         ((record { level = level; line = line; name = name.now }) ∷ [])) }
 {
-    let mut text = Line::new(alloc);
-    write!(text, "{message}")?;
+    let text = message?;
     let mut message = String::new(alloc);
     push_sanitized(&mut message, text.as_str().as_bytes())?;
     let finding = Finding {
@@ -72,14 +78,8 @@ fn add_denial(
         return Ok(());
     }
     let (line, url) = (verdict.decision.line, verdict.url);
-    add(
-        alloc,
-        found,
-        Level::Error,
-        line,
-        "denied",
-        format_args!("{agent} may not fetch {url}{vendor}"),
-    )
+    let message = message(alloc, format_args!("{agent} may not fetch {url}{vendor}"));
+    add(alloc, found, Level::Error, line, "denied", message)
 }
 
 fn add_denials(
@@ -108,8 +108,8 @@ fn add_rejection(
     let Some(line) = rejected else {
         return Ok(());
     };
-    let reason = Rejected { agent, line };
-    add(alloc, found, Level::Error, rejected, "rejected", reason)
+    let message = message(alloc, Rejected { agent, line });
+    add(alloc, found, Level::Error, rejected, "rejected", message)
 }
 
 fn add_agent(alloc: Global, found: &mut Findings, agent: &AgentAudit<'_>) -> fmt::Result
@@ -132,7 +132,8 @@ fn add_warning(alloc: Global, found: &mut Findings, warning: &Warning<'_>) -> fm
     ensures { OnOk result (Adds found.old.items found.new.items (warning_found warning.now ∷ [])) }
 {
     let (level, name) = (warning.cause.level(), warning.cause.name());
-    add(alloc, found, level, warning.line, name, warning)
+    let message = message(alloc, warning);
+    add(alloc, found, level, warning.line, name, message)
 }
 
 fn add_in_part(

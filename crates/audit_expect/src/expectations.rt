@@ -4,7 +4,7 @@ ghost use Rattle.audit_core.specs.{Findings.Adds, Findings.found_of, Internal.Is
 ghost use Rattle.audit_core.specs.declared.error.EntryKind.TheVariants as entry;
 ghost use Rattle.robots_warnings.specs.Read.{IsRead};
 ghost use Rattle.audit_expect.specs.Expect.{IsEntryError, expectations_in as specified_in};
-ghost use Rattle.audit_expect.specs.Expectations.{AreFailuresOf, AreFailuresOn, failures};
+ghost use Rattle.audit_expect.specs.Expectations.{AreFailuresOf, AreFailuresOn, failures, holding_words};
 ghost use Rattle.audit_expect.specs.Internal.Expectations.{IsReadFor, checked_value, expectation_value};
 
 use crate::any::about_each;
@@ -14,7 +14,7 @@ use crate::expect::{Expectation, expectations_in, is_any};
 use crate::patterns::OnPaths;
 use audit_core::audit::{Reading, read_for};
 use audit_core::error::{EntryKind, Error};
-use audit_core::findings::{Findings, add};
+use audit_core::findings::{Findings, add, message};
 use audit_core::target::asked_target;
 use printable_text::level::Level;
 use printable_text::report::Report;
@@ -262,7 +262,8 @@ fn add_if_failing(
     };
     write_failure(report, &failure)?;
     let line = Some(checked.expectation.number);
-    Ok(add(alloc, found, Level::Error, line, "expectation", failure)?)
+    let message = message(alloc, failure);
+    Ok(add(alloc, found, Level::Error, line, "expectation", message)?)
 }
 
 fn failures<'a>(
@@ -291,17 +292,23 @@ fn failures<'a>(
     Ok(found)
 }
 
-/// Writes how many expectations hold, if none fails.
+/// What is said after the number of expectations, if none fails.
+fn holding_words(found: &Findings, number: usize) -> &'static str
+    ensures { result.now ≡ holding_words (map found_of found.now.items) number }
+{
+    match (found.is_empty(), number) {
+        (false, _) => "",
+        (true, 1) => " expectation holds",
+        (true, _) => " expectations hold",
+    }
+}
+
 fn write_holding(out: &mut Report, found: &Findings, number: usize) -> fmt::Result {
-    if !found.is_empty() {
+    let words = holding_words(found, number);
+    if words.is_empty() {
         return Ok(());
     }
-    let (plural, verb) = if number == 1 {
-        ("", "holds")
-    } else {
-        ("s", "hold")
-    };
-    write!(out, "{number} expectation{plural} {verb}")?;
+    write!(out, "{number}{words}")?;
     out.end_line()
 }
 
