@@ -118,7 +118,7 @@ def test_one_of_each_level():
 
 def test_notes_about_another_line_stay_apart():
     """Their messages end with the line of the other one."""
-    sitemap = "Sitemap: https://example.com/a\n"
+    sitemap = "Sitemap: https://example.com/s\n"
     err = audit(FRONT + sitemap * 3).err
     assert err.count("(see line 3) [repeated-sitemap]") == 2 and "(also" not in err and err.endswith(total("2 notes"))
 
