@@ -363,13 +363,23 @@ def check_target(line, verdict, looks=(0, 2**64)):
     assert one == other and looks[0] <= one <= looks[1]
 
 
-def check_robot(lines, verdict, as_url):
-    """Of a text as a URL, parsed and not, or as a match target: by a robot of the file, and by one of a site."""
-    _, *both = lines
-    assert both[:3] == both[3:] and len(both) == 6
-    if as_url:
-        assert both[0].endswith(f" {shown(verdict >= 0)}" * 2)
-    check_target(both[2 if as_url else 1], verdict)
+@pytest.fixture
+def of_robots(printed):
+    """What a robot of the file and one of a site print: itself, and its verdicts on a text and on the target of the text as a URL."""
+
+    def lines(text, file, number=NO_LIMIT):
+        own, other = (printed(name, text, file=file, number=number, word=BOB) for name in ("robot", "robot of a site"))
+        assert own == other and len(own) == 3
+        return own
+
+    return lines
+
+
+def check_url(lines, verdict):
+    """Of a text as a URL, parsed and not, and of its target."""
+    robot, _, target = lines
+    assert robot.endswith(f" {shown(verdict >= 0)}" * 2)
+    check_target(target, verdict)
 
 
 # A file, a limit, a text, and the verdict on it as a URL.
@@ -397,46 +407,45 @@ TARGETS = [("Disallow: $", "", -1), ("Disallow: $", "/", 0), ("User-agent: *\nDi
 
 
 @pytest.mark.parametrize("file, limit, url, verdict", URLS)
-def test_urls_are_prepared(printed, file, limit, url, verdict):
-    check_robot(printed("robot", url, file=file, number=limit, word=BOB), verdict, True)
+def test_urls_are_prepared(of_robots, file, limit, url, verdict):
+    check_url(of_robots(url, file, limit), verdict)
 
 
 @pytest.mark.parametrize("file, target, verdict", TARGETS)
-def test_targets_are_not_prepared(printed, file, target, verdict):
-    check_robot(printed("robot", target, file=file, number=NO_LIMIT, word=BOB), verdict, False)
+def test_targets_are_not_prepared(of_robots, file, target, verdict):
+    check_target(of_robots(target, file)[1], verdict)
 
 
 # A file that has no rule, delay or sitemap up to this limit: it cuts the key, everything, and a character.
 @pytest.mark.parametrize("file, limit", [("Disallow: /abc", 8), ("Disallow: /abc", 0), ("Disallow: /é", 12)])
-def test_nothing_is_left_below_the_limit(printed, file, limit):
-    _, *both = printed("robot", "/", file=file, number=limit, word=BOB)
-    assert both[0].endswith(" Robot { delay: None, sitemaps: [], rules: [] } true true") and both[0] == both[3]
+def test_nothing_is_left_below_the_limit(of_robots, file, limit):
+    assert of_robots("/", file, limit)[0].endswith(" Robot { delay: None, sitemaps: [], rules: [] } true true")
 
 
 # A file whose first 512,000 bytes are a comment and LF.
 OVERLONG_RULE_AFTER = "#" * 511_999 + "\nSitemap: /s\nDisallow: /" + "a" * 4095 + "$"
 
 
-def test_a_greater_limit_reads_on(printed):
+def test_a_greater_limit_reads_on(printed, of_robots):
     rejected = printed("robot", "/a", file=OVERLONG_RULE_AFTER, number=600_000, word=BOB)
     assert rejected == ["Rule with $ is too long"]
-    lines = printed("robot", "/a", file=OVERLONG_RULE_AFTER, number=512_024, word=BOB)
-    assert 'sitemaps: ["/s"]' in lines[1]
-    check_robot(lines, -3, True)
+    lines = of_robots("/a", OVERLONG_RULE_AFTER, 512_024)
+    assert 'sitemaps: ["/s"]' in lines[0]
+    check_url(lines, -3)
 
 
-def test_robots_are_shown(printed):
+def test_robots_are_shown(of_robots):
     """The longest rule is first, with all its stars."""
     file = "Allow: /\nDisallow: /x***y$\nDisallow: /\nCrawl-Delay: 42\nSitemap: s"
     rules = '[("/x***y$", false, 2), ("/", true, 1), ("/", false, 3)]'
     want = f'Robot {{ delay: Some(42000000), sitemaps: ["s"], rules: {rules} }}'
-    assert f" {want} " in printed("robot", "/", file=file, number=NO_LIMIT, word=BOB)[1]
+    assert f" {want} " in of_robots("/", file)[0]
 
 
-def test_bytes_of_sitemaps_are_counted(printed):
+def test_bytes_of_sitemaps_are_counted(of_robots):
     """Beside the robot itself, each sitemap takes the size of a `String`, and its text."""
     file = "Sitemap: /s\nSitemap: /t\nSitemap: /u\nSitemap: /v"
-    assert printed("robot", "/", file=file, number=NO_LIMIT, word="a")[4].startswith(f"{4 * 26} ")
+    assert of_robots("/", file)[0].startswith(f"{4 * 26} ")
 
 
 # A file and a match target, whether it may be fetched, and the least and the greatest number of looks. Each comparison with a
@@ -458,17 +467,16 @@ LOOKS = [
 
 
 @pytest.mark.parametrize("row", range(len(LOOKS)))
-def test_looks_of_robots_are_counted(printed, row):
+def test_looks_of_robots_are_counted(of_robots, row):
     file, target, verdict, looks = LOOKS[row]
-    lines = printed("robot", target, file=file, number=NO_LIMIT, word=BOB)
-    check_target(lines[2], verdict, looks)
+    check_target(of_robots(target, file)[1], verdict, looks)
 
 
 def test_files_of_each_size(printed):
     """Of so many equal rules a verdict compares two bytes each."""
     for size in SIZES:
         file = "Disallow: /a\n" * size
-        assert printed("robot", "/b", file=file, number=NO_LIMIT, word=BOB)[0] == f"true {2 * size}"
+        assert printed("query", "/b", file=file, word=BOB) == [f"true {2 * size}"]
         assert printed("lines", "nobody", file=file)[0].count("Disallow") == size
 
 
@@ -514,7 +522,7 @@ FILES = [
 
 
 @pytest.mark.parametrize("one, other, same", FILES)
-def test_files_are_compared(printed, one, other, same):
+def test_files_are_compared(printed, of_robots, one, other, same):
     """In both ways. Files that differ have opposite verdicts on the text that is printed."""
     for old, new in [(one, other), (other, one)]:
         (found,) = printed("same", BOB, file=old, number=100_000, word=new)
@@ -522,7 +530,7 @@ def test_files_are_compared(printed, one, other, same):
             assert found == "Same"
             continue
         text = bytes(json.loads(re.fullmatch(r"Differ\((.*)\)", found)[1])).decode()
-        was, now = (printed("robot", text, file=file, number=NO_LIMIT, word=BOB)[2].split()[0] for file in (old, new))
+        was, now = (of_robots(text, file)[1].split()[0] for file in (old, new))
         assert {was, now} == {"[true,", "[false,"}
 
 

@@ -26,7 +26,9 @@ pub(crate) fn shows(
     match name.as_bytes() {
         b"lines" => shows_lines(rt, given.file, given.number, text),
         b"site" => shows_site(rt, given, text),
-        b"robot" => shows_robots(rt, given, text),
+        b"query" => shows_query(rt, given, text),
+        b"robot" => shows_by_robot(rt, given, text),
+        b"robot of a site" => shows_by_site(rt, given, text),
         b"pattern" => shows_patterns(rt, text, given.word),
         b"text" => shows_text(rt, text),
         b"same" => shows_comparison(rt, given, text),
@@ -79,18 +81,26 @@ fn shows_site(rt: &HostRuntime, given: &Given<'_>, agent: &str) -> Result<bool, 
     Ok(well)
 }
 
-/// By a robot of the first bytes of a file, by a site of them, and by the file.
-fn shows_robots(rt: &HostRuntime, given: &Given<'_>, text: &str) -> Result<bool, Error> {
-    let (alloc, file, agent) = (rt.alloc(), given.file, given.word);
-    let robot = Robot::with_limit(alloc, agent, file, given.number)?;
-    let site = Site::with_limit(alloc, file, given.number)?;
+/// The verdict of a query of the whole file, with its looks.
+fn shows_query(rt: &HostRuntime, given: &Given<'_>, text: &str) -> Result<bool, Error> {
     let mut view = View::new(text);
-    let answer = allowed_in_file(alloc, agent, file, &mut view)?;
-    let well = println!(rt; "{answer} {}", view.seen()).is_ok();
-    let Ok(other) = site.robot(alloc, agent) else {
-        return Ok(false);
-    };
-    Ok(well && shows_robot(rt, &robot, text)? && shows_robot(rt, &other, text)?)
+    let allowed = allowed_in_file(rt.alloc(), given.word, given.file, &mut view)?;
+    Ok(println!(rt; "{allowed} {}", view.seen()).is_ok())
+}
+
+/// By a robot of the first bytes of a file.
+fn shows_by_robot(rt: &HostRuntime, given: &Given<'_>, text: &str) -> Result<bool, Error> {
+    let robot = Robot::with_limit(rt.alloc(), given.word, given.file, given.number)?;
+    shows_robot(rt, &robot, text)
+}
+
+/// By a site of the first bytes of a file.
+fn shows_by_site(rt: &HostRuntime, given: &Given<'_>, text: &str) -> Result<bool, Error> {
+    let site = Site::with_limit(rt.alloc(), given.file, given.number)?;
+    match site.robot(rt.alloc(), given.word) {
+        Ok(robot) => shows_robot(rt, &robot, text),
+        Err(_) => Ok(false),
+    }
 }
 
 /// Its verdicts on a text as a URL, as a match target, and on the match target of the URL.
