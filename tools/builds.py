@@ -42,7 +42,8 @@ def sources(crate):
 def sum_of(name):
     """A sum of all that a build depends on."""
     made = hashlib.sha256(subprocess.run(["rt", "version"], capture_output=True).stdout)
-    for file in [*sources(BUILDS[name][0]), ROOT / "tools/unproved.py", ROOT / "web/make_module.py"]:
+    tools = [ROOT / "tools/unproved.py", *[ROOT / "web/make_module.py"] * (name == "page")]
+    for file in [*sources(BUILDS[name][0]), *tools]:
         made.update(f"{file.relative_to(ROOT)}\n{hashlib.sha256(file.read_bytes()).hexdigest()}\n".encode())
     return f"{name}-{made.hexdigest()[:32]}"
 
