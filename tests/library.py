@@ -1,5 +1,6 @@
 """The C library crates/robots_c for the tests of the C library and of its bindings: built, installed, and as a module for Python."""
 
+import fcntl
 import importlib
 import os
 import re
@@ -55,9 +56,15 @@ def build_archive():
 
 
 def archive():
-    """The path of the library, which is built if its sources have changed."""
-    if not is_built(ARCHIVE, "robots_c", *below("robots_c")):
-        build_archive()
+    """The path of the library, which is built if its sources have changed, by one process if tests run in several."""
+    ARCHIVE.parent.mkdir(exist_ok=True)
+    folder = os.open(ARCHIVE.parent, os.O_RDONLY)
+    try:
+        fcntl.flock(folder, fcntl.LOCK_EX)
+        if not is_built(ARCHIVE, "robots_c", *below("robots_c")):
+            build_archive()
+    finally:
+        os.close(folder)
     return ARCHIVE
 
 

@@ -26,6 +26,10 @@ def toolchain():
     return named
 
 
+# what `--version` says of the program
+PROOF = "not proved" if (CRATES / "robots_audit/out/not-proved").exists() else f"proved with {toolchain()}"
+
+
 @dataclass
 class Result:
     """What a program wrote and ended with. Bytes that aren't UTF-8 are surrogates, so that pytest can show a difference by lines."""
@@ -54,7 +58,7 @@ def run(command, args=(), stdin=b"", **options):
     """Runs a program of the repository, by its name, or any other, by its path."""
     path = program(command) if isinstance(command, str) else command
     given = {"input": stdin} if isinstance(stdin, bytes) else {"stdin": stdin}
-    given = {"cwd": ROOT, "stdout": subprocess.PIPE, "stderr": subprocess.PIPE, "timeout": 60, **given, **options}
+    given = {"cwd": ROOT, "stdout": subprocess.PIPE, "stderr": subprocess.PIPE, "timeout": 180, **given, **options}
     ended = subprocess.run([path, *args], **given)
     return Result(ended.returncode, ended.stdout, ended.stderr)
 
@@ -80,8 +84,8 @@ STILL_OPEN = f"; but crawlers that obey only a group with their own name may fet
 
 def spelled(text):
     r"""The bytes that a golden case means: \\ is a backslash, \r CR, \xHH a byte, \{N TEXT} N times the TEXT, \* who may fetch what is
-    denied to *, and \i their names in JSON."""
-    escapes = {b"\\": b"\\", b"r": b"\r", b"*": STILL_OPEN.encode(), b"i": json.dumps(IGNORING, separators=(",", ":")).encode()}
+    denied to *, \i their names in JSON, and \v what --version says of proofs."""
+    escapes = {b"\\": b"\\", b"r": b"\r", b"*": STILL_OPEN.encode(), b"i": json.dumps(IGNORING, separators=(",", ":")).encode(), b"v": PROOF.encode()}
     return re.sub(rb"\\(?:x([0-9A-F]{2})|(.?))", lambda it: bytes.fromhex(it[1].decode()) if it[1] else escapes[it[2]], repeated(text).encode())
 
 
@@ -111,6 +115,7 @@ OF_A_CRAWLER = {"vendor-group", "ignores-star"}
 OF_GROUP = {"vendor-group"}
 FIELDS = ("User-agent", "Allow", "Disallow", "Sitemap", "Crawl-delay")
 OF_RULES = {"replaces-star"}
+OF_SIZE = {"two-delays", "repeated-rule"}
 OF_CLOSED = {"closes-everything", "closes-home-page"}
 OF_A_LINE = {"allowed-and-disallowed", "empty-disallow", "sitemap-denied", "repeated-sitemap"}
 NEEDLESS = ["never", "nothing", "allowed", "covered"]  # in the order of the messages of `needless-rule`
@@ -118,7 +123,7 @@ WORDS = {"space", "comma", "tag", "invisible", "=", "??", "nothing"}  # each in 
 
 
 def level_and_text(name, detail=""):
-    """The level and message of a warning. Its detail is the field name that may be meant; the level of one before the last; a word of its
+    """The level and message of a warning. Its detail is, if that depends on the size, that the file is too `large`; the field name that may be meant; the level of one before the last; a word of its
     message; how many rules it is about; the line of another rule; the kind of a needless rule, possibly with such a line; the name of a
     crawler that may be meant, possibly after a name in quotes and `warning`; the name of one of several crawlers, in quotes, and that of the group that
     its vendor applies, if it isn't Googlebot; of `closes-everything` and `closes-home-page` the level, such a name, and how many other crawlers there are, if
@@ -127,6 +132,8 @@ def level_and_text(name, detail=""):
         kind, _, other = detail.partition(" ")
         level, text = WARNINGS[name][NEEDLESS.index(kind)]
         return level, f"{text} (see line {other})" if other else text
+    if name in OF_SIZE:
+        return WARNINGS[name][detail == "large"]
     if name in OF_CLOSED:
         level, crawler, others = re.fullmatch(r"(\w+) ('.*')(?: (\d+))?", detail).groups()
         more = f" (and {others} other crawler{'' if others == '1' else 's'})" if others else ""
@@ -237,7 +244,7 @@ def warning_lines(warnings, file="robots.txt", agent=None):
     return "".join(shown + more + total)
 
 
-VERDICTS = "RFC 9309 syntax and verdicts, for URLs with usual escapes (%20 for a space, not %41 for A)"
+VERDICTS = "RFC 9309 syntax, and verdicts for paths and queries in normal form (%20 for a space, not %41 for A)"
 KEYS = set("like args agent robots file expect old from pieces room out more rfc warn err status indented".split())
 
 

@@ -10,6 +10,7 @@ import shutil
 import subprocess
 import sys
 from decimal import Decimal
+from itertools import chain, product
 from pathlib import Path
 
 import pytest
@@ -317,6 +318,14 @@ def test_python_verdicts(robots):
         assert [robot.query(url) for url in URLS] == robot.query_many(URLS) == VERDICTS
         assert robot.delay() == robots.delay("Bot", FILE) == 2_500_000
         assert status_of(robots, robot.query, b"\xff") == (robots.NOT_UTF8, 0)
+
+
+def test_small_rules_match_themselves(robots):
+    """Each text of at most six bytes out of /, a, * and $. A pattern without `$` matches itself, since a star matches a star, and an
+    empty Disallow allows."""
+    for text in map("".join, chain(*(product("/a*$", repeat=length) for length in range(7)))):
+        verdicts = robots.decide("Bot", f"Disallow: {text}".encode(), [text])
+        assert "$" in text or verdicts == [-1 if text else 1]
 
 
 def test_python_texts(robots):

@@ -43,10 +43,10 @@ def test_mutants_can_be_applied(path):
 
 
 @pytest.mark.parametrize("said, last, status", [
-    ("must-fail html_writer/{}.edit: refused, as it must be", "3 refused, 0 not refused", 0),
-    ("must-fail html_writer/{}.edit: NOT REFUSED: the crate is still proved with this edit", "0 refused, 3 not refused", 1),
-    ("must-fail html_writer/{}.edit: BAD EDIT: it did not reach the prover", "0 refused, 3 not refused", 1),
-    ("out of memory", "0 refused, 3 not refused", 1),
+    ("must-fail html_writer/{}.edit: refused, as it must be", "4 refused, 0 not refused", 0),
+    ("must-fail html_writer/{}.edit: NOT REFUSED: the crate is still proved with this edit", "0 refused, 4 not refused", 1),
+    ("must-fail html_writer/{}.edit: BAD EDIT: it did not reach the prover", "0 refused, 4 not refused", 1),
+    ("out of memory", "0 refused, 4 not refused", 1),
 ])  # fmt: skip
 def test_check_counts_mutants(tmp_path, said, last, status):
     """The stand-in for `rt` writes a line for each mutant that it finds in its place."""

@@ -5,6 +5,7 @@ import json
 import os
 import re
 import shlex
+import shutil
 import subprocess
 from pathlib import Path
 
@@ -225,15 +226,38 @@ def test_guide_runs_its_program():
     assert (result.status, result.err) == (0, "") and words[-1] in result.out
 
 
-def test_readme_shows_what_its_first_command_prints():
-    """The command as it is there, which compiles the program anew."""
-    command, report = README.split("\n## ")[0].split("prints:")
-    ended = subprocess.run(["bash", "-c", shown(command)], cwd=ROOT, stdin=subprocess.DEVNULL, capture_output=True, text=True)
-    warnings = [line for line in ended.stderr.splitlines() if line.startswith("robots.txt:")]
-    assert (ended.returncode, [*ended.stdout.splitlines(), *warnings]) == (1, shown(report.split("\n- ")[0]).splitlines())
+@pytest.fixture(scope="session")
+def clone(tmp_path_factory):
+    """A folder with what `./build` and the commands of the README use."""
+    folder = tmp_path_factory.mktemp("clone")
+    for name in ("build", "crates.txt"):
+        shutil.copy(ROOT / name, folder)
+    for name in ("crates", "examples", "tools", "web"):
+        shutil.copytree(ROOT / name, folder / name, ignore=shutil.ignore_patterns("out", "__pycache__"))
+    return folder
 
 
-COMMANDS = [line for line in (shown(README) + shown(PROGRAMS)).splitlines() if re.match("(robots_audit|curl) ", line)]
+def blocks_of_commands(document):
+    """Each indented block that begins with a command of this repository, with the block below it if the text between them ends with
+    'prints:'."""
+    parts = re.findall(r"((?:^ {4}.*\n)+)|((?:^(?! {4}).*\n)+)", document, re.M)
+    for number, (block, _) in enumerate(parts):
+        if re.match(r" +(\./build|robots_audit) ", block):
+            yield shown(block), shown(parts[number + 2][0]) if parts[number + 1][1].endswith("prints:\n\n") else None
+
+
+@pytest.mark.parametrize("commands, printed", blocks_of_commands(README))
+def test_readme_shows_what_its_commands_print(clone, commands, printed):
+    """As somebody types them in a clone, one after the other."""
+    environment = os.environ | {"PATH": f"{clone}/bin:{os.environ['PATH']}"}
+    subprocess.run(["./build"], cwd=clone, capture_output=True, check=True)
+    words = {"stdin": subprocess.DEVNULL, "stdout": subprocess.PIPE, "stderr": subprocess.STDOUT, "text": True}
+    ended = [subprocess.run(["bash", "-c", it], cwd=clone, env=environment, **words) for it in commands.splitlines()]
+    assert [it.stdout for it in ended if it.returncode not in (0, 1, 3)] == []
+    assert printed is None or "".join(it.stdout for it in ended) == printed
+
+
+COMMANDS = [line for line in shown(PROGRAMS).splitlines() if re.match("(robots_audit|curl) ", line)]
 COMMANDS += [re.match(r"`(.*?)`", row[1])[1] for row in tables(PROGRAMS) if row[1].startswith("`robots_audit ")]
 
 
@@ -272,7 +296,7 @@ ANSWERS = {
         ("Disallow: /private/\nAllow: /private/press\n", 1, ["* must be denied all of /private/, but line 2 allows /private/press"]),
         (group("*", "Disallow: /private/"), 1, ["AdsBot-Google must be denied all of /private/, but its vendor doesn't apply the group * to it"]),
     ],
-    "Which rules can go?": [(group("*", "Disallow: /a", "Disallow: /ab"), 0, ["robots.txt:3: note: ", "[needless-rule]"]), (SEARCH, 0, ["RFC 9309 syntax and verdicts"])],
+    "Which rules can go?": [(group("*", "Disallow: /a", "Disallow: /ab"), 0, ["robots.txt:3: note: ", "[needless-rule]"]), (SEARCH, 0, ["RFC 9309 syntax, and verdicts"])],
     "Which lines are mistakes?": [(group("*", "Disalow: /a"), 3, ["robots.txt:2: warning: "]), (SEARCH, 0, [])],
 }  # fmt: skip
 QUESTIONS = {row[0]: re.match(r"`(.*?)`(?:.*`(.*)`)?", row[1]).groups() for row in tables(PROGRAMS) if row[1].startswith("`robots_audit ")}

@@ -3,9 +3,10 @@ warning, and each corrected one doesn't."""
 
 import re
 import shlex
+import tomllib
 
 import pytest
-from support import ALL_WARNINGS, CRATES, WARNINGS, run, spelled
+from support import ALL_WARNINGS, CRATES, ROOT, WARNINGS, run, spelled
 
 PART = r"(\S.*)\nfor example:\n((?:    .*\n)+)(?:instead:\n((?:    .*\n)+))?"
 
@@ -82,11 +83,22 @@ def test_numbers_of_explanations(name, words, none, some):
             assert (f"[{name}]" in run("robots_audit", ["-"], file).err) is is_given
 
 
-def test_theorems_are_named():
-    """The theorems that explanations name are those of `warning_theorems`."""
-    theorems = set(re.findall(r"pub fn (\w+)", (CRATES / "warning_theorems/src/theorems.rt").read_text()))
-    named = {theorem for name in WARNINGS for line in explained(name)[1] for theorem in re.findall(r"\(theorem (\w+)\)$", line)}
-    assert named <= theorems and len(named) > 10
+def test_sentences_about_proofs():
+    """The sentences of explanations that say what is proved, and their theorems, are those of tests/theorems.toml; nothing else says so."""
+    rows = tomllib.loads((ROOT / "tests/theorems.toml").read_text())["proved"]
+    printed = []
+    for name in WARNINGS:
+        for line in explained(name)[1]:
+            if line.startswith("proved: "):
+                found = re.findall(r"(\S.*?) \(theorem (\w+)\)(?:; |$)", line.removeprefix("proved: "))
+                assert "; ".join(f"{sentence} (theorem {theorem})" for sentence, theorem in found) == line.removeprefix("proved: ")
+                printed += [(name, *it) for it in found]
+    assert sorted(printed) == sorted((row["warning"], row["sentence"], row["theorem"]) for row in rows)
+    source = (CRATES / "warning_theorems/src/theorems.rt").read_text()
+    theorems = dict(re.findall(r"^pub fn (\w+)\(\)\n(    ensures.*?)^\{\}$", source, re.M | re.S))
+    assert all(word in theorems[row["theorem"]] for row in rows for word in re.findall(r"\b(?:\w+_\w+|[A-Z]\w+[A-Z]\w*)\b", row["says"]) if not word.isupper())
+    for option in ("--help", "--list-warnings"):
+        assert not re.search("prove|theorem", run("robots_audit", [option]).out)
 
 
 @pytest.mark.parametrize("option", [["--list-warnings"], ["--explain", "missing-slash"]], ids=["list", "explain"])

@@ -91,6 +91,12 @@ def test_the_number_of_worked_examples():
     assert re.findall(r"(\d+) worked examples", joined(PROOFS)) == [str(len(re.findall(r"\{ example\.\w+ \}", source("texting_robots/src/laws.rt"))))]
 
 
+def test_public_calls_with_preconditions():
+    (names,) = re.findall(r"of the library's public calls only (.*?) have one", joined(PROOFS))
+    heads = [it for path in (CRATES / "texting_robots/src").rglob("*.rt") for it in re.findall(r"^ *pub fn (\w+)(.*?)^ *\{$", path.read_text(), re.M | re.S)]
+    assert sorted(re.findall(r"`\w+::(\w+)`", names)) == sorted(name for name, head in heads if re.search(r"^ +requires\b", head, re.M)) != []
+
+
 def test_the_number_of_callers_with_proofs():
     callers = re.findall(r"^pub mod", source("robots_examples/src/main.rt"), re.M)
     words = ["no", "one", "two", "three", "four", "five", "six", "seven"]

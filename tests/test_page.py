@@ -242,7 +242,7 @@ def test_page_has_the_lines_and_warnings_of_the_json():
 
 
 @pytest.mark.parametrize("file, sentence", [
-    (b"User-agent: *\nDisallow: /", "RFC 9309 syntax and verdicts, for URLs with usual escapes (%20 for a space, not %41 for A)"),
+    (b"User-agent: *\nDisallow: /", "RFC 9309 syntax, and verdicts for paths and queries in normal form (%20 for a space, not %41 for A)"),
     (b"User-agent: *\nDisallow: /a$b", "RFC 9309 syntax; verdicts may differ from RFC 9309's: line 2"),
     (b"User-agent: *\nDisallow: a", "not RFC 9309 syntax, first at line 2"),
     (b"# nothing", None),

@@ -201,7 +201,7 @@ def test_many_agents():
         verdicts += "".join(f"{f'deny {2 * n}' if m == n else 'allow -'} {name} {url}\n" for m, url in enumerate(urls, 1))
     for n in range(1, 101, 2):
         text += f"User-agent: {'A' * n}_\nAllow: /none/{n}\n"
-    out += verdicts + "RFC 9309 syntax and verdicts, for URLs with usual escapes (%20 for a space, not %41 for A)\n"
+    out += verdicts + "RFC 9309 syntax, and verdicts for paths and queries in normal form (%20 for a space, not %41 for A)\n"
     assert run("robots_audit", ["-", *urls], text.encode()) == Result(1, out, "")
 
 
@@ -229,9 +229,9 @@ def test_messages_of_robots_examples(tmp_path):
     """The program of docs/GUIDE.md. `rt ci` runs it on its data."""
     path = tmp_path / "robots.txt"
     path.write_bytes(b"Disallow: /$" + b"a" * 4096)
-    assert run("robots_examples", ["Ferris"]) == Result(0, "", "usage: robots_examples AGENT FILE URL..\n")
-    message = "robots_examples: a rule of the file is too long\n"
-    assert run("robots_examples", ["Ferris", path, "/a"]) == Result(0, "", message)
+    for words, message in [(["Ferris"], "usage: robots_examples AGENT FILE URL.."), (["Ferris", path, "/a"], "robots_examples: a rule of the file is too long")]:
+        result = run("robots_examples", words)
+        assert (result.status, result.out, result.err.splitlines()[0]) == (1, "", message)
     assert run("robots_examples", ["Ferris", tmp_path / "missing", "/a"]).status != 0
 
 

@@ -16,9 +16,8 @@ CONSTRUCTED = {
     ("audit_core/src/error.rt", "Error::Memory"): "`write!` into a report fails only if an allocation does",
     ("texting_robots/src/segments.rt", "AllocError"): "an index has more than 32 bits, as none has in a file of at most `FILE_LIMIT` bytes",
     ("robots_examples/src/tests.rt", "CacheError::Memory"): "an error whose message is printed",
-    ("texting_robots_tests/src/files.rt", "-2"): "a verdict by line 2",
-    ("texting_robots_tests/src/printed.rt", "Error::InvalidRobots"): "an error whose message is printed",
-    ("texting_robots_tests/src/printed.rt", "Error::Memory"): "an error whose message is printed",
+    ("texting_robots_tests/src/calls.rt", "Error::InvalidRobots"): "an error whose message is printed",
+    ("texting_robots_tests/src/calls.rt", "Error::Memory"): "an error whose message is printed",
 }
 
 # A pattern of such errors alone. A match may turn them into another one. Only `Overflow` of `url` can occur without a failed allocation:

@@ -3,7 +3,7 @@
 import re
 
 import pytest
-from support import ROOT, run, toolchain
+from support import PROOF, ROOT, run, toolchain
 
 VERSION = (ROOT / "VERSION").read_text().removesuffix("\n")
 MAJOR, MINOR, PATCH = VERSION.split(".")
@@ -43,7 +43,7 @@ def test_place_has_the_version(path, pattern, wanted):
 
 
 def test_program_prints_the_version_and_the_toolchain():
-    assert run("robots_audit", ["--version"]).out == f"robots_audit {VERSION} (proved with {toolchain()})\n"
+    assert run("robots_audit", ["--version"]).out == f"robots_audit {VERSION} ({PROOF})\n"
 
 
 @pytest.mark.parametrize("path", ["CHANGELOG.md", "README.md", "docs/PROOFS.md", "crates/audit_core/src/version.rt"])

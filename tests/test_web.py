@@ -16,8 +16,9 @@ from types import SimpleNamespace
 
 import pytest
 from browser import Browser
+from builds import built
 from library import kit
-from support import ROOT, Result, files_beside, input_of, repeated, run, spelled, wanted_of
+from support import PROOF, ROOT, Result, files_beside, input_of, repeated, run, spelled, wanted_of
 from test_page import HOSTILE, contrast, with_text
 from test_programs import golden
 
@@ -27,15 +28,18 @@ MISSING = [it for it in ("chromium", "wasm-opt") if not shutil.which(it)]
 pytestmark = pytest.mark.skipif(bool(MISSING), reason=f"{', '.join(MISSING)} is missing")
 
 
-release_page = runpy.run_path(str(ROOT / "release"))["release_page"]
+RELEASE = runpy.run_path(str(ROOT / "release"))
 
 
 @pytest.fixture(scope="module")
 def path(tmp_path_factory):
-    """The page, as `./release --all` makes it."""
+    """The page in the environment variable PAGE, or one as `./release --all` makes it, but of a module that isn't proved."""
+    if page := os.environ.get("PAGE"):
+        return Path(page).absolute()
     folder = tmp_path_factory.mktemp("web")
-    release_page(folder, folder, kit())
-    return folder / "robots_audit.html"
+    made = folder / "robots_audit.html"
+    RELEASE["page_of"](built("page")["page"], folder, kit(), made)
+    return made
 
 
 @pytest.fixture(scope="module")
@@ -150,7 +154,7 @@ def test_golden_cases(page):
     cases = [*cases_in_the_page()]
     given = [[[text_of(it) for it in (b"robots_audit", *words)], text_of(stdin), [[*map(text_of, it)] for it in files]] for *_, words, stdin, files in cases]
     results = page.value(f"{RUN_ALL}('{text_of(gzip.compress(json.dumps(given).encode(), 1))}')")
-    results = [Result(status, base64.b64decode(out), base64.b64decode(err)) for status, out, err in results]
+    results = [Result(status, base64.b64decode(out).replace(b"not proved", PROOF.encode()), base64.b64decode(err)) for status, out, err in results]
     assert [(case[0], result, case[1]) for case, result in zip(cases, results, strict=True) if result != case[1]][:3] == []
     assert len(cases) > 1000
 
@@ -435,7 +439,8 @@ def test_window(page, path, width, height):
 
 def test_page_is_one_small_file_without_markup_from_texts(page, path):
     text = path.read_text()
-    assert len(text.encode()) <= 680_000 and "connect-src" not in text
+    assert len(text.encode()) <= (680_000 if "PAGE" in os.environ else 1_000_000)  # a module that isn't proved is larger
+    assert "connect-src" not in text
     assert all((ROOT / name).read_text().splitlines()[0] in text for name in ("LICENSE-MIT", "LICENSE-APACHE")) and "---- memchr" in text
     scripts = "".join((ROOT / f"web/{name}.js").read_text() for name in ("page", "host"))
     assert not re.findall(r"innerHTML|outerHTML|insertAdjacent|document\.write|\beval\b|new Function|fetch\(|XMLHttp|import\(", scripts)
@@ -444,5 +449,5 @@ def test_page_is_one_small_file_without_markup_from_texts(page, path):
 
 def test_page_is_left_out_without_binaryen(tmp_path, monkeypatch, capsys):
     monkeypatch.setenv("PATH", "")
-    release_page(tmp_path, tmp_path, None)
+    RELEASE["release_page"](tmp_path, tmp_path, None)
     assert capsys.readouterr().out == "release: binaryen is missing, so robots_audit.html isn't made\n" and not [*tmp_path.iterdir()]

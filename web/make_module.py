@@ -73,18 +73,19 @@ def for_wasm(text):
     return re.sub(r'"target-cpu"="[^"]*"', '"target-cpu"="lime1"', text)
 
 
-def compile_module(module, work, kit, out):
-    """Compiles an LLVM module, and shortens its addresses to 32 bits."""
+def compile_module(module, work, kit, out, is_fast=False):
+    """Compiles an LLVM module, and shortens its addresses to 32 bits. With `is_fast` that takes less time, and the result is larger."""
     text, made, archive, linked = (work / name for name in ("module.ll", "module.o", "libmodule.a", "module.wasm"))
     clang = [kit / "toolchain/bin/clang", f"--target={TARGET}", "-Wno-override-module", "-x", "ir"]
     run(*clang, module, "-O0", "-Xclang", "-disable-llvm-passes", "-S", "-emit-llvm", "-o", text)
     text.write_text(for_wasm(text.read_text()))
-    run(*clang, text, "-mcpu=lime1", "-Os", "-ffunction-sections", "-fdata-sections", *NO_LIBRARY, "-c", "-o", made)
+    run(*clang, text, "-mcpu=lime1", "-O1" if is_fast else "-Os", "-ffunction-sections", "-fdata-sections", *NO_LIBRARY, "-c", "-o", made)
     run(kit / "toolchain/bin/llvm-ar", "rcs", archive, made)
     words = ["--target", TARGET, "--toolchain", kit / "toolchain", "--stack", STACK]
     run(kit / "bin/rattle-link", *words, "-o", linked, archive)
     features = [f"--enable-{it}" for it in OF_BINARYEN]
-    run("wasm-opt", *features, "--memory64-lowering", "-Oz", "--strip-producers", "--strip-target-features", linked, "-o", out)
+    smaller = [] if is_fast else ["-Oz", "--strip-producers", "--strip-target-features"]
+    run("wasm-opt", *features, "--memory64-lowering", *smaller, linked, "-o", out)
 
 
 def main(kit):

@@ -71,5 +71,5 @@ def test_the_document_and_the_readme_have_the_medians():
     words = " ".join(DOCUMENTS["docs/BENCHMARKS.md"].split())
     assert f"medians are {first} and {later} for Protego, and {urllib_first} and {urllib_later} for `urllib" in words
     assert f"Protego takes {first} times" in words and f"`urllib.robotparser` {urllib_first} times" in words
-    bars = re.findall(r"^ +(?:urllib|Protego).* (\d+) +(=+)$", DOCUMENTS["README.md"], re.M)
-    assert [(int(number), len(bar)) for number, bar in bars] == [(urllib_first, urllib_first), (first, first)]
+    bars = re.findall(r"^ +(\w+).* (\S+) +(=+)$", DOCUMENTS["README.md"], re.M)
+    assert [(name, int(number), len(bar)) for name, number, bar in bars] == [("this", 1, 1), ("urllib", urllib_first, urllib_first), ("Protego", first, first)]

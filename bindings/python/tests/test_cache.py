@@ -256,8 +256,8 @@ def raw(body):
     return zlib.compress(body)[2:-4]
 
 
-CUT = gzip.compress(RULES + random.Random(1).randbytes(5000))[:-60]
-BOMB = gzip.compress(RULES + b"#" * 50_000_000)
+CUT = gzip.compress(RULES + random.Random(1).randbytes(5000), mtime=0)[:-60]
+BOMB = gzip.compress(RULES + b"#" * 50_000_000, mtime=0)
 
 
 @pytest.mark.parametrize(
@@ -265,14 +265,14 @@ BOMB = gzip.compress(RULES + b"#" * 50_000_000)
     [
         ("", RULES, RULES),
         ("identity", RULES, RULES),
-        ("gzip", gzip.compress(RULES), RULES),
-        ("GZIP, x-gzip", gzip.compress(gzip.compress(RULES)), RULES),
-        ("gzip", gzip.compress(RULES) + gzip.compress(b"Disallow: /x\n"), RULES + b"Disallow: /x\n"),
-        ("gzip", gzip.compress(b""), b""),
+        ("gzip", gzip.compress(RULES, mtime=0), RULES),
+        ("GZIP, x-gzip", gzip.compress(gzip.compress(RULES, mtime=0), mtime=0), RULES),
+        ("gzip", gzip.compress(RULES, mtime=0) + gzip.compress(b"Disallow: /x\n", mtime=0), RULES + b"Disallow: /x\n"),
+        ("gzip", gzip.compress(b"", mtime=0), b""),
         ("gzip", b"", b""),
         ("gzip", RULES, RULES),
         ("gzip", b"# " + RULES, b"# " + RULES),
-        ("gzip", gzip.compress(RULES)[:-8] + b"12345678", RULES),
+        ("gzip", gzip.compress(RULES, mtime=0)[:-8] + b"12345678", RULES),
         ("deflate", zlib.compress(RULES), RULES),
         ("deflate", raw(RULES), RULES),
         ("deflate", RULES, RULES),

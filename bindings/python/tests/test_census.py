@@ -283,7 +283,7 @@ def content(record):
     return census.read_response(*census.read_record(stream, stream.readline()))
 
 
-PACKED = gzip.compress(b"Disallow: /")
+PACKED = gzip.compress(b"Disallow: /", mtime=0)
 
 
 @pytest.mark.parametrize("encoding", ["gzip", "GZIP", "x-gzip", "identity", "", "br", "deflate", "gzip, identity"])
@@ -313,7 +313,7 @@ LONG = b"#" * 600_000
         (b"Disallow: /", "HTTP/1.1 200 OK", b"Transfer-Encoding: chunked\r\n", b"Disallow: /"),
         (PACKED + b"\r\n<!-- -->", "HTTP/1.1 200 OK", b"Content-Encoding: gzip\r\n", b"Disallow: /"),
         (PACKED + PACKED, "HTTP/1.1 200 OK", b"Content-Encoding: gzip\r\n", b"Disallow: /Disallow: /"),
-        (gzip.compress(b"#" * 50_000_000), "HTTP/1.1 200 OK", b"Content-Encoding: gzip\r\n", LONG[:512_000]),
+        (gzip.compress(b"#" * 50_000_000, mtime=0), "HTTP/1.1 200 OK", b"Content-Encoding: gzip\r\n", LONG[:512_000]),
         (LONG, "HTTP/1.1 200 OK", b"Content-Length: 5000000\r\n", LONG),
     ],
     ids=count(),

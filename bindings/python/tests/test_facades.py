@@ -379,7 +379,7 @@ def test_read_again(server, status, after):
     [
         (b"User-agent: *\n", {"Content_Length": "99"}, http.client.IncompleteRead),
         (b"", {"Content_Length": "99"}, http.client.IncompleteRead),
-        (gzip.compress(b"User-agent: *\nDisallow: /"), {"Content_Encoding": "gzip"}, urllib.error.URLError),
+        (gzip.compress(b"User-agent: *\nDisallow: /", mtime=0), {"Content_Encoding": "gzip"}, urllib.error.URLError),
     ],
 )
 def test_a_body_that_is_cut_or_compressed(server, body, fields, error):

@@ -14,6 +14,7 @@ import pytest
 from sites import PAGES, PUBLIC, RULES, Site, answers, closes, crawled, endless, never, redirects, served
 
 package.needs("scrapy")
+pytestmark = pytest.mark.alone
 
 from scrapy.core.downloader import Slot  # noqa: E402
 from scrapy.exceptions import IgnoreRequest, NotConfigured, StopDownload  # noqa: E402

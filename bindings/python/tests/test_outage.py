@@ -10,6 +10,7 @@ from sites import PUBLIC, RULES, Site, answers, closes, crawled, never, served
 from test_middleware import CLOSED, FAILS, HALF, MIDDLEWARE, PAGES, TOLERANCE, Engine, file, gaps, ours
 
 package.needs("scrapy")
+pytestmark = pytest.mark.alone
 
 from scrapy.exceptions import DontCloseSpider, IgnoreRequest  # noqa: E402
 from scrapy.http import Request, Response  # noqa: E402

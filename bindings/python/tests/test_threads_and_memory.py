@@ -14,6 +14,8 @@ import pytest
 
 from texting_robots import Matrix, OverlongRuleError, Robots
 
+pytestmark = pytest.mark.alone
+
 RULES = "".join(f"Disallow: /shop/{n}/*?page=\nAllow: /shop/{n}/help$\n" for n in range(100))
 LARGE = f"User-agent: *\nCrawl-delay: 2\n{RULES}User-agent: BobBot\nUser-agent: Googlebot\nDisallow: /s\n{RULES}Sitemap: /a.xml\n".encode()
 URLS = [f"https://example.com/shop/{n}/{end}" for n in range(0, 100, 5) for end in ["", "help", "a?page=2"]]

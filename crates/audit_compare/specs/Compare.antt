@@ -8,7 +8,7 @@ use Rattle.texting_robots.specs.Callers.{LineValue, PlacedRule, Rule, lines_read
 use Rattle.texting_robots.specs.declared.decision.{Decision.Decision}
 use Rattle.printable_text.specs.declared.level.Level.{Level, TheVariants.Error, TheVariants.Note}
 use Rattle.printable_text.specs.declared.level.Level.TheVariants.{Warning}
-use Rattle.audit_core.specs.declared.reach.Reach.{Reach, TheVariants.Nothing}
+use Rattle.audit_core.specs.declared.reach.Reach.{Reach, TheVariants.Nothing, TheVariants.Part}
 use Rattle.robots_warnings.specs.{declared.facts.LineKinds.LineKinds, Facts.kinds_of}
 use Rattle.audit_core.specs.declared.group.Group.{Group}
 use Rattle.audit_core.specs.declared.group.Group.TheVariants.{Everyone, Named, Nobody, Star}
@@ -19,7 +19,8 @@ use Rattle.audit_compare.specs.declared.differences.Section.{TheVariants.Groups}
 use Rattle.audit_compare.specs.declared.differences.Section.TheVariants.{Rejections, Rules, Urls}
 use Rattle.audit_compare.specs.declared.every_url.{Example.Example, Verdicts.Verdicts}
 use Rattle.audit_compare.specs.declared.every_url.Verdicts.TheVariants.{Other, Same, Undecided}
-use Rattle.audit_compare.specs.EveryUrl.{AreVerdicts, is_same}
+use Rattle.audit_compare.specs.declared.{vendor.VendorChange.VendorChange}
+use Rattle.audit_compare.specs.EveryUrl.{AreAtVendor, AreVerdicts, is_same, is_same_at_vendor}
 
 -- of the same kind, and with equal patterns, which are escaped values
 abbrev pub is_same_rule : Rule → Rule → Bool
@@ -66,7 +67,7 @@ url_changes removed added (one ∷ older) (other ∷ newer) =
 url_changes removed added _ _ = []
 
 -- what each file means for a crawler, the rules that the other one lacks, the URLs on which decisions differ,
--- and what becomes of the verdicts of all URLs
+-- and what becomes of the verdicts of all URLs, here and at the crawler's vendor
 pub record ComparedValue : Type 0 where
   pub agent : List ℕ
   pub older : AgentValue
@@ -75,6 +76,7 @@ pub record ComparedValue : Type 0 where
   pub added : List PlacedRule
   pub changes : List UrlChangeValue
   pub verdicts : Verdicts
+  pub vendor : Option VendorChange
 
 -- the lines are those of the older file, and of the newer one
 pub record IsCompared (urls : List (List ℕ)) (older newer : List LineValue) (agent : List ℕ)
@@ -87,6 +89,7 @@ pub record IsCompared (urls : List (List ℕ)) (older newer : List LineValue) (a
   pub changes_are : compared.changes
       ≡ url_changes compared.removed compared.added compared.older.verdicts compared.newer.verdicts
   pub verdicts_are : AreVerdicts (placed_rules agent older) (placed_rules agent newer) compared.verdicts
+  pub vendor_is : AreAtVendor older newer agent compared.vendor
 
 abbrev pub is_listed : List (List ℕ) → List ℕ → Bool
 is_listed texts text = list_any (λ other. bytes_eq other text) texts
@@ -179,11 +182,17 @@ abbrev pub has_same_rules : ComparedValue → Bool
 has_same_rules compared = length compared.removed == 0 && length compared.added == 0
 
 -- no file is rejected for the crawler, and no group, delay or rule differs; by the theorem
--- `same_rules_decide_alike` no verdict differs then
+-- `same_rules_decide_alike` no verdict differs then. Nor does one by the groups that its vendor applies
 abbrev pub is_unchanged : ComparedValue → Bool
 is_unchanged compared =
-    ((not (is_rejected compared) && is_same_group compared.older.group compared.newer.group)
-    && option_eq nat_eq compared.older.delay compared.newer.delay) && has_same_rules compared
+    (((not (is_rejected compared) && is_same_group compared.older.group compared.newer.group)
+    && option_eq nat_eq compared.older.delay compared.newer.delay) && is_same_at_vendor compared.vendor)
+    && has_same_rules compared
+
+-- the words for crawlers, if some are unchanged
+abbrev pub unchanged_words : List ComparedValue → List ℕ
+unchanged_words crawlers = if list_any is_unchanged crawlers
+    then codes ": same group, delay and rules, so the same verdicts" else []
 
 -- that a crawler loses everything is an error, and that the home page is closed is a warning
 abbrev pub level_by : Reach → (is_home_closed : Bool) → Level
@@ -208,6 +217,16 @@ verdict_changes newer Same = note (codes "same-verdicts") ∷ []
 verdict_changes newer (Other example) = verdict_change newer example ∷ []
 verdict_changes newer Undecided = note (codes "undecided-verdicts") ∷ []
 
+-- the words for verdicts of which no example changes
+abbrev pub without_example : (is_same : Bool) → List ℕ
+without_example is_same = if is_same then codes "no URL's verdict changes"
+    else codes "it isn't decided whether a URL's verdict changes"
+
+-- whether the crawler loses everything isn't looked for
+abbrev pub vendor_changes : Option VendorChange → List Found
+vendor_changes None = []
+vendor_changes (Some vendor) = verdict_changes Part vendor.verdicts
+
 abbrev pub rejection_name : (is_new : Bool) → List ℕ
 rejection_name is_new = if is_new then codes "rejected" else codes "old-rejected"
 
@@ -229,7 +248,8 @@ accepted_changes Rules compared =
     map (rule_change false) compared.removed ++ map (rule_change true) compared.added
 accepted_changes Urls compared = map url_change compared.changes
 accepted_changes EveryUrl compared =
-    if is_unchanged compared then [] else verdict_changes compared.newer.reach compared.verdicts
+    if is_unchanged compared then []
+    else verdict_changes compared.newer.reach compared.verdicts ++ vendor_changes compared.vendor
 accepted_changes Rejections compared = []
 
 abbrev pub section_changes : Section → ComparedValue → List Found
@@ -268,10 +288,10 @@ all_differences comparison =
 abbrev pub rejects_some : ComparisonValue → Bool
 rejects_some comparison = list_any is_rejected comparison.crawlers
 
--- for no crawler a verdict changes
+-- for no crawler a verdict changes, here or at its vendor
 abbrev pub keeps_verdicts : ComparisonValue → Bool
-keeps_verdicts comparison =
-    list_all (λ (compared : ComparedValue). is_same compared.verdicts) comparison.crawlers
+keeps_verdicts comparison = list_all (λ (compared : ComparedValue). is_same compared.verdicts
+    && is_same_at_vendor compared.vendor) comparison.crawlers
 
 abbrev pub differs_nowhere : ComparisonValue → Bool
 differs_nowhere comparison =

@@ -11,6 +11,7 @@ use crate::compared::{Compared, compared_for};
 use crate::differences::{all_unchanged, is_rejected};
 use crate::every_url::is_same;
 use crate::sitemaps::sitemaps_only_in;
+use crate::vendor::is_same_at_vendor;
 use audit_core::agents::agents_requested;
 use audit_core::error::Error;
 use robots_warnings::facts::LineKinds;
@@ -174,14 +175,12 @@ pub fn rejects_some(comparison: &Comparison<'_>) -> bool
     comparison.crawlers.iter().any(is_rejected)
 }
 
-/// No URL's verdict changes for a crawler.
+/// No URL's verdict changes for a crawler, here or at its vendor.
 pub fn keeps_verdicts(comparison: &Comparison<'_>) -> bool
     ensures { result ≡ keeps_verdicts comparison.now }
 {
-    comparison
-        .crawlers
-        .iter()
-        .all(|compared| is_same(&compared.verdicts))
+    comparison.crawlers.iter().all(|compared| is_same(&compared.verdicts)
+        && is_same_at_vendor(&compared.vendor))
 }
 
 pub fn differs_nowhere(comparison: &Comparison<'_>) -> bool

@@ -8,6 +8,7 @@ ghost use Rattle.robots_warnings.specs.Read.{IsRead};
 
 use crate::every_url::{Verdicts, verdicts_for};
 use crate::rule_sets::{RuleSet, rules_lacked};
+use crate::vendor::{VendorChange, at_vendor};
 use audit_core::audit::{AgentAudit, Verdict, audit_for};
 use audit_core::error::Error;
 use robots_same::rule::{Rule, rules_of};
@@ -46,6 +47,8 @@ pub struct Compared<'a> {
     pub added: Vec<Rule>,
     pub changes: Vec<UrlChange<'a>>,
     pub verdicts: Verdicts,
+    /// If its vendor applies another group to the crawler, or none, in one of the files.
+    pub vendor: Option<VendorChange>,
 }
 
 impl<'a> Model for Compared<'a> {
@@ -174,7 +177,7 @@ fn verdicts_of(
     if are_none(rules) {
         return Ok(Verdicts::Same);
     }
-    verdicts_for(alloc, agent, older, newer, budget)
+    verdicts_for(alloc, (agent, agent), older, newer, budget)
 }
 
 /// The budget bounds how long rules are compared on all URLs, and an eighth of it how long those of each file
@@ -198,6 +201,7 @@ pub(crate) fn compared_for<'a>(
     let rules = rule_changes(alloc, agent, &older.site, &newer.site)?;
     let changes = changes_between(alloc, &rules, &older_audit, &newer_audit)?;
     let verdicts = verdicts_of(alloc, agent, older, newer, &rules, budget)?;
+    let vendor = at_vendor(alloc, agent, older, newer, budget)?;
     Ok(Compared {
         agent,
         older: older_audit,
@@ -206,5 +210,6 @@ pub(crate) fn compared_for<'a>(
         added: rules.added,
         changes,
         verdicts,
+        vendor,
     })
 }

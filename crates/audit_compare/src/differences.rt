@@ -6,11 +6,14 @@ ghost use Rattle.audit_compare.specs.Compare.{accepted_changes, change_name, cra
 ghost use Rattle.audit_compare.specs.Compare.{group_changes, has_same_rules, is_rejected, is_same_group};
 ghost use Rattle.audit_compare.specs.Compare.{is_unchanged, rejection, rejection_name, rule_change};
 ghost use Rattle.audit_compare.specs.Compare.{change_level, is_home_closed, rule_name, section_changes, url_change};
-ghost use Rattle.audit_compare.specs.Compare.{verdict_change};
+ghost use Rattle.audit_compare.specs.Compare.{unchanged_words, vendor_changes, verdict_changes};
+ghost use Rattle.audit_compare.specs.Compare.{without_example};
 
 use crate::compared::{Compared, UrlChange};
-use crate::every_url::{Example, Verdicts};
-use audit_core::findings::{Findings, add};
+use crate::every_url::{Example, Verdicts, is_same};
+use crate::vendor::is_same_at_vendor;
+use audit_core::audit::AgentAudit;
+use audit_core::findings::{Findings, add, message};
 use audit_core::group::{AtVendor, Group};
 use audit_core::reach::Reach;
 use audit_core::texts::{DelayOrNone, Fetched, Rejected};
@@ -66,9 +69,8 @@ fn add_groups(
         return Ok(());
     }
     let (old, new) = (group_name(agent, older), group_name(agent, newer));
-    let mut message = Line::new(alloc);
-    write!(message, "crawler {agent}: group {old} -> {new}")?;
-    add(alloc, found, Level::Note, None, "group", &message)
+    let message = message(alloc, format_args!("crawler {agent}: group {old} -> {new}"));
+    add(alloc, found, Level::Note, None, "group", message)
 }
 
 fn add_delays(
@@ -84,9 +86,8 @@ fn add_delays(
         return Ok(());
     }
     let (old, new) = (DelayOrNone(older), DelayOrNone(newer));
-    let mut message = Line::new(alloc);
-    write!(message, "crawler {agent}: delay {old} -> {new}")?;
-    add(alloc, found, Level::Note, None, "delay", &message)
+    let message = message(alloc, format_args!("crawler {agent}: delay {old} -> {new}"));
+    add(alloc, found, Level::Note, None, "delay", message)
 }
 
 fn rule_name(is_added: bool) -> &'static str
@@ -111,19 +112,18 @@ fn add_rule(
     let sign = if is_added { "+" } else { "-" };
     let kind = if rule.is_allow { "Allow" } else { "Disallow" };
     let (pattern, number) = (rule.pattern.as_str(), rule.line);
-    let mut message = Line::new(alloc);
-    write!(
-        message,
-        "crawler {agent}: {sign} {kind}: {pattern} (line {number})"
-    )?;
     let line = if is_added { Some(number) } else { None };
+    let message = message(
+        alloc,
+        format_args!("crawler {agent}: {sign} {kind}: {pattern} (line {number})"),
+    );
     add(
         alloc,
         found,
         Level::Note,
         line,
         rule_name(is_added),
-        &message,
+        message,
     )
 }
 
@@ -167,28 +167,28 @@ impl fmt::Display for Decided {
 }
 
 /// What a crawler's vendor does otherwise in the new file, or else that it did in the old one.
-fn write_vendor(message: &mut Line, compared: &Compared<'_>) -> fmt::Result {
-    match (compared.older.vendor, compared.newer.vendor) {
-        (AtVendor::NoGroup | AtVendor::OtherGroup, AtVendor::Same) => {
-            message.write_str("; but before, its vendor applied no group or another one")
+#[derive(Clone, Copy)]
+struct Vendors {
+    older: AtVendor,
+    newer: AtVendor,
+}
+
+impl fmt::Display for Vendors {
+    fn fmt<W: fmt::Write>(&self, f: &mut fmt::Formatter<W>) -> fmt::Result {
+        match (self.older, self.newer) {
+            (AtVendor::NoGroup | AtVendor::OtherGroup, AtVendor::Same) => {
+                f.write_str("; but before, its vendor applied no group or another one")
+            }
+            (_, vendor) => write!(f, "{vendor}"),
         }
-        (_, vendor) => write!(message, "{vendor}"),
     }
 }
 
-fn write_url_change(
-    message: &mut Line,
-    compared: &Compared<'_>,
-    change: &UrlChange<'_>,
-    name: &str,
-) -> fmt::Result {
-    let (agent, url) = (compared.agent, change.url);
-    let (old, new) = (Decided(change.older), Decided(change.newer));
-    write!(message, "crawler {agent} {url}: {old} -> {new}")?;
-    if change.older.allowed != change.newer.allowed {
-        write!(message, ", {name}")?;
+fn vendors_of(compared: &Compared<'_>) -> Vendors {
+    Vendors {
+        older: compared.older.vendor,
+        newer: compared.newer.vendor,
     }
-    write_vendor(message, compared)
 }
 
 fn add_url(
@@ -201,14 +201,23 @@ fn add_url(
 {
     let (older, newer) = (change.older, change.newer);
     let name = change_name(older.allowed, newer.allowed);
-    let mut message = Line::new(alloc);
-    write_url_change(&mut message, compared, change, name)?;
     let level = if older.allowed && !newer.allowed {
         Level::Warning
     } else {
         Level::Note
     };
-    add(alloc, found, level, newer.line, name, &message)
+    let (comma, effect) = if older.allowed == newer.allowed {
+        ("", "")
+    } else {
+        (", ", name)
+    };
+    let (agent, url, vendors) = (compared.agent, change.url, vendors_of(compared));
+    let (old, new) = (Decided(older), Decided(newer));
+    let message = message(
+        alloc,
+        format_args!("crawler {agent} {url}: {old} -> {new}{comma}{effect}{vendors}"),
+    );
+    add(alloc, found, level, newer.line, name, message)
 }
 
 fn add_urls(
@@ -244,7 +253,19 @@ pub(crate) fn is_unchanged(compared: &Compared<'_>) -> bool
     !is_rejected(compared)
         && is_same_group(older.group, newer.group)
         && older.delay == newer.delay
+        && is_same_at_vendor(&compared.vendor)
         && has_same_rules(compared)
+}
+
+/// What is said of the unchanged ones, if there are some.
+pub(crate) fn unchanged_words(crawlers: &[Compared<'_>]) -> &'static str
+    ensures { result.now ≡ unchanged_words crawlers.now }
+{
+    if crawlers.iter().any(is_unchanged) {
+        ": same group, delay and rules, so the same verdicts"
+    } else {
+        ""
+    }
 }
 
 pub(crate) fn all_unchanged(crawlers: &[Compared<'_>]) -> bool
@@ -270,53 +291,88 @@ fn change_level(newer: Reach, example: &Example) -> Level
     }
 }
 
-/// What the crawler may fetch, if that changes, and a path whose verdict does.
-fn write_verdict_change(
-    message: &mut Line,
-    compared: &Compared<'_>,
-    example: &Example,
-) -> fmt::Result {
-    let (agent, older, newer) = (compared.agent, &compared.older, &compared.newer);
-    write!(message, "crawler {agent}: ")?;
-    if older.reach == newer.reach {
-        write!(message, "verdicts change")?;
+/// That no verdict changes, or that it isn't decided.
+fn without_example(is_same: bool) -> &'static str
+    ensures { result.now ≡ without_example is_same }
+{
+    if is_same {
+        "no URL's verdict changes"
     } else {
-        let was = Fetched(older.reach, &older.allows);
-        let is = Fetched(newer.reach, &newer.allows);
-        write!(message, "may fetch {was} -> {is}")?;
+        "it isn't decided whether a URL's verdict changes"
     }
-    let (old, new) = (Decided(example.older), Decided(example.newer));
-    let path = example.path.as_str();
-    write!(message, ", for example {path}: {old} -> {new}")?;
-    write_vendor(message, compared)
 }
 
-fn add_verdict_change(
+/// What becomes of verdicts; if some change, with a path, and what the crawler may fetch if that is another.
+#[derive(Clone, Copy)]
+struct Change<'a> {
+    reach: Option<(Fetched<'a>, Fetched<'a>)>,
+    verdicts: &'a Verdicts,
+}
+
+impl<'a> fmt::Display for Change<'a> {
+    fn fmt<W: fmt::Write>(&self, f: &mut fmt::Formatter<W>) -> fmt::Result {
+        let Verdicts::Other(example) = self.verdicts else {
+            return f.write_str(without_example(is_same(self.verdicts)));
+        };
+        let (old, new) = (Decided(example.older), Decided(example.newer));
+        let path = example.path.as_str();
+        match self.reach {
+            Some((was, is)) => write!(f, "may fetch {was} -> {is}")?,
+            None => f.write_str("verdicts change")?,
+        }
+        write!(f, ", for example {path}: {old} -> {new}")
+    }
+}
+
+/// Adds what becomes of verdicts.
+fn add_change(
     alloc: Global,
     found: &mut Findings,
-    compared: &Compared<'_>,
-    example: &Example,
+    newer: Reach,
+    verdicts: &Verdicts,
+    message: Result<Line, fmt::Error>,
 ) -> fmt::Result
-    ensures { OnOk result (Adds found.old.items found.new.items
-        (verdict_change compared.now.newer.reach example.now ∷ [])) }
+    ensures { OnOk result (Adds found.old.items found.new.items (verdict_changes newer verdicts.now)) }
 {
-    let mut message = Line::new(alloc);
-    write_verdict_change(&mut message, compared, example)?;
-    let level = change_level(compared.newer.reach, example);
-    add(
-        alloc,
-        found,
-        level,
-        example.newer.line,
-        "verdicts",
-        &message,
-    )
+    let (level, line, name) = match verdicts {
+        Verdicts::Other(example) => {
+            let level = change_level(newer, example);
+            (level, example.newer.line, "verdicts")
+        }
+        Verdicts::Same => (Level::Note, None, "same-verdicts"),
+        Verdicts::Undecided => (Level::Note, None, "undecided-verdicts"),
+    };
+    add(alloc, found, level, line, name, message)
 }
 
-fn write_same_verdicts(message: &mut Line, compared: &Compared<'_>) -> fmt::Result {
+/// Of the group that the vendor applies to the crawler: this one, if it is another than here.
+fn name_at_vendor<'a>(audit: &AgentAudit<'a>, name: &'a str) -> &'a str {
+    match audit.vendor {
+        AtVendor::Same => group_name(audit.agent, audit.group),
+        AtVendor::NoGroup => "none",
+        AtVendor::OtherGroup => name,
+    }
+}
+
+/// Adds what becomes of verdicts by the groups that the vendor of a crawler applies to it.
+fn add_at_vendor(alloc: Global, found: &mut Findings, compared: &Compared<'_>) -> fmt::Result
+    ensures { OnOk result (Adds found.old.items found.new.items (vendor_changes compared.now.vendor)) }
+{
+    let Some(vendor) = &compared.vendor else {
+        return Ok(());
+    };
+    let change = Change {
+        reach: None,
+        verdicts: &vendor.verdicts,
+    };
+    let old = name_at_vendor(&compared.older, &vendor.older);
+    let new = name_at_vendor(&compared.newer, &vendor.newer);
     let agent = compared.agent;
-    write!(message, "crawler {agent}: no URL's verdict changes")?;
-    write_vendor(message, compared)
+    let message = message(
+        alloc,
+        format_args!("crawler {agent}, whose vendor applies the group {old} -> {new}: {change}"),
+    );
+    add_change(alloc, found, Reach::Part, &vendor.verdicts, message)
 }
 
 /// Adds what becomes of the verdicts of all URLs, if something differs for the crawler.
@@ -327,28 +383,21 @@ fn add_verdicts(alloc: Global, found: &mut Findings, compared: &Compared<'_>) ->
     if is_unchanged(compared) {
         return Ok(());
     }
-    let (mut message, agent) = (Line::new(alloc), compared.agent);
-    match &compared.verdicts {
-        Verdicts::Other(example) => return add_verdict_change(alloc, found, compared, example),
-        Verdicts::Same => {
-            write_same_verdicts(&mut message, compared)?;
-            add(alloc, found, Level::Note, None, "same-verdicts", &message)
-        }
-        Verdicts::Undecided => {
-            write!(
-                message,
-                "crawler {agent}: it isn't decided whether a URL's verdict changes"
-            )?;
-            add(
-                alloc,
-                found,
-                Level::Note,
-                None,
-                "undecided-verdicts",
-                &message,
-            )
-        }
-    }
+    let (agent, older, newer) = (compared.agent, &compared.older, &compared.newer);
+    let reach = if older.reach == newer.reach {
+        None
+    } else {
+        let was = Fetched(older.reach, &older.allows);
+        Some((was, Fetched(newer.reach, &newer.allows)))
+    };
+    let change = Change {
+        reach,
+        verdicts: &compared.verdicts,
+    };
+    let vendors = vendors_of(compared);
+    let message = message(alloc, format_args!("crawler {agent}: {change}{vendors}"));
+    add_change(alloc, found, newer.reach, &compared.verdicts, message)?;
+    add_at_vendor(alloc, found, compared)
 }
 
 /// The name of the finding that a file is rejected.
@@ -370,17 +419,16 @@ fn add_rejection(
     let Some(line) = rejected else {
         return Ok(());
     };
-    let (mut message, reason) = (Line::new(alloc), Rejected { agent, line });
-    let version = if is_new { "new" } else { "old" };
-    write!(message, "the {version} file is {reason}")?;
+    let (version, reason) = (if is_new { "new" } else { "old" }, Rejected { agent, line });
     let line = if is_new { rejected } else { None };
+    let message = message(alloc, format_args!("the {version} file is {reason}"));
     add(
         alloc,
         found,
         Level::Error,
         line,
         rejection_name(is_new),
-        &message,
+        message,
     )
 }
 

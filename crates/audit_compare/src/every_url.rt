@@ -30,6 +30,7 @@ pub enum Verdicts {
     Same,
     /// Some change, such as that of this path.
     Other(Example),
+    /// A file is rejected, or the search gave up, or found a match target that is that of no path.
     Undecided,
 }
 
@@ -80,54 +81,43 @@ fn example_among(
     }
 }
 
-/// The same, unless one of the files is rejected for the crawler.
-fn example_for(
-    alloc: Global,
-    agent: &str,
-    older: &FileRead<'_>,
-    newer: &FileRead<'_>,
-    text: &[u8],
-) -> Result<Option<Example>, Error>
-    requires older { IsRead older.now }
-    requires newer { IsRead newer.now }
-    ensures ok { IfOk result (λ found. IfSome found
-        (IsExample (placed_rules agent.now (lines_read older.now.bytes.now))
-        (placed_rules agent.now (lines_read newer.now.bytes.now)))) }
-    ensures error { IfErr result (λ error. error ≡ Error.Memory) }
-{
-    let Reading::Accepted(was) = read_for(alloc, agent, older)? else {
-        return Ok(None);
-    };
-    let Reading::Accepted(is) = read_for(alloc, agent, newer)? else {
-        return Ok(None);
-    };
-    example_among(alloc, &was, &is, text)
+fn is_accepted(reading: &Reading) -> bool {
+    matches!(reading, Reading::Accepted(_))
 }
 
-/// What becomes of the verdicts if the rules differ. That they change is only
-/// said with an example, and of that both robots are asked.
+/// What becomes of the verdicts if the rules are those for these names. That they change is only said with an
+/// example, and of that both robots are asked.
 pub(crate) fn verdicts_for(
     alloc: Global,
-    agent: &str,
+    agents: (&str, &str),
     older: &FileRead<'_>,
     newer: &FileRead<'_>,
     budget: usize,
 ) -> Result<Verdicts, Error>
     requires older { IsRead older.now }
     requires newer { IsRead newer.now }
-    ensures ok { IfOk result (AreVerdicts (placed_rules agent.now (lines_read older.now.bytes.now))
-        (placed_rules agent.now (lines_read newer.now.bytes.now))) }
+    ensures ok { IfOk result (AreVerdicts
+        (placed_rules agents.entry.0.now (lines_read older.now.bytes.now))
+        (placed_rules agents.entry.1.now (lines_read newer.now.bytes.now))) }
     ensures error { IfErr result (λ error. error ≡ Error.Memory) }
 {
-    let old_rules = rules_of(alloc, &older.site, agent)?;
-    let new_rules = rules_of(alloc, &newer.site, agent)?;
+    let was = read_for(alloc, agents.0, older)?;
+    let is = read_for(alloc, agents.1, newer)?;
+    let old_rules = rules_of(alloc, &older.site, agents.0)?;
+    let new_rules = rules_of(alloc, &newer.site, agents.1)?;
     let mut left = budget;
     let text = match compare(alloc, b"/", &old_rules, &new_rules, &mut left)? {
-        Comparison::Same => return Ok(Verdicts::Same),
+        Comparison::Same if is_accepted(&was) == is_accepted(&is) => return Ok(Verdicts::Same),
         Comparison::Differ(text) => text,
-        Comparison::Undecided => Vec::new(alloc),
+        _ => Vec::new(alloc),
     };
-    match example_for(alloc, agent, older, newer, &text)? {
+    let Reading::Accepted(was) = &was else {
+        return Ok(Verdicts::Undecided);
+    };
+    let Reading::Accepted(is) = &is else {
+        return Ok(Verdicts::Undecided);
+    };
+    match example_among(alloc, was, is, &text)? {
         Some(example) => Ok(Verdicts::Other(example)),
         None => Ok(Verdicts::Undecided),
     }

@@ -9,3 +9,4 @@ pub mod report;
 mod rule_sets;
 mod sitemaps;
 pub mod theorems;
+pub mod vendor;

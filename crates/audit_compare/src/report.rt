@@ -6,10 +6,10 @@ ghost use Rattle.audit_compare.specs.Compare.{sitemap_changes, sitemap_name};
 
 use crate::compare::{Comparison, Side};
 use crate::compared::Compared;
-use crate::differences::{Section, add_crawler, is_unchanged};
-use audit_core::findings::{Findings, add};
+use crate::differences::{Section, add_crawler, is_unchanged, unchanged_words};
+use audit_core::findings::{Findings, add, message};
 use printable_text::level::Level;
-use printable_text::report::{Line, Report, Untrusted};
+use printable_text::report::{Report, Untrusted};
 use std::alloc::Global;
 use std::fmt;
 use std::fmt::Write;
@@ -43,16 +43,16 @@ fn sitemap_name(is_added: bool) -> &'static str
 fn add_sitemap(alloc: Global, found: &mut Findings, is_added: bool, sitemap: &[u8]) -> fmt::Result
     ensures { OnOk result (Adds found.old.items found.new.items (sitemap_change is_added sitemap.now ∷ [])) }
 {
-    let (mut message, sitemap) = (Line::new(alloc), Untrusted(sitemap));
     let what = if is_added { "added" } else { "removed" };
-    write!(message, "sitemap {what}: {sitemap}")?;
+    let sitemap = Untrusted(sitemap);
+    let message = message(alloc, format_args!("sitemap {what}: {sitemap}"));
     add(
         alloc,
         found,
         Level::Note,
         None,
         sitemap_name(is_added),
-        &message,
+        message,
     )
 }
 
@@ -95,9 +95,8 @@ fn add_emptied(
     if older.has_no_directive || !newer.has_no_directive {
         return Ok(());
     }
-    let mut message = Line::new(alloc);
-    message.write_str("the new file has no directive")?;
-    add(alloc, found, Level::Warning, None, "empty", &message)
+    let message = message(alloc, "the new file has no directive");
+    add(alloc, found, Level::Warning, None, "empty", message)
 }
 
 /// What formats other than text have.
@@ -123,48 +122,59 @@ fn all_differences(alloc: Global, comparison: &Comparison<'_>) -> Result<Finding
     Ok(found)
 }
 
-fn write_side(out: &mut Report, front: &str, side: &Side<'_>) -> fmt::Result {
-    let end = if side.has_no_directive {
-        " (empty)"
-    } else {
-        ""
-    };
-    let name = side.name;
-    write!(out, "{front}{name}{end}")
+impl<'a> fmt::Display for Side<'a> {
+    fn fmt<W: fmt::Write>(&self, f: &mut fmt::Formatter<W>) -> fmt::Result {
+        let empty = if self.has_no_directive {
+            " (empty)"
+        } else {
+            ""
+        };
+        let name = self.name;
+        write!(f, "{name}{empty}")
+    }
 }
 
 fn write_messages(out: &mut Report, found: &Findings) -> fmt::Result {
     for finding in found {
-        out.write_str(&finding.message)?;
-        out.end_line()?;
+        out.lines(&finding.message)?;
     }
     Ok(())
 }
 
-fn write_names(out: &mut Report, crawlers: &[Compared<'_>], number: usize) -> fmt::Result {
-    out.write_str(if number == 1 { "crawler " } else { "crawlers " })?;
-    let mut is_first = true;
-    for compared in crawlers.iter().filter(|compared| is_unchanged(compared)) {
-        let (front, agent) = (if is_first { "" } else { ", " }, compared.agent);
-        write!(out, "{front}{agent}")?;
-        is_first = false;
+/// The names of those that are unchanged.
+#[derive(Clone, Copy)]
+struct Unchanged<'a, 'c>(&'c [Compared<'a>]);
+
+impl<'a, 'c> fmt::Display for Unchanged<'a, 'c> {
+    fn fmt<W: fmt::Write>(&self, f: &mut fmt::Formatter<W>) -> fmt::Result {
+        let mut is_first = true;
+        for compared in self.0.iter().filter(|compared| is_unchanged(compared)) {
+            let (separator, agent) = (if is_first { "" } else { ", " }, compared.agent);
+            write!(f, "{separator}{agent}")?;
+            is_first = false;
+        }
+        Ok(())
     }
-    Ok(())
 }
 
 /// Writes which crawlers are unchanged, if some are.
 fn write_unchanged(out: &mut Report, crawlers: &[Compared<'_>]) -> fmt::Result {
+    let words = unchanged_words(crawlers);
+    if words.is_empty() {
+        return Ok(());
+    }
     let number = crawlers
         .iter()
         .filter(|compared| is_unchanged(compared))
         .count();
-    match number {
-        0 => return Ok(()),
-        _ if number > 1 && number == crawlers.len() => out.write_str("all compared crawlers")?,
-        1..=5 => write_names(out, crawlers, number)?,
-        _ => out.write_str("other compared crawlers")?,
-    }
-    out.write_str(": same group, delay and rules, so the same verdicts")?;
+    let (who, named) = match number {
+        _ if number > 1 && number == crawlers.len() => ("all compared crawlers", &crawlers[..0]),
+        1 => ("crawler ", crawlers),
+        2..=5 => ("crawlers ", crawlers),
+        _ => ("other compared crawlers", &crawlers[..0]),
+    };
+    let names = Unchanged(named);
+    write!(out, "{who}{names}{words}")?;
     out.end_line()
 }
 
@@ -176,8 +186,8 @@ fn write_report(alloc: Global, out: &mut Report, comparison: &Comparison<'_>) ->
         Section::EveryUrl,
         Section::Urls,
     ];
-    write_side(out, "old: ", &comparison.older)?;
-    write_side(out, ", new: ", &comparison.newer)?;
+    let (old, new) = (&comparison.older, &comparison.newer);
+    write!(out, "old: {old}, new: {new}")?;
     out.end_line()?;
     let mut found = Vec::new(alloc);
     add_crawlers(alloc, &mut found, &sections, &comparison.crawlers)?;

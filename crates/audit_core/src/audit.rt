@@ -305,35 +305,42 @@ fn all_warnings<'a>(
     Ok(found)
 }
 
-/// The audit of a file that was read so for the request.
+/// What the audit of a file that was read so for the request has besides its lines.
 fn audit_read<'a>(
     alloc: Global,
     request: &Request<'a>,
-    read: FileRead<'a>,
-) -> Result<Audit<'a>, Error>
-    requires read { IsRead read }
-    requires labels { map label_by_value read.labels.items ≡ labels_requested (requested_by request.now) read.bytes.now }
-    ensures ok { IfOk result (λ audit. IsAuditOf (requested_by request.now) read.entry.bytes.now audit) }
+    read: &FileRead<'a>,
+) -> Result<(Vec<AgentAudit<'a>>, Vec<Warning<'a>>, Conformance), Error>
+    requires read { IsRead read.now }
+    requires labels { map label_by_value read.now.labels.items
+        ≡ labels_requested (requested_by request.now) read.now.bytes.now }
+    ensures ok { IfOk result (λ found. IsAuditOf (requested_by request.now) read.now.bytes.now (record {
+      labels = map label_by_value read.now.labels.items;
+      agents = found.0.items;
+      warnings = found.1.items;
+      syntax = found.2;
+    })) }
     ensures error { IfErr result (λ error. error ≡ Error.Memory) }
 {
     let names = agents_requested(alloc, &request.agents, &read.labels)?;
-    let star = read_for(alloc, "*", &read)?;
-    let agents = agent_audits(alloc, &names, &star, &read, &request.urls)?;
+    let star = read_for(alloc, "*", read)?;
+    let agents = agent_audits(alloc, &names, &star, read, &request.urls)?;
     let needless = needless_rules(
         alloc,
         request.has_needless,
         read.facts.is_too_large,
         &read.site,
     )?;
-    let mut warnings = all_warnings(alloc, request, &names, &star, &read, &needless)?;
+    let mut warnings = all_warnings(alloc, request, &names, &star, read, &needless)?;
     let syntax = conformance_of(alloc, read.bytes, &read.site)?;
     choose(&request.only, &request.ignored, &mut warnings);
-    Ok(Audit {
-        labels: read.labels,
-        agents,
-        warnings,
-        syntax,
-    })
+    Ok((agents, warnings, syntax))
+}
+
+fn labels_of<'a>(read: FileRead<'a>) -> Vec<LabeledLine<'a>>
+    ensures { result.items ≡ read.entry.labels.items }
+{
+    read.labels
 }
 
 /// Audits a file for the crawlers and URLs of the request.
@@ -346,7 +353,13 @@ pub fn audit_of<'a>(
     ensures error { IfErr result (λ error. error ≡ Error.Memory) }
 {
     let read = FileRead::new(alloc, labeling_agent(request.agent), file)?;
-    audit_read(alloc, request, read)
+    let (agents, warnings, syntax) = audit_read(alloc, request, &read)?;
+    Ok(Audit {
+        labels: labels_of(read),
+        agents,
+        warnings,
+        syntax,
+    })
 }
 
 fn allows_all(verdicts: &[Verdict<'_>]) -> bool

@@ -27,18 +27,26 @@ pub struct Finding {
 
 pub type Findings = Vec<Finding>;
 
-/// In the message, the start of a command of a workflow is escaped, too.
+/// A finding's message, for `add`.
+pub fn message<M: fmt::Display + Drop>(alloc: Global, text: M) -> Result<Line, fmt::Error> {
+    let mut message = Line::new(alloc);
+    write!(message, "{text}")?;
+    Ok(message)
+}
+
+/// In the message, the start of a command of a workflow is escaped, too. Its error is returned.
 pub fn add(
     alloc: Global,
     found: &mut Findings,
     level: Level,
     line: Option<usize>,
     name: &'static str,
-    text: &Line,
+    message: Result<Line, fmt::Error>,
 ) -> fmt::Result
     ensures { OnOk result (Adds found.old.items found.new.items
         ((record { level = level; line = line; name = name.now }) ∷ [])) }
 {
+    let text = message?;
     let mut message = String::new(alloc);
     push_sanitized(&mut message, text.as_str().as_bytes())?;
     let finding = Finding {
@@ -71,16 +79,9 @@ fn add_denial(
     if is_allowed(verdict) {
         return Ok(());
     }
-    let (mut message, url) = (Line::new(alloc), verdict.url);
-    write!(message, "{agent} may not fetch {url}{vendor}")?;
-    add(
-        alloc,
-        found,
-        Level::Error,
-        verdict.decision.line,
-        "denied",
-        &message,
-    )
+    let (line, url) = (verdict.decision.line, verdict.url);
+    let message = message(alloc, format_args!("{agent} may not fetch {url}{vendor}"));
+    add(alloc, found, Level::Error, line, "denied", message)
 }
 
 fn add_denials(
@@ -109,10 +110,8 @@ fn add_rejection(
     let Some(line) = rejected else {
         return Ok(());
     };
-    let mut message = Line::new(alloc);
-    let reason = Rejected { agent, line };
-    write!(message, "{reason}")?;
-    add(alloc, found, Level::Error, rejected, "rejected", &message)
+    let message = message(alloc, Rejected { agent, line });
+    add(alloc, found, Level::Error, rejected, "rejected", message)
 }
 
 fn add_agent(alloc: Global, found: &mut Findings, agent: &AgentAudit<'_>) -> fmt::Result
@@ -139,10 +138,9 @@ fn add_warning(
 ) -> fmt::Result
     ensures { OnOk result (Adds found.old.items found.new.items (warning_found warning.now ∷ [])) }
 {
-    let (mut message, text) = (Line::new(alloc), Message(warning, together));
-    write!(message, "{text}")?;
     let (level, name) = (warning.cause.level(), warning.cause.name());
-    add(alloc, found, level, warning.line, name, &message)
+    let message = message(alloc, Message(warning, together));
+    add(alloc, found, level, warning.line, name, message)
 }
 
 fn add_in_part(
@@ -153,7 +151,7 @@ fn add_in_part(
     warning: &Warning<'_>,
 ) -> fmt::Result
     ensures { OnOk result (Adds found.old.items found.new.items
-        (finding_in_part errors together.is_one (lines_in together.ranges.now) warning.now)) }
+        (finding_in_part errors together.entry.is_one (lines_in together.entry.ranges.now) warning.now)) }
 {
     if warning.cause.level().reaches(Level::Error) != errors || !is_shown(together, warning) {
         return Ok(());
@@ -169,7 +167,7 @@ fn add_warnings(
     warnings: &[Warning<'_>],
 ) -> fmt::Result
     ensures { OnOk result (Adds found.old.items found.new.items
-        (warning_findings errors together.is_one (lines_in together.ranges.now) warnings.now)) }
+        (warning_findings errors together.entry.is_one (lines_in together.entry.ranges.now) warnings.now)) }
 {
     for warning in warnings {
         add_in_part(alloc, found, errors, together, warning)?;

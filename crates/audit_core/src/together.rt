@@ -90,13 +90,14 @@ fn is_first(ranges: &[Range], line: Option<usize>) -> bool
 
 /// Whether there is a message about the warning.
 pub(crate) fn is_shown(together: Together<'_>, warning: &Warning<'_>) -> bool
-    ensures { result ≡ is_shown together.is_one (lines_in together.ranges.now) warning.now }
+    ensures { result ≡ is_shown together.entry.is_one (lines_in together.entry.ranges.now) warning.now }
 {
     !(together.is_one && is_needless(warning.cause)) || is_first(together.ranges, warning.line)
 }
 
 pub fn keep_shown(together: Together<'_>, warnings: &mut Vec<Warning<'_>>)
-    ensures { warnings.new.items ≡ filter (is_shown together.is_one (lines_in together.ranges.now)) warnings.old.items }
+    ensures { warnings.new.items ≡ filter (is_shown together.entry.is_one (lines_in together.entry.ranges.now))
+        warnings.old.items }
 {
     warnings.retain(|warning| is_shown(together, warning));
 }
@@ -121,20 +122,28 @@ impl<'a> fmt::Display for Ranges<'a> {
     }
 }
 
+fn are_several(ranges: &[Range]) -> bool {
+    match ranges {
+        [] => false,
+        [range] => range.more > 0,
+        _ => true,
+    }
+}
+
 /// The message of a warning, with the lines of all rules that have to be deleted together, if it is about one of them.
 #[derive(Clone, Copy)]
 pub struct Message<'a, 'b, 'c>(pub &'a Warning<'b>, pub Together<'c>);
 
 impl<'a, 'b, 'c> fmt::Display for Message<'a, 'b, 'c> {
     fn fmt<W: fmt::Write>(&self, f: &mut fmt::Formatter<W>) -> fmt::Result {
-        let (warning, lines) = (self.0, Ranges(self.1.ranges));
-        match self.1.ranges {
-            [] | [Range { more: 0, .. }] => write!(f, "{warning}"),
-            _ if !is_needless(warning.cause) => write!(f, "{warning}"),
-            _ if self.1.is_one => {
-                write!(f, "{lines} can be deleted, but only all of them together")
-            }
-            _ => write!(f, "{warning}; only together with {lines}"),
+        let (warning, together) = (self.0, self.1);
+        let lines = Ranges(together.ranges);
+        if !is_needless(warning.cause) || !are_several(together.ranges) {
+            return write!(f, "{warning}");
         }
+        if together.is_one {
+            return write!(f, "{lines} can be deleted, but only all of them together");
+        }
+        write!(f, "{warning}; only together with {lines}")
     }
 }

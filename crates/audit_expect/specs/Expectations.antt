@@ -92,6 +92,12 @@ failure checked =
 abbrev pub failures : List CheckedValue → List Found
 failures checked = map failure (filter fails checked)
 
+-- the words after the number of expectations, if none fails
+abbrev pub holding_words : List Found → ℕ → List ℕ
+holding_words found number =
+    if length found == 0
+    then (if number == 1 then codes " expectation holds" else codes " expectations hold") else []
+
 -- those of the expectations that fail on the file
 pub record AreFailuresOn (file : List ℕ) (expectations : List ExpectationValue) (found : List Found)
     : Type 0 where

@@ -4,7 +4,7 @@ ghost use Rattle.audit_core.specs.{Findings.Adds, Findings.found_of, Internal.Is
 ghost use Rattle.audit_core.specs.declared.error.EntryKind.TheVariants as entry;
 ghost use Rattle.robots_warnings.specs.Read.{IsRead};
 ghost use Rattle.audit_expect.specs.Expect.{IsEntryError, expectations_in as specified_in};
-ghost use Rattle.audit_expect.specs.Expectations.{AreFailuresOf, AreFailuresOn, failures};
+ghost use Rattle.audit_expect.specs.Expectations.{AreFailuresOf, AreFailuresOn, failures, holding_words};
 ghost use Rattle.audit_expect.specs.Internal.Expectations.{IsReadFor, checked_value, expectation_value};
 
 use crate::any::about_each;
@@ -14,10 +14,10 @@ use crate::expect::{Expectation, expectations_in, is_any};
 use crate::patterns::OnPaths;
 use audit_core::audit::{Reading, read_for};
 use audit_core::error::{EntryKind, Error};
-use audit_core::findings::{Findings, add};
+use audit_core::findings::{Findings, add, message};
 use audit_core::target::asked_target;
 use printable_text::level::Level;
-use printable_text::report::{Line, Report};
+use printable_text::report::Report;
 use robots_warnings::crawlers::{meant, row_at};
 use robots_warnings::read::FileRead;
 use std::alloc::Global;
@@ -51,86 +51,123 @@ fn reading_for<'a>(
     Ok(AgentReading { agent, reading })
 }
 
-/// `target` is what is compared here, as for the functions below, and `name` a word for it.
-fn write_decision(out: &mut Line, target: &str, name: &str, decision: &Decision) -> fmt::Result {
-    match decision.line {
-        Some(line) => {
-            let how = if decision.allowed { "allows" } else { "denies" };
-            write!(out, "line {line} {how} {name}")
-        }
-        None if target == "/robots.txt" => out.write_str("/robots.txt is always allowed"),
-        None => write!(out, "no rule matches {name}"),
-    }
+/// What decides. `target` is what is compared here, as for those below, and `name` a word for it.
+#[derive(Clone, Copy)]
+struct Deciding<'a> {
+    target: &'a str,
+    name: &'a str,
+    decision: Decision,
 }
 
-fn write_on_paths(out: &mut Line, found: &OnPaths) -> fmt::Result {
-    match found {
-        OnPaths::Hold => Ok(()),
-        OnPaths::Fail(path, decision) => write_decision(out, path, path, decision),
-        OnPaths::Undecided => out.write_str("that isn't decided, since there are many stars"),
+impl<'a> fmt::Display for Deciding<'a> {
+    fn fmt<W: fmt::Write>(&self, f: &mut fmt::Formatter<W>) -> fmt::Result {
+        let name = self.name;
+        match self.decision.line {
+            Some(line) => {
+                let how = if self.decision.allowed {
+                    "allows"
+                } else {
+                    "denies"
+                };
+                write!(f, "line {line} {how} {name}")
+            }
+            None if self.target == "/robots.txt" => f.write_str("/robots.txt is always allowed"),
+            None => write!(f, "no rule matches {name}"),
+        }
     }
 }
 
 /// Why the decision for a crawler or a group isn't the expected one.
-fn write_judgment(
-    out: &mut Line,
-    agent: &str,
-    target: &str,
+#[derive(Clone, Copy)]
+struct Reason<'a> {
+    agent: &'a str,
+    target: &'a str,
     allowed: bool,
-    judgment: &Judgment,
-) -> fmt::Result {
-    match judgment {
-        Judgment::Rejected(line) => write!(out, "the file is rejected for {agent}: line {line}"),
-        Judgment::Rewritten => {
-            write!(out, "crawlers may ask for another path or query: {target}")
-        }
-        Judgment::Decided(decision, other, normal) => {
-            if is_unexpected(allowed, decision) {
-                return write_decision(out, target, "it", decision);
+    judgment: &'a Judgment,
+}
+
+impl<'a> fmt::Display for Reason<'a> {
+    fn fmt<W: fmt::Write>(&self, f: &mut fmt::Formatter<W>) -> fmt::Result {
+        let (agent, target) = (self.agent, self.target);
+        let (reading, name, target, decision) = match self.judgment {
+            Judgment::Rejected(line) => {
+                return write!(f, "the file is rejected for {agent}: line {line}");
             }
-            if is_unexpected(allowed, other) {
-                out.write_str("where an empty Disallow is no rule, as for RFC 9309 and Google, ")?;
-                return write_decision(out, target, "it", other);
+            Judgment::Rewritten => {
+                return write!(f, "crawlers may ask for another path or query: {target}");
             }
-            out.write_str("by RFC 9309, which compares normal forms, ")?;
-            write_decision(out, target, "it", normal)
-        }
-        Judgment::Everywhere(found) => write_on_paths(out, found),
+            Judgment::Everywhere(OnPaths::Hold) => return Ok(()),
+            Judgment::Everywhere(OnPaths::Undecided) => {
+                return f.write_str("that isn't decided, since there are many stars");
+            }
+            Judgment::Everywhere(OnPaths::Fail(path, decision)) => {
+                ("", path.as_str(), path.as_str(), decision)
+            }
+            Judgment::Decided(decision, _, _) if is_unexpected(self.allowed, decision) => {
+                ("", "it", target, decision)
+            }
+            Judgment::Decided(_, other, _) if is_unexpected(self.allowed, other) => (
+                "where an empty Disallow is no rule, as for RFC 9309 and Google, ",
+                "it",
+                target,
+                other,
+            ),
+            Judgment::Decided(_, _, normal) => (
+                "by RFC 9309, which compares normal forms, ",
+                "it",
+                target,
+                normal,
+            ),
+        };
+        let deciding = Deciding {
+            target,
+            name,
+            decision: *decision,
+        };
+        write!(f, "{reading}{deciding}")
     }
 }
 
-/// Why an expectation fails: at the vendor, or else here.
-fn write_reason(out: &mut Line, target: &str, checked: &Checked<'_>) -> fmt::Result {
-    let (agent, allowed) = (checked.expectation.agent, checked.expectation.allowed);
-    match &checked.vendor {
-        AtVendor::Group(name, judgment) if fails_at(allowed, judgment) => {
-            write!(out, "its vendor applies the group {name} to it, and ")?;
-            write_judgment(out, name, target, allowed, judgment)
-        }
-        AtVendor::Nobody if !allowed => out.write_str("its vendor doesn't apply the group * to it"),
-        AtVendor::Nobody => {
-            out.write_str("if it obeys *, ")?;
-            write_judgment(out, agent, target, allowed, &checked.judgment)
-        }
-        _ => write_judgment(out, agent, target, allowed, &checked.judgment),
-    }
+/// What fails, and why: at the vendor, or else here.
+#[derive(Clone, Copy)]
+struct Failure<'a, 'c> {
+    checked: &'c Checked<'a>,
+    target: &'c str,
 }
 
-fn message_of(alloc: Global, checked: &Checked<'_>) -> Result<Line, Error>
-    ensures error { IfErr result (λ error. error ≡ Error.Memory) }
-{
-    let (agent, url) = (checked.expectation.agent, checked.expectation.url);
-    let target = asked_target(alloc, url)?;
-    let demand = match (checked.expectation.allowed, checked.expectation.is_pattern) {
-        (true, false) => "allowed",
-        (true, true) => "allowed all of",
-        (false, false) => "denied",
-        (false, true) => "denied all of",
-    };
-    let mut message = Line::new(alloc);
-    write!(message, "{agent} must be {demand} {url}, but ")?;
-    write_reason(&mut message, &target, checked)?;
-    Ok(message)
+impl<'a, 'c> fmt::Display for Failure<'a, 'c> {
+    fn fmt<W: fmt::Write>(&self, f: &mut fmt::Formatter<W>) -> fmt::Result {
+        let (expectation, target) = (&self.checked.expectation, self.target);
+        let (agent, url, allowed) = (expectation.agent, expectation.url, expectation.allowed);
+        let demand = match (allowed, expectation.is_pattern) {
+            (true, false) => "allowed",
+            (true, true) => "allowed all of",
+            (false, false) => "denied",
+            (false, true) => "denied all of",
+        };
+        write!(f, "{agent} must be {demand} {url}, but ")?;
+        let here = Reason {
+            agent,
+            target,
+            allowed,
+            judgment: &self.checked.judgment,
+        };
+        match &self.checked.vendor {
+            AtVendor::Group(agent, judgment) if fails_at(allowed, judgment) => {
+                let there = Reason {
+                    agent,
+                    judgment,
+                    ..here
+                };
+                write!(f, "its vendor applies the group {agent} to it, and {there}")
+            }
+            AtVendor::Nobody if !allowed => {
+                f.write_str("its vendor doesn't apply the group * to it")
+            }
+            AtVendor::Nobody => write!(f, "if it obeys *, {here}"),
+            _ => write!(f, "{here}"),
+        }
+    }
 }
 
 /// How many failures of one line are written, if it is about any crawler.
@@ -153,15 +190,17 @@ struct Failing<'a> {
 
 /// Ends the line that only names crawlers, if there is one.
 fn end_names(report: &mut Failing<'_>) -> fmt::Result {
-    let (out, number) = (&mut report.out, report.number);
+    let (out, number, end) = (&mut report.out, report.number, report.end);
     if number <= MOST {
         return Ok(());
     }
-    if number > MOST + NAMED {
+    let written = if number > MOST + NAMED {
         let others = number - (MOST + NAMED);
-        write!(out, " and {others} more")?;
-    }
-    out.write_str(report.end)?;
+        write!(out, " and {others} more{end}")
+    } else {
+        out.write_str(end)
+    };
+    written?;
     out.end_line()
 }
 
@@ -184,8 +223,9 @@ fn write_agent(report: &mut Failing<'_>, checked: &Checked<'_>, number: usize) -
     }
 }
 
-fn write_failure(report: &mut Failing<'_>, checked: &Checked<'_>, message: &str) -> fmt::Result {
-    let (name, line) = (report.name, checked.expectation.number);
+fn write_failure(report: &mut Failing<'_>, failure: &Failure<'_, '_>) -> fmt::Result {
+    let (name, checked) = (report.name, failure.checked);
+    let line = checked.expectation.number;
     if line != report.line {
         end_names(report)?;
         report.line = line;
@@ -197,7 +237,7 @@ fn write_failure(report: &mut Failing<'_>, checked: &Checked<'_>, message: &str)
     if number >= MOST {
         return write_agent(report, checked, number);
     }
-    write!(report.out, "{name}:{line}: {message}")?;
+    write!(report.out, "{name}:{line}: {failure}")?;
     report.out.end_line()
 }
 
@@ -215,10 +255,15 @@ fn add_if_failing(
     if !fails(checked) {
         return Ok(());
     }
-    let message = message_of(alloc, checked)?;
-    write_failure(report, checked, message.as_str())?;
+    let target = asked_target(alloc, checked.expectation.url)?;
+    let failure = Failure {
+        checked,
+        target: &target,
+    };
+    write_failure(report, &failure)?;
     let line = Some(checked.expectation.number);
-    Ok(add(alloc, found, Level::Error, line, "expectation", &message)?)
+    let message = message(alloc, failure);
+    Ok(add(alloc, found, Level::Error, line, "expectation", message)?)
 }
 
 fn failures<'a>(
@@ -247,16 +292,23 @@ fn failures<'a>(
     Ok(found)
 }
 
-/// Writes how many expectations hold, if none fails.
+/// What is said after the number of expectations, if none fails.
+fn holding_words(found: &Findings, number: usize) -> &'static str
+    ensures { result.now ≡ holding_words (map found_of found.now.items) number }
+{
+    match (found.is_empty(), number) {
+        (false, _) => "",
+        (true, 1) => " expectation holds",
+        (true, _) => " expectations hold",
+    }
+}
+
 fn write_holding(out: &mut Report, found: &Findings, number: usize) -> fmt::Result {
-    if !found.is_empty() {
+    let words = holding_words(found, number);
+    if words.is_empty() {
         return Ok(());
     }
-    if number == 1 {
-        out.write_str("1 expectation holds")?;
-    } else {
-        write!(out, "{number} expectations hold")?;
-    }
+    write!(out, "{number}{words}")?;
     out.end_line()
 }
 
@@ -272,15 +324,15 @@ fn write_note(
     if is_any(agent) || site.is_named(agent) {
         return Ok(());
     }
-    if let Some(crawler) = meant(alloc, agent.as_bytes())? {
-        let meant = row_at(crawler).0;
-        write!(
-            out,
-            "{name}:{line}: note: no known crawler and no group is called {agent}; did you mean {meant}?"
-        )?;
-        out.end_line()?;
-    }
-    Ok(())
+    let Some(crawler) = meant(alloc, agent.as_bytes())? else {
+        return Ok(());
+    };
+    let meant = row_at(crawler).0;
+    write!(
+        out,
+        "{name}:{line}: note: no known crawler and no group is called {agent}; did you mean {meant}?"
+    )?;
+    out.end_line()
 }
 
 /// The report with the notes, and without failures.

@@ -196,7 +196,7 @@ IsFileUnreadable name error = error ≡ Memory
 -- ---- what no request and no file can change
 
 -- a report, none of whose lines steers a terminal or is a command of a workflow; or a page, which steers
--- none, and in which no text is markup; or annotations, each of which is a single command
+-- none, has no `##[`, and is read back as some tree; or annotations, each of which is a single command
 abbrev pub IsSafe : List ℕ → Type 0
 IsSafe text =
     IsReport text

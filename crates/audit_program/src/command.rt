@@ -27,17 +27,18 @@ The report goes to standard output; as text, its warnings go to standard error. 
 line 2 denies /a, and \"allow - /b\" that no line decides about /b, so it is allowed. With one --agent, the
 lines of the file come first: + before one of the crawler's group, - before one of another.
 
-In a line of --expect, AGENT is a crawler's name, \"any\" (every crawler) or * (those without a group of
-their own). PATTERN means all paths that begin with it, or, with a $ at its end, all that end there, except
-/robots.txt; a * in it is any text. A crawler that ignores *, as AdsBot-Google does, has to pass with that
-group and without.
+In a line of --expect, AGENT is a crawler's name, * (those without a group of their own) or \"any\" (*, those
+that FILE names, and known ones whose vendor applies another group). PATTERN means all paths that begin with
+it, or, with a $ at its end, all that end there, except /robots.txt; a * in it is any text. One that matches a
+single path means that path. A crawler that ignores *, as AdsBot-Google does, has to pass with that group and
+without.
 
 With --expect, give only FILE; with --compare only FILE, URLs, --urls, --agent, --known and --verdicts; with
 either also --json, --github or --format; with --list-warnings or --explain nothing else. With --denied, give
 URLs or --urls.
 
 Exit status, the first that applies; without --strict, warnings change nothing, even of level error:
-  2  if the program couldn't do its work, or the file is rejected for a crawler
+  2  if the program couldn't do its work, or the file is rejected for a crawler (with --expect: 1)
   3  if a warning at the level of --strict is reported: mend the file before you trust verdicts
   1  if a URL is denied, an expectation fails or something differs
   0  otherwise, also for an HTML page or an empty file; --strict makes both 3

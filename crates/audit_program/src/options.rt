@@ -54,7 +54,7 @@ const PARAMETERS: &[Parameter] = &[
         short: None,
         long: None,
         value: Value::Text("FILE"),
-        help: "The robots.txt file (-: standard input)",
+        help: "The robots.txt file (-: standard input); left out with --list-warnings and --explain",
         excludes: &[],
     },
     Parameter {

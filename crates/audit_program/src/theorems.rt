@@ -9,7 +9,8 @@ ghost use Rattle.printable_text.specs.Text.{IsShownReport};
 ghost use Rattle.printable_text.specs.Sanitize.{IsPrintable};
 
 /// No report contains invalid UTF-8, a control character other than LF, a bidirectional control character or
-/// a line separator; none but annotations has a line that is a command of a workflow on GitHub.
+/// a line separator. No text, JSON or SARIF has a line that is a command of a workflow on GitHub, and no page
+/// has `##[`.
 pub fn no_terminal_is_steered()
     ensures safe { (by_default : Bool) (matches : ArgMatches) (answer : Answer)
         → Answers by_default matches answer → IsSafe answer.report.items }

@@ -38,17 +38,23 @@ fn print_verdict(rt: &HostRuntime, robot: &Robot, url: &str) -> io::Result<()> {
     }
 }
 
+/// Prints the message. The program then ends with an error status.
+fn failed(rt: &HostRuntime, message: &str) -> io::Result<()> {
+    rt.eprintln(message)?;
+    Err(io::Error::from(ErrorKind::InvalidInput))
+}
+
 fn main(rt: HostRuntime) -> io::Result<()> {
     let mut words = env::args(&rt)?;
     let _ = words.next();
     let (Some(agent), Some(path)) = (words.next(), words.next()) else {
-        return rt.eprintln("usage: robots_examples AGENT FILE URL..");
+        return failed(&rt, "usage: robots_examples AGENT FILE URL..");
     };
     let file = fs::read(&rt, path.as_str())?;
     let robot = match Robot::new(rt.alloc(), &agent, &file) {
         Ok(robot) => robot,
         Err(Error::Memory) => return Err(io::Error::from(ErrorKind::OutOfMemory)),
-        Err(_) => return rt.eprintln("robots_examples: a rule of the file is too long"),
+        Err(_) => return failed(&rt, "robots_examples: a rule of the file is too long"),
     };
     for url in words {
         print_verdict(&rt, &robot, &url)?;

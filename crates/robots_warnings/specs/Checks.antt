@@ -141,16 +141,17 @@ text_checks tail comment =
 -- the position of a line, from the number of the last rule or delay, what precedes the line, the only name
 -- and the first delay of the group above it, and the lines from this one on. In many healthy files, the group
 -- that is split from another one is that of `*`
-abbrev pub position_checks : Option ℕ → Preceding → Option (List ℕ) → Option ℕ → Label → List LineValue
-    → List Check
-position_checks last preceding above delay label lines =
+-- in a file that is too large, it isn't said that lines can be deleted
+abbrev pub position_checks : (is_too_large : Bool) → Option ℕ → Preceding → Option (List ℕ) → Option ℕ
+    → Label → List LineValue → List Check
+position_checks is_too_large last preceding above delay label lines =
     (cause.RuleBeforeUserAgent, is_above_agents label)
     ∷ (cause.EmptyGroup, is_empty_group last label)
     ∷ (cause.DelaySplitsGroup, is_split preceding above label lines && not (name_star lines))
     ∷ (cause.DelayAboveStar, is_split preceding above label lines && name_star lines)
     ∷ (cause.JoinedGroups, are_joined lines)
     ∷ (cause.IgnoredDelay, is_ignored above (delay_in label.line))
-    ∷ (cause.TwoDelays, is_other_delay delay label)
+    ∷ (if is_too_large then cause.TwoDelaysPastLimit else cause.TwoDelays, is_other_delay delay label)
     ∷ []
 
 -- any line that isn't ignored

@@ -11,7 +11,7 @@ use Rattle.robots_warnings.specs.declared.table.Cause.{Cause, TheVariants.Allowe
 use Rattle.robots_warnings.specs.declared.table.Cause.TheVariants.{ClosesEverything, CutLine, EmptyDisallow}
 use Rattle.robots_warnings.specs.declared.table.Cause.TheVariants.{ClosesHome, ClosesHomeToOthers, WrongName}
 use Rattle.robots_warnings.specs.declared.table.Cause.TheVariants.{EscapedDelimiter, ClosesSite, RepeatedRule}
-use Rattle.robots_warnings.specs.declared.table.Cause.TheVariants.{RepeatedSitemap}
+use Rattle.robots_warnings.specs.declared.table.Cause.TheVariants.{RepeatedPastLimit, RepeatedSitemap}
 use Rattle.robots_warnings.specs.declared.table.Cause.TheVariants.{IgnoresStar, VendorGroup}
 use Rattle.robots_warnings.specs.declared.table.Cause.TheVariants.{GroupPastSizeLimit, MisspelledName}
 use Rattle.robots_warnings.specs.declared.table.Cause.TheVariants.{NonstandardEscape, ReplacesStar}
@@ -72,17 +72,18 @@ file_lines_warnings facts all_groups labels =
 
 -- `last` is the number of the file's last rule or delay, `preceding` is what precedes the first of these
 -- lines, and `above` and `delay` are the only name and the first delay of the group above it
-abbrev pub positions_from : Option ℕ → Preceding → Option (List ℕ) → Option ℕ → List Label
-    → List WarningValue
-positions_from last preceding above delay [] = []
-positions_from last preceding above delay (label ∷ labels) =
+abbrev pub positions_from : (is_too_large : Bool) → Option ℕ → Preceding → Option (List ℕ) → Option ℕ
+    → List Label → List WarningValue
+positions_from is_too_large last preceding above delay [] = []
+positions_from is_too_large last preceding above delay (label ∷ labels) =
     warned (Some label.number) None
-    (position_checks last preceding above delay label (lines_of (label ∷ labels)))
-    ++ positions_from last (preceding_with preceding label.line) (sole_name preceding above label.line)
-    (first_delay delay label.line) labels
+    (position_checks is_too_large last preceding above delay label (lines_of (label ∷ labels)))
+    ++ positions_from is_too_large last (preceding_with preceding label.line)
+    (sole_name preceding above label.line) (first_delay delay label.line) labels
 
-abbrev pub position_warnings : List Label → List WarningValue
-position_warnings labels = positions_from (last_group labels) Other None None labels
+abbrev pub position_warnings : (is_too_large : Bool) → List Label → List WarningValue
+position_warnings is_too_large labels =
+    positions_from is_too_large (last_group labels) Other None None labels
 
 -- none if lines aren't checked, as in an HTML page
 abbrev pub past_limit_warnings : FileFacts → List ℕ → List Label → List WarningValue
@@ -191,18 +192,20 @@ abbrev pub sitemap_warning : List Label → Label → List WarningValue
 sitemap_warning labels label = warned_beside RepeatedSitemap label.number (line_before labels label)
 
 -- about rules that are repeated in their group, and sitemaps in the file
-abbrev pub repeated_warnings : Bool → List Label → List WarningValue
-repeated_warnings all_groups labels =
-    warned_at RepeatedRule None (repeated all_groups labels) ++ flat_map (sitemap_warning labels) labels
+abbrev pub repeated_warnings : (is_too_large all_groups : Bool) → List Label → List WarningValue
+repeated_warnings is_too_large all_groups labels =
+    warned_at (if is_too_large then RepeatedPastLimit else RepeatedRule) None (repeated all_groups labels)
+    ++ flat_map (sitemap_warning labels) labels
 
 -- what isn't about one line by itself: rules of a group or a crawler together, sitemaps, names, vendors
-abbrev pub group_warnings : Bool → List (List ℕ) → List LineValue → List Label → List WarningValue
-group_warnings all_groups agents lines labels =
+abbrev pub group_warnings : (is_too_large all_groups : Bool) → List (List ℕ) → List LineValue → List Label
+    → List WarningValue
+group_warnings is_too_large all_groups agents lines labels =
     warned_at NonstandardEscape None (unpaired Standard all_groups labels)
     ++ (warned_at EscapedDelimiter None (unpaired Plain all_groups labels)
     ++ (crawler_warnings (is_empty_at labels) agents lines labels
     ++ (warned_at ReplacesStar (Some (Rules (star_count lines))) (replacing agents lines labels)
-    ++ (repeated_warnings all_groups labels
+    ++ (repeated_warnings is_too_large all_groups labels
     ++ ((name_warnings labels ++ agent_warnings lines agents)
     ++ vendor_warnings all_groups agents lines 0 crawlers)))))
 
@@ -219,6 +222,6 @@ abbrev pub warnings : (all_groups : Bool) → (agents urls : List (List ℕ)) �
 warnings all_groups agents urls file facts labels lines =
     general_warnings facts agents urls lines labels
     ++ (file_lines_warnings facts all_groups labels
-    ++ (position_warnings labels
+    ++ (position_warnings facts.is_too_large labels
     ++ (past_limit_warnings facts file labels
-    ++ group_warnings all_groups agents lines labels)))
+    ++ group_warnings facts.is_too_large all_groups agents lines labels)))

@@ -191,6 +191,7 @@ pub(crate) fn text_checks(tail: &[u8], comment: &[u8]) -> [Check; 2]
 /// `last` is the number of the last rule or delay, `above` and `delay` are the only name and the first delay
 /// of the group above the line, and `from_here` are the lines from this one on.
 pub(crate) fn position_checks(
+    is_too_large: bool,
     last: Option<usize>,
     preceding: Preceding,
     above: Option<&[u8]>,
@@ -198,13 +199,18 @@ pub(crate) fn position_checks(
     labeled: &LabeledLine<'_>,
     from_here: &[LabeledLine<'_>],
 ) -> [Check; 7]
-    ensures { result ≡ position_checks last preceding (option_map (λ name. name.now) above.entry) delay
+    ensures { result ≡ position_checks is_too_large last preceding (option_map (λ name. name.now) above.entry) delay
         (label_by_value labeled.now) (lines_of (map label_by_value from_here.now)) }
 {
     let is_rule = matches!(labeled.line, Line::Allow(_) | Line::Disallow(_));
     let is_above_agents = is_rule && labeled.membership == Membership::Ungrouped;
     let is_split = is_split(preceding, above, labeled, from_here);
     let is_star = is_split && name_star(from_here);
+    let two_delays = if is_too_large {
+        Cause::TwoDelaysPastLimit
+    } else {
+        Cause::TwoDelays
+    };
     [
         (Cause::RuleBeforeUserAgent, is_above_agents),
         (Cause::EmptyGroup, is_empty_group(last, labeled)),
@@ -212,6 +218,6 @@ pub(crate) fn position_checks(
         (Cause::DelayAboveStar, is_star),
         (Cause::JoinedGroups, are_joined(from_here)),
         (Cause::IgnoredDelay, is_ignored(above, labeled.line)),
-        (Cause::TwoDelays, is_other_delay(delay, labeled)),
+        (two_delays, is_other_delay(delay, labeled)),
     ]
 }

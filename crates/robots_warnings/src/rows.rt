@@ -2,7 +2,7 @@
 //! what happens, and what to do, an example, the example without the warning, and for `--explain` when it is given.
 //! The last two may be empty: a condition is with the first warning of a name.
 
-pub(crate) const COUNT: usize = 95;
+pub(crate) const COUNT: usize = 97;
 
 /// The rows, for a macro that takes a column of them.
 #[rattlefmt::skip]
@@ -367,7 +367,10 @@ macro_rules! every_row {
                 "the delay differs from one above it in the same group, so it isn't used here, but other crawlers may use it; delete all but one"
                 "User-agent: *\nCrawl-delay: 1\nCrawl-delay: 2"
                 "User-agent: *\nCrawl-delay: 1"
-                "the delay differs from the first one below the same User-agent lines",
+                "the delay differs from the first one below the same User-agent lines; in a file of more than 512,000 bytes the message doesn't propose a deletion, since more of the file would be read then",
+            TwoDelaysPastLimit Warning "two-delays"
+                "the delay differs from one above it in the same group, so it isn't used here, but other crawlers may use it"
+                "User-agent: *\nCrawl-delay: 1\nCrawl-delay: 2\n\\{512000 #}" "" "",
             IgnoredDelay Note "ignored-delay"
                 "the crawler of this group ignores Crawl-delay; delete the line, and see its vendor's help for how to slow it down"
                 "User-agent: Googlebot\nCrawl-delay: 10"
@@ -394,12 +397,15 @@ macro_rules! every_row {
                 "the group has none of the Disallow rules of *, and a crawler with a group of its own doesn't get them; repeat in this group those that should apply to it"
                 "User-agent: *\nDisallow: /a\nUser-agent: FerrisBot\nDisallow: /b"
                 "User-agent: *\nDisallow: /a\nUser-agent: FerrisBot\nDisallow: /a\nDisallow: /b"
-                "the crawlers of a group have none of the Disallow rules of *, in any of their groups, and no rule for the whole site, while * has a Disallow for a part of the site; not if only a Crawl-delay is between the group and that of * below; the number is how many Disallows * has",
+                "a crawler of a group has none of the Disallow rules of *, in any of its groups, and no rule for the whole site, while * has a Disallow for a part of the site; not if only a Crawl-delay is between the group and that of * below; the number is how many Disallows * has",
             RepeatedRule Note "repeated-rule"
-                "the same rule is above in the same group, so this one changes no verdict; delete it, or correct it if another path is meant"
+                "the same rule is above in the same group, so this one decides no verdict; delete it, or correct it if another path is meant"
                 "User-agent: *\nDisallow: /a\nDisallow: /a"
                 "User-agent: *\nDisallow: /a"
-                "the same rule is above it below the same User-agent lines; an empty Disallow counts as the Allow of / that it means here, so keep an Allow of / below one if there is a Disallow of /, since other crawlers need it",
+                "the same rule is above it below the same User-agent lines; an empty Disallow counts as the Allow of / that it means here, so keep an Allow of / below one if there is a Disallow of /, since other crawlers need it; in a file of more than 512,000 bytes the message doesn't propose a deletion, since more of the file would be read then",
+            RepeatedPastLimit Note "repeated-rule"
+                "the same rule is above in the same group, so this one decides no verdict"
+                "User-agent: *\nDisallow: /a\nDisallow: /a\n\\{512000 #}" "" "",
             WrongName Warning "misspelled-name"
                 "no crawler has this name, and a group applies only to a crawler with its very name; write the crawler's own"
                 "User-agent: ChatGPT\nDisallow: /a"

@@ -109,6 +109,7 @@ pub enum Cause {
     EmptyDisallow,
     // the groups
     TwoDelays,
+    TwoDelaysPastLimit,
     IgnoredDelay,
     ClosesSite,
     ClosesEverything,
@@ -116,6 +117,7 @@ pub enum Cause {
     ClosesHomeToOthers,
     ReplacesStar,
     RepeatedRule,
+    RepeatedPastLimit,
     WrongName,
     MisspelledName,
     VendorGroup,

@@ -273,8 +273,13 @@ fn warn_of_lines(
     Ok(())
 }
 
-fn warn_of_positions(found: &mut Found<'_>, labels: &[LabeledLine<'_>]) -> Result<(), AllocError>
-    ensures { OnOk result (Adds found.old.items found.new.items (position_warnings (map label_by_value labels.now))) }
+fn warn_of_positions(
+    found: &mut Found<'_>,
+    is_too_large: bool,
+    labels: &[LabeledLine<'_>],
+) -> Result<(), AllocError>
+    ensures { OnOk result (Adds found.old.items found.new.items
+        (position_warnings is_too_large (map label_by_value labels.now))) }
 {
     let last = last_group(labels);
     let mut preceding = Preceding::Other;
@@ -282,7 +287,7 @@ fn warn_of_positions(found: &mut Found<'_>, labels: &[LabeledLine<'_>]) -> Resul
     let mut delay = None;
     let mut rest = labels;
     while let [labeled, after @ ..] = rest {
-        let checks = position_checks(last, preceding, above, delay, labeled, rest);
+        let checks = position_checks(is_too_large, last, preceding, above, delay, labeled, rest);
         warn(found, Some(labeled.number), None, &checks)?;
         above = sole_name(preceding, above, labeled.line);
         preceding = preceding_with(preceding, labeled.line);
@@ -399,14 +404,20 @@ fn warn_of_sitemaps(
 fn warn_of_repeated(
     alloc: Global,
     found: &mut Found<'_>,
+    is_too_large: bool,
     all_groups: bool,
     labels: &[LabeledLine<'_>],
 ) -> Result<(), AllocError>
     ensures { OnOk result (Adds found.old.items found.new.items
-        (repeated_warnings all_groups (map label_by_value labels.now))) }
+        (repeated_warnings is_too_large all_groups (map label_by_value labels.now))) }
 {
     let numbers = repeated(alloc, all_groups, labels)?;
-    warn_at(found, Cause::RepeatedRule, None, &numbers)?;
+    let cause = if is_too_large {
+        Cause::RepeatedPastLimit
+    } else {
+        Cause::RepeatedRule
+    };
+    warn_at(found, cause, None, &numbers)?;
     warn_of_sitemaps(alloc, found, labels)
 }
 
@@ -417,8 +428,8 @@ fn warn_of_groups<'a>(
     agents: &[&'a str],
     read: &FileRead<'_>,
 ) -> Result<(), AllocError>
-    ensures { OnOk result (Adds found.old.items found.new.items (group_warnings all_groups
-        (map (λ agent. agent.now) agents.now) (file_lines read.now.site)
+    ensures { OnOk result (Adds found.old.items found.new.items (group_warnings read.now.facts.is_too_large
+        all_groups (map (λ agent. agent.now) agents.now) (file_lines read.now.site)
         (map label_by_value read.now.labels.items))) }
 {
     let site = &read.site;
@@ -431,7 +442,7 @@ fn warn_of_groups<'a>(
     let replacing = replacing(alloc, site, &star, agents, labels)?;
     let detail = Some(Detail::Rules(disallow_count(&star)));
     warn_at(found, Cause::ReplacesStar, detail, &replacing)?;
-    warn_of_repeated(alloc, found, all_groups, labels)?;
+    warn_of_repeated(alloc, found, read.facts.is_too_large, all_groups, labels)?;
     warn_of_all_names(alloc, found, site, agents, labels)?;
     warn_of_vendors(found, all_groups, site, agents, crawlers())
 }
@@ -452,7 +463,7 @@ pub fn warnings<'a>(
     let mut found = Vec::new(alloc);
     warn_in_general(alloc, &mut found, agents, urls, read)?;
     warn_of_lines(alloc, &mut found, all_groups, read)?;
-    warn_of_positions(&mut found, &read.labels)?;
+    warn_of_positions(&mut found, read.facts.is_too_large, &read.labels)?;
     warn_past_limit(alloc, &mut found, read)?;
     warn_of_groups(alloc, &mut found, all_groups, agents, read)?;
     Ok(found)

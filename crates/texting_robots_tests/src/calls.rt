@@ -1,4 +1,6 @@
 //! Calls that allocate. They check the result, and that a robot, a pattern or a view is unchanged after a failure.
+use crate::flush::reports_flushes;
+use html_writer::write::{push_attribute, push_close, push_open};
 use std::alloc::Global;
 use std::cmp::Ordering;
 use texting_robots::minregex::MinRegex;
@@ -22,6 +24,9 @@ pub(crate) enum Call {
     Verdicts,
     VerdictOnUrl,
     LineEnds,
+    Messages,
+    Attribute,
+    Flush,
 }
 
 /// The calls with their names, in order.
@@ -42,6 +47,9 @@ pub(crate) const CALLS: &[(&str, Call)] = &[
         Call::VerdictOnUrl,
     ),
     ("Robot::new on line ends without memory", Call::LineEnds),
+    ("Error::to_string", Call::Messages),
+    ("push_attribute with quotes", Call::Attribute),
+    ("write_out of which the flush fails", Call::Flush),
 ];
 
 pub(crate) fn answer(alloc: Global, call: &Call) -> Result<bool, Error> {
@@ -52,6 +60,9 @@ pub(crate) fn answer(alloc: Global, call: &Call) -> Result<bool, Error> {
         Call::PreparePath => prepares(alloc, "/á", "/%C3%A1"),
         Call::PrepareUrl => prepares(alloc, URL, "/a/b?c=d&e=f#fragment"),
         Call::LineEnds => reads_line_ends(alloc),
+        Call::Messages => prints_errors(alloc),
+        Call::Attribute => writes_quotes(alloc),
+        Call::Flush => reports_flushes(alloc),
         _ => asks_robot(alloc, &Robot::new(alloc, "FerrisCrawler", FILE)?, call),
     }
 }
@@ -66,11 +77,11 @@ fn parses_page(alloc: Global) -> Result<bool, Error> {
     Ok(robots_txt_parse(alloc, PAGE)?.as_slice() == PAGE_LINES)
 }
 
-pub(crate) const PAGE: &[u8] =
+const PAGE: &[u8] =
     b"User-Agent: SmerBot\nDisallow: /path\nAllow:    /path/exception   # ONLY THIS IS ALLOWED\n\
     Crawl-delay : 60 # Very slow delay\n\nsitemap: https://example.com/sitemap.xml";
 
-pub(crate) const PAGE_LINES: &[Line<'static>] = &[
+const PAGE_LINES: &[Line<'static>] = &[
     Line::UserAgent(b"SmerBot"),
     Line::Disallow(b"/path"),
     Line::Allow(b"/path/exception"),
@@ -202,4 +213,27 @@ fn is_right_robot(robot: &Robot) -> bool {
         && decides(robot, "/ocean/reef.html", true, Some(2))
         && decides(robot, "/rust", false, Some(3))
         && decides(robot, "/forest/tree/snake.py", false, Some(4))
+}
+
+const MESSAGES: &[(Error, &str)] = &[
+    (Error::InvalidRobots, "Failed to parse robots.txt"),
+    (Error::InvalidRule, "Rule with $ is too long"),
+    (Error::Memory, "Out of memory"),
+];
+
+fn prints_errors(alloc: Global) -> Result<bool, Error> {
+    let mut right = true;
+    for (error, want) in MESSAGES {
+        right &= error.to_string(alloc)?.as_str() == *want;
+    }
+    Ok(right)
+}
+
+/// An attribute with quotes, which no page of `robots_audit` has.
+fn writes_quotes(alloc: Global) -> Result<bool, Error> {
+    let mut out = Vec::new(alloc);
+    push_open(&mut out, "p")?;
+    push_attribute(&mut out, "title", "\"&\"")?;
+    push_close(&mut out)?;
+    Ok(out.as_slice() == b"<p title=\"&quot;&amp;&quot;\">".as_slice())
 }

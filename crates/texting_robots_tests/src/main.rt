@@ -1,49 +1,25 @@
-//! Tests of public functions that neither a program nor the C library calls, and of inputs that neither can have: the
-//! other functions have golden cases (`tests/golden`) and tests in C (`tests/host.c`). Each case is data. Tests in a
-//! library's own crate would have it proved a second time.
+//! Calls of public functions that neither another program nor the C library calls, and of inputs that neither can
+//! have: the others have golden cases (`tests/golden`) and tests in C (`tests/host.c`). There is no `#[test]`, since a
+//! program with tests is proved a second time with them.
 //!
-//! The program makes calls that the C library lacks, and prints for each whether its result is right.
+//! The program makes the calls of a table, and prints for each whether its result is right.
 //! `tests/test_allocation_failures.py` makes the allocations fail; then a call that allocates can also print
 //! `out of memory`. A name on standard input chooses one call.
+//!
+//! `texting_robots_tests CALLS FILE NUMBER WORD TEXT..` prints what other calls return for each text, or, if there
+//! is none, for that of the file: inputs and results are data of `tests/test_calls.py`.
 #![tactic(auto)]
 
 mod calls;
-#[cfg(test)]
 mod example;
-#[cfg(test)]
-mod files;
-#[cfg(test)]
 mod flush;
-#[cfg(test)]
-mod helpers;
-#[cfg(test)]
-mod html;
-#[cfg(test)]
-mod labels;
-#[cfg(test)]
-mod lines;
-#[cfg(test)]
-mod looks;
-#[cfg(test)]
-mod patterns;
-#[cfg(test)]
-mod printed;
-#[cfg(test)]
-mod same;
-#[cfg(test)]
-mod sites;
-#[cfg(test)]
-mod sizes;
-#[cfg(test)]
-mod stress;
-#[cfg(test)]
-mod sweep;
-#[cfg(test)]
-mod urls;
+mod show;
 
 use calls::{CALLS, Call, answer};
+use show::{Given, shows};
 use std::io::Read;
 use std::process::ExitCode;
+use std::{env, fs, str};
 use texting_robots::Error;
 
 /// The result is whether the outcome of the call is an acceptable one.
@@ -68,10 +44,66 @@ fn makes_calls(rt: &HostRuntime, line: &[u8]) -> bool {
     well
 }
 
-fn main(rt: HostRuntime) -> ExitCode {
+/// Prints an error too.
+fn shows_text(rt: &HostRuntime, name: &str, given: &Given<'_>, text: &str) -> bool {
+    match shows(rt, name, given, text) {
+        Ok(shown) => shown,
+        Err(error) => println!(rt; "{error}").is_ok(),
+    }
+}
+
+/// Without a text, the file is the text.
+fn shows_texts(rt: &HostRuntime, name: &str, given: &Given<'_>, texts: &[String]) -> bool {
+    if texts.is_empty() {
+        return match str::from_utf8(given.file) {
+            Ok(text) => shows_text(rt, name, given, text),
+            Err(_) => false,
+        };
+    }
+    let mut well = true;
+    for text in texts {
+        well &= shows_text(rt, name, given, text);
+    }
+    well
+}
+
+/// By the words on the command line. Without them it makes all calls of the table.
+fn obeys(rt: &HostRuntime, words: &[String]) -> bool {
+    let [_, name, path, number, word, texts @ ..] = words else {
+        return makes_calls(rt, b"");
+    };
+    match (fs::read(rt, path.as_str()), number.parse()) {
+        (Ok(file), Ok(number)) => {
+            let given = Given {
+                file: &file,
+                number,
+                word,
+            };
+            shows_texts(rt, name, &given, texts)
+        }
+        _ => false,
+    }
+}
+
+fn is_well(rt: &HostRuntime) -> bool {
     let mut buffer = [0; 80];
     match rt.stdin().read(&mut buffer) {
-        Ok(count) if makes_calls(&rt, &buffer[..count]) => ExitCode::SUCCESS,
-        _ => ExitCode::FAILURE,
+        Ok(0) => match env::args(rt) {
+            Ok(args) => match args.collect::<Vec<String>>(rt.alloc()) {
+                Ok(words) => obeys(rt, words.as_slice()),
+                Err(_) => false,
+            },
+            Err(_) => false,
+        },
+        Ok(count) => makes_calls(rt, &buffer[..count]),
+        Err(_) => false,
+    }
+}
+
+fn main(rt: HostRuntime) -> ExitCode {
+    if is_well(&rt) {
+        ExitCode::SUCCESS
+    } else {
+        ExitCode::FAILURE
     }
 }

@@ -3,12 +3,13 @@
 use Rattle.std.proofs.lemmas.{Option.slice_get-map}
 use Rattle.std.proofs.Common.{rules, codes, if◌then◌else◌, inl, inr, refl, subst, sym, ◌≤◌, ◌-◌, ◌≡◌, ◌+◌, ℕ}
 use Rattle.std.proofs.Common.{◌∙◌, suc, zero, Bool, true, false, not, List, [], ◌∷◌, All, Contains, map}
-use Rattle.std.proofs.Common.{Option, None, Some, filter, slice_get, take, ap, arith}
+use Rattle.std.proofs.Common.{Option, None, Some, filter, slice_get, take, ap, arith, length}
 use Rattle.std.specs.List.{enumerate_from, fold, list_any, count_by}
 use Rattle.std.proofs.lemmas.Bool.{and_parts, cases_Bool, false≢true, cases_lt, not-true, or_cases, or_right}
 use Rattle.std.proofs.lemmas.List.{get_or-map, length-map, Elements.Contains-append_cases}
 use Rattle.std.proofs.lemmas.List.{Sorted.sum_by-IsPermutation}
 use Rattle.texting_robots.specs.Callers.{AreLabelsOf, Label, LineValue, UserAgent, delay_for}
+use Rattle.texting_robots.specs.Callers.{file_bodies, file_limit, lines_read}
 use Rattle.texting_robots.specs.Callers.{group_name, AreRulesFor, HoldsRule, PlacedRule, Rule, placed_rules}
 use Rattle.texting_robots.specs.Executable.{captured_delays, delay_before_agents}
 use Rattle.texting_robots.specs.Group.{is_agent, passes_at, is_member}
@@ -20,7 +21,7 @@ use Rattle.robots_warnings.specs.Positions.{are_different, first_delay, is_other
 use Rattle.robots_warnings.specs.Positions.{preceding_with, begin_with_one}
 use Rattle.robots_warnings.specs.Warnings.{position_warnings, positions_from, warned, warned_at}
 use Rattle.warning_theorems.proofs.RepeatedLemmas.{holds_among, AreFrom, IsFrom, all_labels, here}
-use Rattle.warning_theorems.proofs.RepeatedLemmas.{first_or_later, labels_next}
+use Rattle.warning_theorems.proofs.RepeatedLemmas.{first_or_later, labels_next, same_left}
 use Rattle.warning_theorems.proofs.{WarningLemmas.below_agent}
 use Rattle.std.proofs.lemmas.List.Folds.{Any-from_list_any, list_any-from_Any}
 use Rattle.texting_robots.specs.{Labels.AreOneGroup, Labels.IsInOwnGroup, Line.delay_in}
@@ -30,7 +31,7 @@ use Rattle.robots_warnings.specs.Closed.{replacing, replacing_from, star_count, 
 use Rattle.std.specs.{Option.option_or, Str.str_to_ascii_lowercase}
 use Rattle.std.proofs.lemmas.Slice.{Eq.bytes_eq-Decides}
 use Rattle.texting_robots.specs.declared.groups.{GroupTracker.GroupTracker}
-use Rattle.robots_needless.specs.{Needless.lines_without}
+use Rattle.robots_needless.specs.{Blocks.IsLeftOf, Blocks.begin_with_mark, Needless.lines_without}
 use Rattle.robots_needless.proofs.{BlockLemmas.among}
 use Rattle.robots_warnings.specs.{declared.positions.Preceding.Preceding, File.lines_of, Message.WarningValue}
 use Rattle.robots_warnings.specs.declared.table.Cause.{TheVariants.TwoDelays}
@@ -64,17 +65,17 @@ condition_holds line about ((cause, false) ∷ checks) warning has =
 -- of the checks of a position, only the last one gives this warning
 other_here : (last : Option ℕ) (preceding : Preceding) (above : Option (List ℕ)) (first : Option ℕ)
     (label : Label) (lines : List LineValue)
-    → Contains (position_checks last preceding above first label lines) (TwoDelays, true)
+    → Contains (position_checks false last preceding above first label lines) (TwoDelays, true)
     → is_other_delay first label ≡ true
 other_here last preceding above first label lines has = grind arith
 
 is_other : (last : Option ℕ) (preceding : Preceding) (above : Option (List ℕ)) (first : Option ℕ)
     (labels : List Label) (number : ℕ)
-    → Contains (positions_from last preceding above first labels) (two_delays_at number)
+    → Contains (positions_from false last preceding above first labels) (two_delays_at number)
     → (place : ℕ) × (is : IsOther first labels place) × (is.label.number ≡ number)
 is_other last preceding above first [] number (k, below, at) = absurd (omega arith)
 is_other last preceding above first (label ∷ labels) number has =
-    let checks = position_checks last preceding above first label (lines_of (label ∷ labels)) in
+    let checks = position_checks false last preceding above first label (lines_of (label ∷ labels)) in
     elim (Contains-append_cases (warned (Some label.number) None checks) _ _ has) [
       | inl here ↦
           let (same, check) = condition_holds (Some label.number) None checks _ here in
@@ -184,7 +185,7 @@ early_left gone lines same below = search (rules, before_agents, before_left)
 
 module _ {name : List ℕ} {labels : List Label} (labeled : AreLabelsOf name (lines_of labels) labels)
     (numbers : List ℕ)
-    (all : All (Contains (position_warnings labels)) (warned_at TwoDelays None numbers)) where
+    (all : All (Contains (position_warnings false labels)) (warned_at TwoDelays None numbers)) where
   abbrev gone : ℕ → Bool
   gone = among numbers
 
@@ -192,13 +193,13 @@ module _ {name : List ℕ} {labels : List Label} (labeled : AreLabelsOf name (li
   all_lines = lines_of labels
 
   abbrev IsWarned : ℕ → Type 0
-  IsWarned number = Contains (position_warnings labels) (two_delays_at number)
+  IsWarned number = Contains (position_warnings false labels) (two_delays_at number)
 
   other_at : (place : ℕ) → gone (0 + place + 1) ≡ true → IsOther None labels place
   other_at place goes =
       let each : All IsWarned numbers =
       λ k number below.
-      subst (Contains (position_warnings labels))
+      subst (Contains (position_warnings false labels))
       (grind (arith, get_or-map))
       (all k (two_delays_at number) (rw (length-map numbers two_delays_at) below)) in
       let (found, is, number_is) = is_other (last_group labels) preceding.Other None None labels _
@@ -237,14 +238,23 @@ module _ {name : List ℕ} {labels : List Label} (labeled : AreLabelsOf name (li
       (first_left gone (group_name agent all_lines) 0 None None (start_of all_lines) labels others tt) in
       cc (early_left gone all_lines agents below)
 
-pub two_delays_can_be_deleted : (name agent : List ℕ) (lines : List LineValue) (labels : List Label)
+delay_as_before : (name agent : List ℕ) (lines : List LineValue) (labels : List Label)
     (numbers : List ℕ) → AreLabelsOf name lines labels
-    → All (Contains (position_warnings labels)) (warned_at TwoDelays None numbers)
+    → All (Contains (position_warnings false labels)) (warned_at TwoDelays None numbers)
     → delay_for agent (lines_without numbers lines) ≡ delay_for agent lines
-two_delays_can_be_deleted name agent lines labels numbers labeled all =
+delay_as_before name agent lines labels numbers labeled all =
     let same = labeled.lines_are in
     subst (λ of. delay_for agent (lines_without numbers of) ≡ delay_for agent of) same
     (delay_stays (subst (λ of. AreLabelsOf name of labels) (sym same) labeled) numbers all agent)
+
+pub two_delays_can_be_deleted : (name agent file left : List ℕ) (labels : List Label) (numbers : List ℕ)
+    → length file ≤ file_limit → AreLabelsOf name (lines_read file) labels
+    → All (Contains (position_warnings false labels)) (warned_at TwoDelays None numbers)
+    → IsLeftOf numbers file left → begin_with_mark (lines_without numbers (file_bodies file)) ≡ false
+    → delay_for agent (lines_read left) ≡ delay_for agent (lines_read file)
+two_delays_can_be_deleted name agent file left labels numbers short labeled all is front =
+    (same_left numbers file left agent short is front).0.delay
+    ∙ delay_as_before name agent (lines_read file) labels numbers labeled all
 
 -- no Disallow of the crawler has the pattern of a Disallow of `*`
 abbrev pub HasNone : List ℕ → List LineValue → Type 0

@@ -1,14 +1,19 @@
 -- A rule with `repeated-rule` decides no verdict, and can be deleted.
+use mathlib.Core.Logic.Iff
 use Rattle.std.proofs.lemmas.{Slice.Eq.bytes_eq-Decides}
 use Rattle.std.proofs.lemmas.Bool.{cases_Bool, false_from_ne_true}
 use Rattle.std.proofs.Common.{◌≡◌, ◌+◌, ◌⊎◌, ℕ, suc, zero, Bool, true, false, List, [], ◌∷◌, ◌++◌, Contains}
 use Rattle.std.proofs.Common.{Some, arith, if◌then◌else◌, inl, inr, refl, slice_get, subst, sym, ◌<◌}
-use Rattle.std.proofs.Common.{◌≤◌, ◌↔◌, All, Option}
+use Rattle.std.proofs.Common.{◌≤◌, ◌↔◌, All, Option, length, subst₂, take_all}
 use Rattle.texting_robots.specs.Callers.{AreLabelsOf, Label, LineValue, Allow, AreRulesFor, Disallow, Rule}
 use Rattle.texting_robots.specs.Callers.{IsCaptured, IsDecidingLine, IsDenied, IsVerdict, PlacedRule}
 use Rattle.texting_robots.specs.Callers.{group_name, placed_rules, rules_for, unplaced}
+use Rattle.texting_robots.specs.Callers.{file_bodies, file_limit, file_lines, lines_read}
+use Rattle.texting_robots.specs.{Theorems.Same}
 use Rattle.texting_robots.specs.Group.{is_agent, passes_at}
-use Rattle.robots_needless.specs.Blocks.{is_rule, keep_blocks_from, no_rule, with_rule}
+use Rattle.robots_needless.specs.Blocks.{is_rule, keep_blocks_from, no_rule, with_rule, IsLeftOf}
+use Rattle.robots_needless.specs.Blocks.{begin_with_mark}
+use Rattle.robots_needless.proofs.LeftLemmas.{left_within, same_result}
 use Rattle.robots_needless.specs.Needless.{lines_without, without}
 use Rattle.robots_needless.proofs.TogetherLemmas.{in_named, unplaced_of, verdicts, in_filter, to_filter}
 use Rattle.robots_needless.proofs.BlockLemmas.{among, deleted}
@@ -242,12 +247,12 @@ module _ (numbers : List ℕ) (lines : List LineValue)
           subst (Contains (unplaced rules)) is (unplaced_of rules placed (in_filter _ rules placed listed).0),
     )
 
-pub repeated_can_be_deleted : (all_groups : Bool) (name agent : List ℕ) (lines : List LineValue)
+verdict_as_before : (all_groups : Bool) (name agent : List ℕ) (lines : List LineValue)
     (labels : List Label) (numbers text : List ℕ) (answer : Bool) → AreLabelsOf name lines labels
     → All (Contains (repeated all_groups labels)) numbers
     → IsVerdict (rules_for agent lines) text answer
     ↔ IsVerdict (rules_for agent (lines_without numbers lines)) text answer
-repeated_can_be_deleted all_groups name agent lines labels numbers text answer labeled all =
+verdict_as_before all_groups name agent lines labels numbers text answer labeled all =
     let none_above : IsFollowed lines 0 false = grind arith in
     let blocks = keeps numbers lines repeats 0 lines false (all_from lines) none_above in
     let same = same_rules numbers lines repeats agent in
@@ -260,3 +265,27 @@ repeated_can_be_deleted all_groups name agent lines labels numbers text answer l
     repeats number is =
         is_repeat labeled all_groups number
         (holds_among (Contains (repeated all_groups labels)) numbers all number is)
+
+-- a file of at most 512,000 bytes, and what is left of it, for a crawler
+pub same_left : (numbers file left agent : List ℕ) → length file ≤ file_limit → IsLeftOf numbers file left
+    → begin_with_mark (lines_without numbers (file_bodies file)) ≡ false
+    → Same agent (lines_read left) agent (lines_without numbers (lines_read file))
+same_left numbers file left agent short is front =
+    let less = left_within numbers file left is in
+    subst₂ (λ (all more : List ℕ).
+    Same agent (file_lines more) agent (lines_without numbers (file_lines all)))
+    (sym (take_all file_limit file short)) (sym (take_all file_limit left (omega arith)))
+    (same_result numbers file left is front agent)
+
+pub repeated_can_be_deleted : (all_groups : Bool) (name agent file left : List ℕ) (labels : List Label)
+    (numbers text : List ℕ) (answer : Bool) → length file ≤ file_limit
+    → AreLabelsOf name (lines_read file) labels → All (Contains (repeated all_groups labels)) numbers
+    → IsLeftOf numbers file left → begin_with_mark (lines_without numbers (file_bodies file)) ≡ false
+    → IsVerdict (rules_for agent (lines_read file)) text answer
+    ↔ IsVerdict (rules_for agent (lines_read left)) text answer
+repeated_can_be_deleted all_groups name agent file left labels numbers text answer short labeled all is
+    front =
+    let same = (same_left numbers file left agent short is front).0.verdict text answer in
+    Iff.trans
+    (verdict_as_before all_groups name agent (lines_read file) labels numbers text answer labeled all)
+    (same.1, same.0)

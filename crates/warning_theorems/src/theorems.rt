@@ -8,9 +8,9 @@ ghost use Rattle.texting_robots.specs.{Callers.Allow, Labels.IsInOwnGroup, Verdi
 ghost use Rattle.texting_robots.specs.Callers.{AreLabelsOf, AreRulesFor, Disallow, escaped, HoldsRule, Label};
 ghost use Rattle.texting_robots.specs.Callers.{file_limit, file_lines, is_named, IsDecidingLine, IsDenied};
 ghost use Rattle.texting_robots.specs.Callers.{IsFileRejected, IsRobotOfFile, IsVerdict, LineValue, Matches};
-ghost use Rattle.texting_robots.specs.Callers.{Rule, PlacedRule, RobotValue, agents_in, bodies_in, delay_for};
+ghost use Rattle.texting_robots.specs.Callers.{Rule, PlacedRule, RobotValue, agents_in, bodies_in, delay_for, file_bodies};
 ghost use Rattle.texting_robots.specs.Callers.{lines_read, bodies_read, rules_for, unplaced, UserAgent};
-ghost use Rattle.robots_needless.specs.Blocks.{HaveSameRobot, IsLeftOf};
+ghost use Rattle.robots_needless.specs.Blocks.{HaveSameRobot, IsLeftOf, begin_with_mark};
 ghost use Rattle.robots_needless.specs.Needless.{lines_without, numbers_of};
 ghost use Rattle.rfc9309.specs.Rfc9309.{Group, IsFile, IsProductToken};
 ghost use Rattle.rfc9309.specs.Matching.{all_stay, normal_uri};
@@ -205,13 +205,16 @@ pub fn repeated_rule()
         → ¬ IsDecidingLine rules text (Some number) }
 {}
 
-/// If lines with `repeated-rule` are deleted, one or several or all, every verdict stays the same, for any
-/// crawler.
+/// If lines with `repeated-rule` are deleted from a file of at most 512,000 bytes, one or several or all,
+/// with their line ends, every verdict stays the same, for any crawler, unless the first line that stays
+/// begins with a byte of the byte order mark.
 pub fn repeated_rules_can_be_deleted()
-    ensures { (all_groups : Bool) (name agent : List ℕ) (lines : List LineValue) (labels : List Label)
-        (numbers text : List ℕ) (answer : Bool) → AreLabelsOf name lines labels
-        → All (Contains (repeated all_groups labels)) numbers → IsVerdict (rules_for agent lines) text answer
-        ↔ IsVerdict (rules_for agent (lines_without numbers lines)) text answer }
+    ensures { (all_groups : Bool) (name agent file left : List ℕ) (labels : List Label)
+        (numbers text : List ℕ) (answer : Bool) → length file ≤ file_limit
+        → AreLabelsOf name (lines_read file) labels → All (Contains (repeated all_groups labels)) numbers
+        → IsLeftOf numbers file left → begin_with_mark (lines_without numbers (file_bodies file)) ≡ false
+        → IsVerdict (rules_for agent (lines_read file)) text answer
+        ↔ IsVerdict (rules_for agent (lines_read left)) text answer }
 {}
 
 /// A rule with the error `hash-cuts-rule` matches every path, also an empty Disallow, which is an Allow of
@@ -237,12 +240,13 @@ pub fn replaces_star()
         → star_count lines ≡ count_by (λ (placed : PlacedRule). not placed.rule.1) rules }
 {}
 
-/// If lines with `two-delays` are deleted, one or several or all, the delay of every crawler stays the same.
+/// The same of lines with `two-delays` and the delay of every crawler.
 pub fn two_delays()
-    ensures { (name agent : List ℕ) (lines : List LineValue) (labels : List Label) (numbers : List ℕ)
-        → AreLabelsOf name lines labels
-        → All (Contains (position_warnings labels)) (warned_at TwoDelays None numbers)
-        → delay_for agent (lines_without numbers lines) ≡ delay_for agent lines }
+    ensures { (name agent file left : List ℕ) (labels : List Label) (numbers : List ℕ)
+        → length file ≤ file_limit → AreLabelsOf name (lines_read file) labels
+        → All (Contains (position_warnings false labels)) (warned_at TwoDelays None numbers)
+        → IsLeftOf numbers file left → begin_with_mark (lines_without numbers (file_bodies file)) ≡ false
+        → delay_for agent (lines_read left) ≡ delay_for agent (lines_read file) }
 {}
 
 /// A line with `group-past-size-limit` is a user-agent line whose name none of the lines within the size

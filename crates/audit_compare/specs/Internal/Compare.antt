@@ -40,6 +40,7 @@ compared_of compared = record {
   added = compared.added.items;
   changes = compared.changes.items;
   verdicts = compared.verdicts;
+  vendor = compared.vendor;
 }
 
 abbrev pub side_of : InsideSide → SideValue

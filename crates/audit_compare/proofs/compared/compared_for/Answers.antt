@@ -9,5 +9,6 @@ returns-clause-ok c = record {
   removed_are = rw (c.requires.older.site_is, c.requires.newer.site_is) at c.in_ok-rules.ensures.removed;
   added_are = rw (c.requires.older.site_is, c.requires.newer.site_is) at c.in_ok-rules.ensures.added;
   verdicts_are = c.in_ok-verdicts.ensures.ok;
+  vendor_is = c.in_ok-vendor.ensures.ok;
   changes_are = c.in_ok-changes.ensures;
 }

@@ -1,3 +1,4 @@
+use Rattle.audit_compare.proofs.EveryUrlLemmas.{example_read}
 use Rattle.audit_compare.proofs.every_url.verdicts_for.Goals as goal
 
 pub returns-in-Same-clause-ok : goal.returns-in-Same-clause-ok
@@ -11,3 +12,8 @@ returns-in-Same-clause-ok c =
       c.requires.older.site_is,
       c.requires.newer.site_is,
     ) at c.in_ok-compare.ensures
+
+pub returns-in-Some-clause-ok : goal.returns-in-Some-clause-ok
+returns-in-Some-clause-ok c =
+    example_read _ _ _ _ _ _ _ (rw c.in-Accepted.is at c.in_ok-was.ensures.ok)
+    (rw c.in-Accepted-2.is at c.in_ok-is.ensures.ok) (rw c.in-Some.is at c.in_ok-example_among.ensures.ok)

@@ -1,5 +1,5 @@
-use Rattle.std.proofs.Common.{IfOk, ap, subst, sym, ◌∙◌}
-use Rattle.audit_core.specs.Audit.{IsAuditOf, labels_requested}
+use Rattle.std.proofs.Common.{ap, sym, ◌∙◌}
+use Rattle.audit_core.specs.Audit.{labels_requested}
 use Rattle.audit_core.specs.Request.{requested_by}
 use Rattle.robots_warnings.specs.File.{labels_for}
 use Rattle.audit_core.proofs.audit.audit_of.Goals as goal
@@ -11,6 +11,4 @@ audit_read-requires-clause-labels c =
     ∙ ap (labels_requested (requested_by c.args.request.now)) (sym c.in_ok-read.ensures.bytes)
 
 pub returns-clause-ok : goal.returns-clause-ok
-returns-clause-ok c =
-    subst (λ file. IfOk c.audit_read.result (λ audit. IsAuditOf (requested_by c.args.request.now) file audit))
-    c.in_ok-read.ensures.bytes c.audit_read.ensures.ok
+returns-clause-ok c = rw (c.labels_of.ensures, sym c.in_ok-read.ensures.bytes) c.in_ok-agents.ensures.ok

@@ -6,9 +6,9 @@ use Rattle.robots_warnings.proofs.warnings.warn_of_positions.Given as goal
 abbrev pub invariant-loop-rest : goal.invariant-loop-rest
 invariant-loop-rest l =
     l.found.items
-    ++ positions_from l.last l.preceding (option_map (λ name. name.now) l.above) l.delay
+    ++ positions_from l.is_too_large l.last l.preceding (option_map (λ name. name.now) l.above) l.delay
     (map label_by_value l.rest)
-    ≡ l.fn.found.items ++ position_warnings (map label_by_value l.labels)
+    ≡ l.fn.found.items ++ position_warnings l.is_too_large (map label_by_value l.labels)
 
 abbrev pub decreases-loop-rest : goal.decreases-loop-rest
 decreases-loop-rest l = length l.rest
