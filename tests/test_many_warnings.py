@@ -118,13 +118,8 @@ def test_one_of_each_level():
 
 def test_notes_about_another_line_stay_apart():
     """Their messages end with the line of the other one."""
-<<<<<<< HEAD
-    sitemap = "Sitemap: https://example.com/b\n"
-    err = audit(FRONT + sitemap * 3, "--only=repeated-sitemap").err
-=======
     sitemap = "Sitemap: https://example.com/s\n"
     err = audit(FRONT + sitemap * 3).err
->>>>>>> bbe3190dd378ccd6cea8c7ec921cf9ab43d7cd13
     assert err.count("(see line 3) [repeated-sitemap]") == 2 and "(also" not in err and err.endswith(total("2 notes"))
 
 
