@@ -16,4 +16,4 @@ returns-in-Same-clause-ok c =
 pub returns-in-Some-clause-ok : goal.returns-in-Some-clause-ok
 returns-in-Some-clause-ok c =
     example_read _ _ _ _ _ _ _ (rw c.in-Accepted.is at c.in_ok-was.ensures.ok)
-    (rw c.in-Accepted-is.is at c.in_ok-is.ensures.ok) (rw c.in-Some.is at c.in_ok-example_among.ensures.ok)
+    (rw c.in-Accepted-is.is at c.in_ok-is.ensures.ok) (rw c.in-Some.is at c.in_ok-example.ensures.ok)

@@ -15,8 +15,8 @@ returns-clause-ok c =
     let new = c.name_at_vendor-new_name.ensures
     ∙ ap (λ text. name_at_vendor (file_lines text) c.args.agent.now) c.requires.newer.site_is in
     record {
-      older_is = c.in_ok-from_str.ensures ∙ old;
-      newer_is = c.in_ok-from_str-2.ensures ∙ new;
+      older_is = c.in_ok-from_str.ensures.ok ∙ old;
+      newer_is = c.in_ok-from_str-2.ensures.ok ∙ new;
       verdicts_are = verdicts_by _ _ _ _ _
           (rules_read _ c.args.agent.now _ _ old c.file_of_group-old_file.ensures.lines)
           (rules_read _ c.args.agent.now _ _ new c.file_of_group-new_file.ensures.lines)
