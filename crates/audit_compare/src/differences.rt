@@ -257,11 +257,17 @@ pub(crate) fn is_unchanged(compared: &Compared<'_>) -> bool
         && has_same_rules(compared)
 }
 
+fn has_unchanged(crawlers: &[Compared<'_>]) -> bool
+    ensures { result ≡ list_any is_unchanged crawlers.now }
+{
+    crawlers.iter().any(is_unchanged)
+}
+
 /// What is said of the unchanged ones, if there are some.
 pub(crate) fn unchanged_words(crawlers: &[Compared<'_>]) -> &'static str
     ensures { result.now ≡ unchanged_words crawlers.now }
 {
-    if crawlers.iter().any(is_unchanged) {
+    if has_unchanged(crawlers) {
         ": same group, delay and rules, so the same verdicts"
     } else {
         ""
