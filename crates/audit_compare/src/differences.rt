@@ -1,6 +1,6 @@
 //! What differs between two files for a crawler, as findings.
 ghost use Rattle.std.specs.Prelude.{◌≡◌, ◌∷◌, [], OnOk, map};
-ghost use Rattle.std.specs.List.{list_all};
+ghost use Rattle.std.specs.List.{list_all, list_any};
 ghost use Rattle.audit_core.specs.Findings.{Adds};
 ghost use Rattle.audit_compare.specs.Compare.{accepted_changes, change_name, crawler_changes, delay_changes};
 ghost use Rattle.audit_compare.specs.Compare.{group_changes, has_same_rules, is_rejected, is_same_group};
