@@ -328,10 +328,7 @@ class Robots:
     def delay_microseconds(self, agent: str) -> int | None:
         """The delay in microseconds, exactly, or None."""
         robot = type(agent) is str and self._site.robots.get(agent)
-        if robot and not lib.robot_overlong_line(robot._opened):
-            return robot.delay_microseconds
-        site, name, microseconds = self._site.read(), _name(agent), ffi.new("uint64_t *")
-        return _delay(lib.site_delay(site, name, len(name), microseconds), microseconds)
+        return self._site.delay(_name(agent)) if not robot or lib.robot_overlong_line(robot._opened) else robot.delay_microseconds
 
     @property
     def sitemaps(self) -> list[str]:
@@ -356,8 +353,7 @@ class Robots:
 
     def is_named(self, agent: str) -> bool:
         """Whether a user-agent line names the crawler. All crawlers that none names have the rules and the delay of ``*``."""
-        name = _name(agent)
-        return lib.site_is_named(self._site.opened, name, len(name)) == 1
+        return self._site.is_named(_name(agent))
 
     def _verdict_or_none(self, url: str, agent: str) -> Verdict | None:
         try:
@@ -403,14 +399,26 @@ class _Site:
         """What the file says to an agent. A `str` of another type may have its own equality, so its robot isn't looked up."""
         return (type(agent) is str and self.robots.get(agent)) or self._open(agent)
 
-    def _open(self, agent: str) -> Robot:
-        """Opens a robot. The library shares it among all agents that no line names."""
-        name = _name(agent)
+    def is_named(self, name: bytes) -> bool:
+        """Whether a user-agent line has this name, which may be one that isn't a product token."""
+        return lib.site_is_named(self.opened, name, len(name)) == 1
+
+    def delay(self, name: bytes) -> int | None:
+        """The delay in microseconds, even if a rule for this name is too long."""
+        site, microseconds = self.read(), ffi.new("uint64_t *")
+        return _delay(lib.site_delay(site, name, len(name), microseconds), microseconds)
+
+    def open_robot(self, name: bytes) -> Robot:
+        """Opens the robot for a name, which isn't kept. The library shares it among all agents that no line names."""
         if self.robots or self.kept:
             opened = lib.robot_open(self.opened, name, len(name))
         else:
             opened = lib.robot_of_file(self.body, len(self.body), name, len(name))
-        robot = Robot.__new__(Robot)._open(opened)
+        return Robot.__new__(Robot)._open(opened)
+
+    def _open(self, agent: str) -> Robot:
+        name = _name(agent)
+        robot = self.open_robot(name)
         if len(self.robots) >= _AGENTS_KEPT:
             self.robots.clear()
         self.robots[str(name, "utf-8")] = robot
