@@ -51,7 +51,7 @@ class RobotParser(ScrapyRobotParser):
 
     def delay(self, user_agent: str | bytes) -> float:
         """How many seconds the crawler waits between two requests, or 0 if the file doesn't say."""
-        return self._rules.delay(product_token(_text(user_agent)))
+        return self._rules.delay(_text(user_agent))
 
     @property
     def sitemaps(self) -> list[str]:
@@ -66,7 +66,7 @@ class RobotParser(ScrapyRobotParser):
     def _allowed(self, url: str, user_agent: str) -> bool:
         warn_of_browser(user_agent, self._spider)
         token = product_token(user_agent)
-        decision = self._rules.decide(url, token)
+        decision = self._rules.decide(url, user_agent)
         if decision is OUT_OF_MEMORY:
             raise MemoryError
         if decision.problem and token not in self._warned:
