@@ -9,7 +9,7 @@ from collections import Counter
 import package  # noqa: F401 (puts the package on the path)
 import pytest
 
-from texting_robots import FILE_LIMIT, UrlError, _memory
+from texting_robots import FILE_LIMIT, UrlError, _memory, _robots, robots_url
 from texting_robots import cache as module
 from texting_robots.cache import Action, Look, RobotsCache, State
 
@@ -379,6 +379,70 @@ def test_a_delay(caches):
     assert cache.delay(fetched(cache, "http://b.example", (404, {}, b""))[0], "A") == 0
 
 
+@pytest.mark.parametrize(
+    "said, seconds",
+    [("max-age=3600", HOUR), ("public, Max-Age=0", 300), ("max-age=301, x", 301), ("s-maxage=9, max-age = \"400\"", 400), ("max-age=99999999999", DAY), ("no-cache", DAY), ("max-age=x", DAY)],
+)
+@pytest.mark.parametrize("status", [200, 404])
+def test_a_server_may_say_for_how_long_its_answer_counts(caches, said, seconds, status):
+    """Not for less than five minutes, and not for longer than usual."""
+    cache = caches()
+    site, _ = fetched(cache, A, (status, {"Cache-Control": said, "ETag": "1"}, RULES))
+    assert site.expires == caches.clock.now + seconds and site.refresh == site.expires - min(HOUR, seconds / 2)
+    if status == 200:
+        caches.clock.now = site.refresh
+        assert fetched(cache, A, (304, {"Cache-Control": said}, b""))[0].expires == caches.clock.now + seconds
+    assert fetched(caches(lifetime=100), A, (status, {"Cache-Control": said}, RULES))[0].expires == caches.clock.now + 100
+
+
+def test_hosts_that_are_exempt(caches):
+    """With any port and scheme; no file of them is fetched, or kept."""
+    cache = caches(exempt=["A.example", "b.example"])
+    for url in ("http://a.example/private/", "https://A.EXAMPLE:8443/private/"):
+        look = cache.look(url)
+        assert look.action is Action.USE and cache.decide(look.site, url, "x") == (True, None, "") and cache.delay(look.site, "x") == 0
+    assert cache.look("http://www.a.example/").fetch and len(cache) == 0
+    with pytest.raises(TypeError):
+        caches(exempt="a.example")
+
+
+NAMES = b"User-agent: A\nDisallow: /a\nCrawl-delay: 1\n\nUser-agent: B\nDisallow: /b\nCrawl-delay: 2\n\nUser-agent: *\nDisallow: /s\nCrawl-delay: 3\n"
+
+
+@pytest.mark.parametrize("names, line, delay", [(["A", "B"], 2, 1), (["B/1.0", "A"], 6, 2), (("C", "B"), 6, 2), (["C", "D"], 10, 3), (["A"], 2, 1), ("C", 10, 3)])
+def test_several_names_in_order_of_precedence(caches, names, line, delay):
+    """The first that the file names counts, and the rules for * if it names none."""
+    cache = caches()
+    site, _ = fetched(cache, A, file(NAMES))
+    denied = [decision.line for path in "abs" if not (decision := cache.decide(site, f"http://a.example/{path}", names))]
+    assert denied == [line] and cache.delay(site, names) == delay
+    assert cache.decide(site, "http://a.example/x", names) and cache.size == site.memory + site.rules.size
+
+
+@pytest.mark.parametrize("names", [[], None, [1], b"x"])
+def test_names_that_are_none(caches, names):
+    cache = caches()
+    site, _ = fetched(cache, A, file(NAMES))
+    with pytest.raises(TypeError):
+        cache.decide(site, "http://a.example/x", names)
+
+
+def test_when_the_next_request_may_go(caches):
+    """Each call counts as a request; a site without a delay needs none."""
+    cache = caches()
+    site, _ = fetched(cache, A, file(b"Crawl-delay: 2.5\n"))
+    assert [cache.next_request(site, "x") for _ in range(3)] == [0, 2.5, 5]
+    caches.clock.now += 6
+    assert [cache.next_request(site, "x", 1) for _ in range(2)] == [1.5, 2.5]
+    caches.clock.now += 100
+    fetched(cache, HTTP, file(RULES))
+    assert [cache.next_request(cache.look(HTTP).site, "x") for _ in range(2)] == [0, 0] and cache.next_request(site, "x") == 0
+    for number in range(5000):
+        cache.next_request(fetched(cache, f"http://{number}.example", file(b"Crawl-delay: 1\n"))[0], "x")
+        caches.clock.now += 1
+    assert len(cache._turns) <= 1000
+
+
 @pytest.mark.parametrize("name", ["lifetime", "retry", "answer_within", "budget", "cost_limit"])
 @pytest.mark.parametrize("value", [0, -1, float("nan"), float("inf"), "9"])
 def test_a_number_that_is_none(name, value):
@@ -406,6 +470,26 @@ def test_names_of_headers_may_be_bytes(caches, headers):
     """As a mapping or as pairs, with one or several values."""
     cache = caches()
     assert cache.received(cache.look(A).fetch, 301, headers, b"").fetch.address == "http://b.example/r"
+
+
+def test_the_address_of_a_site_that_was_asked_about_before():
+    """Is that of the same URL otherwise."""
+    fronts = ["http://a.example", "HTTP://a.example", "https://a.example:443", "http://a.example:8080", "http://u@a.example", "http:///a.example", "http://127.1"]
+    for front in fronts:
+        for rest in ("", "/", "/x?y#z", "?q", "#f", "/\u00e9"):
+            for address in (robots_url(front + rest), robots_url(front + rest)):
+                _robots._ADDRESSES.clear()
+                assert address == robots_url(front + rest)
+    robots_url("http://a.example/")
+    for text in ("http://a.example\\@b.example/", "http://a.example:x/", "ftp://a.example/", "http://a.example:99999/", "http://a.example/\udc80"):
+        if "b.example" in text:
+            assert robots_url(text) == "http://a.example/robots.txt"
+        else:
+            with pytest.raises(ValueError):
+                robots_url(text)
+    for number in range(3000):
+        robots_url(f"http://{number}.example/")
+    assert len(_robots._ADDRESSES) <= 2000
 
 
 def test_the_lines_of_the_docstring():

@@ -25,6 +25,11 @@ _AGENTS_KEPT: Final = 1000
 
 _Body = Union["ReadableBuffer", str]
 _FRONT: Final = re.compile(r"\s*([^\s/(),;:]+)")
+_SITE: Final = re.compile(r"https?://[A-Za-z0-9.-]+(?::[0-9]{1,5})?(?=[/?#]|\Z)")
+"""The front of a usual URL, on which alone the address of its robots.txt file depends."""
+
+_ADDRESSES: Final[dict[str, str]] = {}
+_ADDRESSES_KEPT: Final = 2000
 _MAY_BE: Final = {
     "url": "a str, such as 'https://example.com/a'",
     "agent": "a str, such as 'FerrisBot'",
@@ -108,8 +113,16 @@ def product_token(user_agent: str) -> str:
 
 def robots_url(url: str) -> str:
     """The address of the robots.txt file for a URL of http or https. Any other text is a `UrlError`."""
-    text = _encoded(url, "url")
-    return _written(lambda *out: lib.robots_address(text, len(text), *out), 256, url)
+    front = _SITE.match(url) if type(url) is str and url.isascii() else None
+    address = _ADDRESSES.get(front[0]) if front else None
+    if address is None:
+        text = _encoded(url, "url")
+        address = _written(lambda *out: lib.robots_address(text, len(text), *out), 256, url)
+        if front:
+            if len(_ADDRESSES) >= _ADDRESSES_KEPT:
+                _ADDRESSES.clear()
+            _ADDRESSES[front[0]] = address
+    return address
 
 
 class Robot:

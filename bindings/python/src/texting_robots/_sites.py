@@ -114,7 +114,8 @@ class Fetch:
 class Look(NamedTuple):
     """What to do for a URL, the address of its robots.txt file, what is known of its site if that counts, and the request to make.
 
-    After ``again`` seconds a ``WAIT`` is over, even if no answer has come: then look again.
+    For ``WAIT`` and ``FETCH``, who waits for an answer looks again after ``again`` seconds at the latest: then the request counts as failed, or
+    another process may have the file.
     """
 
     action: Action

@@ -17,11 +17,13 @@ import logging
 import random
 import time
 import zlib
-from collections.abc import Callable
+from collections.abc import Callable, Iterable
+from math import inf
 from typing import Final, Literal
+from urllib.parse import urlsplit
 
 from . import FILE_LIMIT, LIFETIME, Meaning, Robots, meaning, robots_url
-from ._contents import Headers, fields_of, seconds_of, target, unpacked
+from ._contents import Headers, fields_of, max_age, seconds_of, target, unpacked
 from ._disk import Disk, Path
 from ._memory import Memory
 from ._rules import COST_LIMIT, OUT_OF_MEMORY, Agents, Decision, Rules
@@ -36,6 +38,8 @@ LongOutage = Literal["last file", "no file", "closed"]
 _AN_HOUR: Final = 3600
 _30_DAYS: Final = 30 * 86_400
 _FIRST_RETRY: Final = 5.0
+_LEAST_LIFETIME: Final = 300.0
+_TURNS_KEPT: Final = 1000
 _LOOK_AGAIN: Final = 1.0  # seconds until another process may have the file
 _ETAG_LIMIT: Final = 200
 _FLIGHT_BYTES: Final = 570  # measured
@@ -50,8 +54,8 @@ class RobotsCache:
     when a task is cancelled: else the site's URLs wait, until after ``answer_within`` seconds the request counts as failed. `decide` says
     whether a crawler may fetch a URL.
 
-    A file counts for ``lifetime`` seconds (RFC 9309 asks for at most 24 hours), and is fetched again in the last hour of them, or the last
-    half of a shorter lifetime. If the server fails then, it counts on; if it fails at first, nothing may be fetched. In both cases the file
+    A file counts for ``lifetime`` seconds (RFC 9309 asks for at most 24 hours), or as many as its server says if they are fewer
+    (Cache-Control: max-age), but at least 300. It is fetched again in the last hour of them, or the last half of a shorter lifetime. If the server fails then, it counts on; if it fails at first, nothing may be fetched. In both cases the file
     is asked for again after 5 seconds, 10, 20 and so on up to ``retry``, and up to a tenth longer by ``chance``; or when the server said
     (Retry-After, at most the lifetime), where 0 and times that are over count as 5 seconds. From the third failure in a row on, it is the
     later of both. When a server has failed for 30 days, ``after_30_days`` says what counts: the ``"last file"`` that it gave, or if there
@@ -60,7 +64,7 @@ class RobotsCache:
     It takes about ``budget`` bytes of memory: a quarter for the parsed files that were used last, and the rest for all files, compressed.
     Where that doesn't suffice, the file that wasn't used for the longest time goes, and is fetched again, which the first time is a warning;
     unless ``database`` names a sqlite3 file, in which all of them are kept, also for the next start. A verdict takes at most ``cost_limit``
-    comparisons.
+    comparisons. Of hosts in ``exempt``, such as your own, no file is fetched, and everything may be.
 
     Several processes of one machine may share a database, but not in a network's file system. One of them then fetches a file, and the
     others wait for it. A lock of another program is waited for 0.2 seconds. A file that is no such database is renamed, and begun anew.
@@ -83,6 +87,7 @@ class RobotsCache:
         budget: int = 100_000_000,
         database: Path = "",
         cost_limit: int = COST_LIMIT,
+        exempt: Iterable[str] = (),
         clock: Callable[[], float] = time.time,
         chance: Callable[[], float] = random.random,
         count: Callable[[str], object] = lambda name: None,
@@ -97,7 +102,12 @@ class RobotsCache:
         self._memory = Memory(positive("budget", budget), cost_limit, self._counted)
         self._longest = max(lifetime, 1.1 * retry)  # until a file is asked for again
         self._flights: dict[str, Flight] = {}
+        self._turns: dict[str, float] = {}  # when the next request to a site with a delay may go
+        self._turns_kept = _TURNS_KEPT
         self._has_evicted = False
+        if isinstance(exempt, str):
+            raise TypeError("exempt has to be several str, for example in a list")
+        self._exempt = frozenset(host.lower() for host in exempt)
         self._disk = Disk(database, clock()) if database else None
 
     def look(self, url: str) -> Look:
@@ -107,6 +117,8 @@ class RobotsCache:
     def at(self, address: str) -> Look:
         """What to do for the site whose file has this address, which is what `texting_robots.robots_url` returned: no other text is one."""
         now = self._clock()
+        if self._exempt and urlsplit(address).hostname in self._exempt:
+            return Look(Action.USE, address, Site(address, State.NO_FILE, inf, inf))
         if self._flights:
             self._give_up(now)
         site = self._known(address, now)
@@ -131,7 +143,7 @@ class RobotsCache:
             raise TypeError(f"body has the type {type(body).__name__}: it has to be bytes")
         location, known, files = target(fetch.address, fields.get("location")), dict[str, Site](), list[Site]()
         flight.reached.update(flight.redirects)
-        before = dict(flight.before)
+        before, lifetime = dict(flight.before), self._lifetime_of(fields)
         try:
             version = fetch.headers.get("If-None-Match") if status == 304 else None
             same = next((it for it in before.values() if it and (it.source, it.etag) == (fetch.address, version)), None)
@@ -141,12 +153,12 @@ class RobotsCache:
             for address, redirects in list(flight.redirects.items()):
                 what = meaning(status, redirects=redirects, has_location=bool(location), is_complete=is_whole)
                 if same:
-                    known[address] = self._renewed(flight, address, same)
+                    known[address] = self._renewed(flight, address, same, lifetime)
                 elif what is Meaning.PARSE:
-                    known[address] = self._with_file(flight, address, packed, fetch.address, fields.get("etag", ""))
+                    known[address] = self._with_file(flight, address, packed, fetch.address, fields.get("etag", ""), lifetime)
                     files.append(known[address])
                 elif what is Meaning.ALLOW_ALL:
-                    known[address] = self._settled(flight, self._new(address, State.NO_FILE))
+                    known[address] = self._settled(flight, self._new(address, State.NO_FILE, lifetime))
                 elif what is Meaning.DENY_ALL:
                     known[address] = self._unreachable(flight, address, self._wait_of(fields))
         except MemoryError:
@@ -190,6 +202,18 @@ class RobotsCache:
                 pass  # then nothing is fetched either
         return site.longest_delay
 
+    def next_request(self, site: Site, user_agent: Agents, longest: float = 60) -> float:
+        """In how many seconds the next request to the site may go: 0.0 if now, else as long after the one before as the file asks for, but at
+        most ``longest`` seconds. It counts as made then: call this once for each request, before it."""
+        now, delay = self._clock(), min(self.delay(site, user_agent), longest)
+        moment = max(now, self._turns.pop(site.address, 0.0))
+        if len(self._turns) >= self._turns_kept:
+            self._turns = {address: turn for address, turn in self._turns.items() if turn > now}
+            self._turns_kept = max(_TURNS_KEPT, 2 * len(self._turns))
+        if delay:
+            self._turns[site.address] = moment + delay
+        return moment - now
+
     def close(self) -> None:
         """Closes the database, in which nothing is kept from now on."""
         if self._disk:
@@ -199,6 +223,11 @@ class RobotsCache:
     def size(self) -> int:
         """How many bytes of memory the sites take, with the requests that have no answer yet."""
         return self._memory.size + len(self._flights) * _FLIGHT_BYTES
+
+    @property
+    def in_flight(self) -> int:
+        """How many sites wait for the answer to a request that was given out."""
+        return len(self._flights)
 
     def __len__(self) -> int:
         """How many sites are in memory."""
@@ -228,7 +257,9 @@ class RobotsCache:
         flight = Flight(now, now + self._answer_within)
         self._join(flight, address, 0, site)
         fetch = self._fetch(address, flight)
-        return Look(Action.REFRESH, address, site, fetch) if site and site.counts(now) else Look(Action.FETCH, address, None, fetch)
+        if site and site.counts(now):
+            return Look(Action.REFRESH, address, site, fetch)
+        return Look(Action.FETCH, address, None, fetch, self._answer_within)
 
     def _give_up(self, now: float) -> None:
         """Counts requests as failed that have had no answer for too long."""
@@ -285,21 +316,26 @@ class RobotsCache:
             self._disk.put(site.record(), is_last=not self._flights)
         return site
 
-    def _new(self, address: str, state: State) -> Site:
-        expires = self._clock() + self._lifetime
-        return Site(address, state, expires, expires - min(_AN_HOUR, self._lifetime / 2))
+    def _lifetime_of(self, fields: dict[str, str]) -> float:
+        """For how many seconds a response counts."""
+        said = max_age(fields)
+        return self._lifetime if said is None else min(self._lifetime, max(said, _LEAST_LIFETIME))
 
-    def _with_file(self, flight: Flight, address: str, packed: bytes, source: str, etag: str) -> Site:
-        site = self._new(address, State.FILE)
+    def _new(self, address: str, state: State, lifetime: float) -> Site:
+        expires = self._clock() + lifetime
+        return Site(address, state, expires, expires - min(_AN_HOUR, lifetime / 2))
+
+    def _with_file(self, flight: Flight, address: str, packed: bytes, source: str, etag: str, lifetime: float) -> Site:
+        site = self._new(address, State.FILE, lifetime)
         site.packed, site.source = packed, address if source == address else source
         site.etag = etag if len(etag) <= _ETAG_LIMIT and etag.isascii() and etag.isprintable() else ""
         site.rules = Rules(zlib.decompress(packed), self._cost_limit)
         return self._settled(flight, site)
 
-    def _renewed(self, flight: Flight, address: str, before: Site) -> Site:
+    def _renewed(self, flight: Flight, address: str, before: Site, lifetime: float) -> Site:
         """A site whose file is still the one that was known before, for it or another site."""
         self._counted("not_modified")
-        site, fresh = before.copy(address), self._new(address, State.FILE)
+        site, fresh = before.copy(address), self._new(address, State.FILE, lifetime)
         site.expires, site.refresh, site.failing_since, site.failures = fresh.expires, fresh.refresh, 0.0, 0
         return self._settled(flight, site)
 

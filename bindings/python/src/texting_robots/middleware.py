@@ -18,6 +18,7 @@ from urllib.parse import quote, urlsplit
 from weakref import WeakKeyDictionary, WeakValueDictionary
 
 from scrapy import signals
+from scrapy.downloadermiddlewares.robotstxt import RobotsTxtMiddleware
 from scrapy.exceptions import IgnoreRequest, NotConfigured, StopDownload
 from scrapy.http import Request
 from scrapy.http.request import NO_CALLBACK
@@ -26,11 +27,12 @@ from twisted.internet.defer import Deferred
 from twisted.internet.error import ConnectionRefusedError, DNSLookupError, NoRouteError, UnknownHostError
 
 from . import FILE_LIMIT, LIFETIME, UrlError, robots_url
+from ._figures import Figures
 from ._pacing import Pace, leave_shared_slot, return_to_slot
 from ._parking import Limits, Outcome, Parking, later
 from ._rules import COST_LIMIT
 from ._settings import not_negative, positive
-from .cache import Action, Decision, Fetch, RobotsCache, Site, State, Step
+from .cache import Action, Agents, Decision, Fetch, RobotsCache, Site, State, Step
 from .scrapy import warn_of_browser
 
 logger = logging.getLogger(__name__)
@@ -39,6 +41,11 @@ sitemaps_found: Final = object()
 """The signal that a robots.txt file has sitemaps. It comes once for each file, and again if a later file of the site has others. Its
 arguments are ``sitemaps``, a list of URLs as the file has them, ``robots_url``, the file's address, and ``spider``."""
 
+robots_received: Final = object()
+"""The signal that there is a response to a request for a robots.txt file, also for a redirect. Its arguments are ``response``, with the body
+as received, and ``spider``."""
+
+_SCRAPYS_OWN: Final = "scrapy.downloadermiddlewares.robotstxt.RobotsTxtMiddleware"
 _BROKEN_OFF: Final = frozenset({"dataloss", "download_stopped"})
 
 # For a file: no other middleware answers, follows or refuses the request, no other file is asked about it, and a large one is cut.
@@ -53,7 +60,7 @@ _META: Final = {
 }
 _WAY_OUT: Final = ("proxy", "_auth_proxy", "bindaddress")  # in the meta of a request: the way that its file's request takes, too
 _ENCODING: Final = "Robots-Content-Encoding"  # of a body that Scrapy mustn't unpack, as it would do so without a limit
-_FIELDS: Final = ("Location", "ETag", "Retry-After")
+_FIELDS: Final = ("Location", "ETag", "Retry-After", "Cache-Control")
 _NOT_REACHED: Final = (DNSLookupError, UnknownHostError, ConnectionRefusedError, NoRouteError)
 _WARNINGS_KEPT: Final = 10_000
 
@@ -112,7 +119,10 @@ class RobotsMiddleware:
     requests in it come again.
 
     As with Scrapy's own middleware, there are the settings ``ROBOTSTXT_OBEY`` and ``ROBOTSTXT_USER_AGENT``, ``dont_obey_robotstxt`` in the
-    meta of a request, and the stats. ``ROBOTSTXT_PARSER`` isn't used. Settings of its own, with their defaults:
+    meta of a request, and the stats, also ``robotstxt/waiting``, ``in_flight``, ``outages`` and ``oldest_outage_seconds`` as often as
+    ``LOGSTATS_INTERVAL`` says. ``ROBOTSTXT_USER_AGENT`` may be a list of names in order of precedence: the first that a file names counts.
+    ``ROBOTSTXT_PARSER`` isn't used. The first failure of a site is a warning, and later ones are for debugging. Settings of its own, with
+    their defaults:
 
     - ``TEXTING_ROBOTS_PARKED = 1000``: so many requests wait in memory for sites whose files can't be fetched, and others on disk.
     - ``TEXTING_ROBOTS_PARKED_SECONDS = 86400``: each waits for at most so many seconds, in a JOBDIR from each start on. 0 lets none wait.
@@ -127,20 +137,21 @@ class RobotsMiddleware:
     - ``TEXTING_ROBOTS_AFTER_30_DAYS = "last file"``: what counts when a server has failed for 30 days: the file before, if there was one;
       ``"no file"``, so everything may be fetched; or ``"closed"``.
     - ``TEXTING_ROBOTS_TIMEOUT = 30``: for so many seconds an answer is waited for, or as long as ``DOWNLOAD_TIMEOUT`` says if that is shorter.
-    - ``TEXTING_ROBOTS_LIFETIME = 86400``: for so many seconds a file counts. In the last hour of them it is fetched again while it still
-      counts. The HTTP cache of Scrapy never has it.
+    - ``TEXTING_ROBOTS_LIFETIME = 86400``: for so many seconds a file counts, or as Cache-Control says if that is shorter, but at least 300.
+      In the last hour of them it is fetched again while it still counts. The HTTP cache of Scrapy never has it.
     - ``TEXTING_ROBOTS_BUDGET = 100_000_000``: so much memory in bytes is taken for files, which are kept compressed (some 1,000 bytes for a
       usual file), and a quarter of it for those that are parsed. A file for which there is no room is fetched again.
     - ``TEXTING_ROBOTS_DATABASE``: the path of a sqlite3 file, in which all files are kept, also for the next start. Processes of one machine
       can share it. With a JOBDIR it is ``robots.sqlite3`` there, unless this setting is ``""``.
+    - ``TEXTING_ROBOTS_EXEMPT = []``: hosts, such as your own, of which no file is fetched, and everything may be.
     - ``TEXTING_ROBOTS_COST = 20_000_000``: so many comparisons may be taken for a verdict. A URL that might need more is denied, with a
       warning.
     - ``TEXTING_ROBOTS_MAX_DELAY = 60``: a longer delay is cut to so many seconds. 0 keeps no delays.
 
     The delay holds in the downloader's slots, whatever ``DOWNLOAD_DELAY``, ``download_slot`` and AutoThrottle say, which may only make it
     longer. A site with a delay gets a slot of its own where its slot is a spider's, or that of an IP address. In the slot of a host, the
-    largest delay of its sites counts. Sitemaps come by the signal `sitemaps_found`. A subclass can change the request for a file:
-    `robots_request`.
+    largest delay of its sites counts. Sitemaps come by the signal `sitemaps_found`, and the responses themselves by `robots_received`. A
+    subclass can change the request for a file: `robots_request`.
     """
 
     def __init__(self, crawler: Any) -> None:
@@ -149,6 +160,7 @@ class RobotsMiddleware:
             raise NotConfigured
         self._crawler = crawler
         self._user_agent = settings.get("ROBOTSTXT_USER_AGENT")
+        self._names = tuple(self._user_agent) if isinstance(self._user_agent, (list, tuple)) else ()
         self._default_user_agent = settings.get("USER_AGENT", "Scrapy")
         self._max_delay = _number(settings, "MAX_DELAY", 60, not_negative)
         self._timeout = _number(settings, "TIMEOUT", min(30.0, settings.getfloat("DOWNLOAD_TIMEOUT") or 30.0))
@@ -166,6 +178,7 @@ class RobotsMiddleware:
             budget=int(_number(settings, "BUDGET", 100_000_000)),
             database=database or "",
             cost_limit=int(_number(settings, "COST", COST_LIMIT)),
+            exempt=settings.getlist("TEXTING_ROBOTS_EXEMPT"),
             count=self._count,
             found=self._found,
         )
@@ -179,6 +192,7 @@ class RobotsMiddleware:
         name = quote(getattr(crawler.spider or crawler.spidercls, "name", None) or "", safe="")
         path = os.path.join(job, f"robots-waiting-{name}.sqlite3") if job else f"{database}-waiting-{name}" if database else ""
         self._parking = Parking(crawler, limits, path, bool(job), self._ask)
+        self._figures = Figures(crawler, lambda: self._parking.waiting, lambda: self._cache.in_flight)
         self._timers: dict[str, Any] = {}  # of files that are looked for again
         self._waiting: dict[str, list[Deferred[Site]]] = {}  # for a file that is being fetched
         self._paces: WeakValueDictionary[str, Pace] = WeakValueDictionary()
@@ -195,6 +209,8 @@ class RobotsMiddleware:
     def from_crawler(cls, crawler: Any) -> RobotsMiddleware:
         """The middleware of a crawler, or NotConfigured without ``ROBOTSTXT_OBEY``, or ValueError for a setting that is no number or too
         small."""
+        if _is_on(crawler.settings):
+            logger.warning("%s is still on: every robots.txt file is fetched twice. Set it to None in DOWNLOADER_MIDDLEWARES", _SCRAPYS_OWN)
         return cls(crawler)
 
     def robots_request(self, address: str, request: Any) -> Any:
@@ -218,8 +234,9 @@ class RobotsMiddleware:
         site = await self._site(address, request)
         spider = self._crawler.spider
         default = getattr(spider, "user_agent", None) or self._default_user_agent
-        user_agent = _text(self._user_agent or request.headers.get("User-Agent") or default)
-        warn_of_browser(user_agent, spider)
+        user_agent = self._names or _text(self._user_agent or request.headers.get("User-Agent") or default)
+        if isinstance(user_agent, str):
+            warn_of_browser(user_agent, spider)
         decision = self._cache.decide(site, request.url, user_agent)
         if not decision.allowed and site.state is State.UNREACHABLE:
             return await self._after_outage(address, request, site, until)
@@ -235,7 +252,7 @@ class RobotsMiddleware:
             leave_shared_slot(request, address.removesuffix("/robots.txt"), self._is_by_ip, self._slots)
         return None
 
-    def _forbid(self, address: str, request: Any, user_agent: str, decision: Decision) -> None:
+    def _forbid(self, address: str, request: Any, user_agent: Agents, decision: Decision) -> None:
         extra = {"spider": self._crawler.spider}
         error = Forbidden(address, decision.line, decision.problem)
         if decision.problem and (address, decision.problem) not in self._warned:
@@ -316,6 +333,7 @@ class RobotsMiddleware:
         extra = {"spider": self._crawler.spider}
         try:
             response = await self._download(fetch, request)
+            self._crawler.signals.send_catch_log(robots_received, response=response, spider=self._crawler.spider)
             fields = {name: _text(response.headers[name]) for name in _FIELDS if name in response.headers}
             encodings = response.headers.getlist(_ENCODING) or response.headers.getlist("Content-Encoding")
             fields["Content-Encoding"] = _text(b",".join(encodings))
@@ -323,18 +341,18 @@ class RobotsMiddleware:
             if not step.fetch:
                 self._count("response_count")
                 self._count(f"response_status_count/{response.status}")
-            reason: object = f"status {response.status}"
+            reason: str | Exception = f"status {response.status}"
         except IgnoreRequest as refusal:
             step, reason = self._cache.failed(fetch, was_reached=False), refusal
         except Exception as error:
             step, reason = self._cache.failed(fetch, was_reached=not isinstance(error, _NOT_REACHED)), error
             self._count(f"exception_count/{type(error)}")
-            if not _is_of_network(error):
-                logger.error("%s can't be fetched: %s", fetch.address, error, exc_info=True, extra=extra)
-                return step
         for address, site in step.known.items():
-            if site.state is State.UNREACHABLE or site.is_failing:
-                logger.warning("%s can't be fetched: %s", address, reason, extra=extra)
+            if site.is_failing:
+                is_first, is_usual = site.failures == 1, not isinstance(reason, Exception) or _is_of_network(reason)
+                level = logging.DEBUG if not is_first else logging.WARNING if is_usual else logging.ERROR
+                exc_info = reason if is_first and isinstance(reason, Exception) and not is_usual else None
+                logger.log(level, "%s can't be fetched: %s", address, reason, exc_info=exc_info, extra=extra)
         return step
 
     async def _download(self, fetch: Fetch, request: Any) -> Any:
@@ -362,6 +380,7 @@ class RobotsMiddleware:
             for waiter in self._waiting.pop(address, []):
                 waiter.callback(site)
         if known:
+            self._figures.known(known.values())
             self._crawler.stats.max_value("robotstxt/sites_max", len(self._cache))
             self._crawler.stats.max_value("robotstxt/bytes_max", self._cache.size)
 
@@ -405,8 +424,15 @@ class RobotsMiddleware:
         for timer in self._timers.values():
             timer.cancel()
         self._timers.clear()
+        self._figures.close()
         self._parking.close()
         self._cache.close()
+
+
+def _is_on(settings: Any) -> bool:
+    """Whether Scrapy's own middleware is."""
+    places = settings.getwithbase("DOWNLOADER_MIDDLEWARES")
+    return any(place is not None and (key == _SCRAPYS_OWN or key is RobotsTxtMiddleware) for key, place in places.items())
 
 
 def _number(settings: Any, name: str, usual: float, check: Callable[[str, float], float] = positive) -> float:
