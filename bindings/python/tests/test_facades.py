@@ -413,6 +413,10 @@ def test_a_server_that_is_not_there(server):
     assert denied(parser) == ["/a", "/b"]
 
 
+def test_an_empty_sitemap_is_none_for_protego():
+    assert list(Protego.parse("Sitemap:\nSitemap: /s").sitemaps) == ["/s"] and by_urllib("Sitemap:\nSitemap: /s").site_maps() == ["", "/s"]
+
+
 VERSIONS = "User-agent: FerrisBot/1.0\nDisallow: /a\nCrawl-delay: 1\nRequest-rate: 1/5\n\nUser-agent: FerrisBot\nDisallow: /b\nCrawl-delay: 2\n"
 
 

@@ -58,8 +58,8 @@ class Protego:
 
     @property
     def sitemaps(self) -> Iterator[str]:
-        """The sitemaps, in the file's order."""
-        return iter(self._file.robots.sitemaps)
+        """The sitemaps, in the file's order, without empty ones."""
+        return filter(None, self._file.robots.sitemaps)
 
     @property
     def preferred_host(self) -> str | None:
