@@ -2,12 +2,15 @@
 
 import asyncio
 import logging
+import textwrap
+import threading
 import time
+from http.server import BaseHTTPRequestHandler, ThreadingHTTPServer
 
 import package  # noqa: F401 (puts the package on the path)
 import pytest
 
-from texting_robots import UrlError
+from texting_robots import UrlError, aio
 from texting_robots.aio import AsyncRobots, Response
 from texting_robots.cache import RobotsCache
 
@@ -49,6 +52,21 @@ def test_one_request_for_all_that_wait():
     assert server.asked == ["http://a.example/robots.txt", "http://a.example/r"] and asked(robots, "/private/x")[0].line == 2
     with pytest.raises(UrlError):
         asyncio.run(robots.may("ftp://a.example/"))
+
+
+def test_two_sites_with_one_file():
+    """Whose requests are made at the same time; one leads to the other."""
+
+    async def get(address, headers):
+        await asyncio.sleep(0.05 if address.startswith("http:") else 0.2)
+        return Response(301, {"Location": "https://a.example/robots.txt"}, b"") if address.startswith("http:") else file()
+
+    robots = AsyncRobots(get, "FerrisBot")
+
+    async def ask():
+        return await asyncio.gather(*(robots.may(f"{scheme}://a.example{path}") for scheme in ("http", "https") for path in ("/", "/private/x")))
+
+    assert [bool(it) for it in asyncio.run(ask())] == [True, False] * 2 and robots.cache.in_flight == 0
 
 
 def test_a_task_that_is_cancelled_loses_nothing():
@@ -116,3 +134,29 @@ def test_pages_are_as_far_apart_as_the_file_asks_for():
     began = time.monotonic()
     asked(robots, "/", "/a")
     assert 0.2 <= time.monotonic() - began < 3
+
+
+class Site(BaseHTTPRequestHandler):
+    """Sends its file in two parts."""
+
+    def do_GET(self):
+        self.send_response(200)
+        self.end_headers()
+        for part in (b"User-agent: *\n", b"Disallow: /private/\n"):
+            self.wfile.write(part)
+            time.sleep(0.2)
+
+    def log_message(self, *words):
+        pass
+
+
+@pytest.mark.parametrize("path, printed", [("/", "may\n"), ("/private/x", "")])
+def test_the_program_of_the_docstring(capsys, path, printed):
+    pytest.importorskip("aiohttp")
+    server = ThreadingHTTPServer(("127.0.0.1", 0), Site)
+    threading.Thread(target=server.serve_forever, daemon=True).start()
+    program = textwrap.dedent(aio.__doc__.partition("\n")[2])
+    program = program.replace("https://example.com/", f"http://127.0.0.1:{server.server_port}{path}").replace("...  # fetch it", "print('may')")
+    exec(program, {})
+    server.shutdown()
+    assert capsys.readouterr().out == printed

@@ -188,7 +188,7 @@ def test_a_redirect_to_a_file_that_is_known_or_on_its_way(caches):
     assert asked == [HTTP] and (site.packed, site.expires, site.address) == (known.packed, known.expires, HTTP)
     cache = caches()
     one, other = cache.look(HTTP).fetch, cache.look(HTTPS).fetch
-    assert cache.received(one, *moved(HTTPS)) == ({}, None)
+    assert cache.received(one, *moved(HTTPS)) == cache.failed(one) == ({}, None)
     assert set(cache.received(other, *file()).known) == {HTTP, HTTPS}
     cache = caches()
     one, other = cache.look(HTTP).fetch, cache.look(HTTPS).fetch

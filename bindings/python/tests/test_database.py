@@ -1,6 +1,9 @@
 """The database of a cache of robots.txt files: what it keeps, for the next start and for several processes, and what becomes of faults."""
 
+import signal
 import sqlite3
+import subprocess
+import sys
 import time
 import zlib
 from concurrent.futures import ThreadPoolExecutor
@@ -9,7 +12,7 @@ import package
 import pytest
 from test_cache import A, BUSY, CLOSED, DAY, HOUR, HTTP, HTTPS, RULES, caches, fetched, file  # noqa: F401 (a fixture)
 
-from texting_robots.cache import Action, Look, State
+from texting_robots.cache import Action, Look, RobotsCache, State
 
 
 def test_a_database_keeps_what_a_server_answered(caches, tmp_path):
@@ -184,6 +187,22 @@ def test_a_request_that_a_process_does_not_make_any_more(caches, tmp_path):
     assert other.look(A).fetch
 
 
+ENDS = """
+import os, signal, sys
+from texting_robots.cache import RobotsCache
+assert RobotsCache(database=sys.argv[1]).look("http://a.example/").fetch
+os.kill(os.getpid(), signal.SIGKILL)
+"""
+
+
+def test_a_request_of_a_process_that_was_killed(tmp_path):
+    """Another one makes it, as soon as that process isn't there any more."""
+    path = tmp_path / "robots.sqlite3"
+    assert subprocess.run([sys.executable, "-c", ENDS, path], env=package.WITH_PACKAGE).returncode == -signal.SIGKILL
+    with RobotsCache(database=path) as cache, RobotsCache(database=path) as other:
+        assert cache.look(A).fetch and other.look(A)[0] is Action.WAIT
+
+
 FORKED = """
 import os, sys
 from texting_robots.cache import Action, RobotsCache
@@ -197,8 +216,10 @@ for name in "abc":
     children.append(os.fork())
     if not children[-1]:
         fetch(name, 200)
+        cache.close()
         os._exit(0)
 fetch("parent", 200)
+cache.close()
 print([os.waitpid(child, 0)[1] for child in children])
 """
 
@@ -209,6 +230,22 @@ def test_a_fork_with_a_database(tmp_path):
     found = sqlite3.connect(path)
     assert found.execute("PRAGMA integrity_check").fetchone() == ("ok",)
     assert found.execute("SELECT count(*) FROM sites").fetchone() == (850,)
+
+
+TOGETHER = """
+import sys, time
+from texting_robots.cache import RobotsCache
+time.sleep(max(0, float(sys.argv[2]) - time.time()))
+with RobotsCache(database=sys.argv[1]) as cache:
+    print(sum(bool((fetch := cache.look(f"http://{number}.example").fetch) and cache.received(fetch, 200, {}, b"")) for number in range(300)))
+"""
+
+
+def test_processes_that_start_at_the_same_time(tmp_path):
+    """Fetch each file once between them, nearly."""
+    words = [sys.executable, "-c", TOGETHER, tmp_path / "robots.sqlite3", str(time.time() + 3)]
+    several = [subprocess.Popen(words, env=package.WITH_PACKAGE, stdout=subprocess.PIPE, stderr=subprocess.STDOUT, text=True) for _ in range(4)]
+    assert 300 <= sum(int(it.communicate(timeout=120)[0]) for it in several) <= 312  # as a lock costs an entry on a busy machine
 
 
 def test_the_first_file_for_which_there_is_no_room_is_a_warning(caches, tmp_path, caplog):

@@ -37,7 +37,7 @@ OUTAGES = {
     "then no file": ([FAILS, answers(404)], WAITS, 2, PAGES),
     "then all is denied": ([FAILS, answers(200, CLOSED)], WAITS, 2, []),
     "with retries by Scrapy": ([FAILS, answers(200)], WAITS | {"RETRY_ENABLED": True}, 2, PUBLIC),
-    "for longer than requests may wait": ([FAILS], WAITS | {"TEXTING_ROBOTS_RETRY": 1.5, "TEXTING_ROBOTS_PARKED_SECONDS": 4}, 3, []),
+    "for longer than requests may wait": ([FAILS], WAITS | {"TEXTING_ROBOTS_RETRY": 3, "TEXTING_ROBOTS_PARKED_SECONDS": 8}, 3, []),
     "for longer, by the server": ([answers(503, b"", **{"Retry-After": "9"})], WAITS | {"TEXTING_ROBOTS_PARKED_SECONDS": 5}, 1, []),
     "with asyncio": ([FAILS, answers(200)], WAITS | {"TWISTED_REACTOR": "twisted.internet.asyncioreactor.AsyncioSelectorReactor"}, 2, PUBLIC),
 }
@@ -279,8 +279,10 @@ def test_a_file_of_requests_runs_no_code(tmp_path, capsys, caplog):
     robots, crawler, *_ = waiting(2, JOBDIR=str(tmp_path), TEXTING_ROBOTS_PARKED=0)
     rows = robots._parking._rows
     rows._execute("UPDATE requests SET request = ?", (pickle.dumps(Evil()),))
-    assert rows.first("http://a.example/robots.txt") is None and capsys.readouterr().out == ""
-    assert "can't be read: builtins.print" in caplog.text
+    robots._cache._clock, crawler.engine.answer = lambda: time.time() + 301, file(RULES)
+    robots._parking._ask_again("http://a.example/robots.txt")
+    assert capsys.readouterr().out == "" and caplog.text.count("can't be read: builtins.print") == 3
+    assert crawler.engine.scheduled == [] and crawler.stats.get_value("robotstxt/lost") == 2 and rows.close() == 0
 
 
 def test_what_can_not_be_written_holds_a_place():
@@ -335,6 +337,16 @@ def test_an_idle_spider_stays_open_for_a_time():
     with pytest.raises(DontCloseSpider):
         robots._parking._spider_idle()
     assert [type(it[0]) for it in outcomes] == [Unreachable] * 2 and robots._parking._spider_idle() is None
+
+
+def test_an_idle_time_begins_again_when_the_spider_was_busy():
+    robots, *_ = waiting(1, TEXTING_ROBOTS_IDLE_SECONDS=100)
+    with pytest.raises(DontCloseSpider):
+        robots._parking._spider_idle()
+    robots._parking._idle_since -= 99
+    for meta, begun in [({"texting_robots": True}, True), ({}, False)]:
+        robots._reached_downloader(Request("http://b.example/", meta=meta))
+        assert bool(robots._parking._idle_since) is begun
 
 
 def test_requests_that_have_waited_for_too_long():

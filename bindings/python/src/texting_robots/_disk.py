@@ -21,6 +21,7 @@ _KEPT: Final = 30 * 86_400  # seconds after it was asked for last, for a file wh
 _FORMAT: Final = 2
 _MOST_PENDING: Final = 100
 _MOST_KEPT: Final = 10_000  # while another program has a lock
+_START: Final = 10.0  # for so many seconds a start or an end waits for others
 _PAUSE: Final = 1.0  # seconds between two tries to write what is pending
 _SITES: Final = """CREATE TABLE IF NOT EXISTS sites (address TEXT PRIMARY KEY, state INTEGER, expires REAL, refresh REAL,
     failing_since REAL, failures INTEGER, was_reached INTEGER, source TEXT, etag TEXT, packed BLOB) WITHOUT ROWID"""
@@ -31,6 +32,7 @@ _CLAIM: Final = """INSERT INTO leases VALUES (?1, ?2, ?3)
     ON CONFLICT (address) DO UPDATE SET until = ?2, owner = ?3 WHERE owner = ?3 OR until <= ?4"""
 
 
+_PROCESS: Final = 32  # the bits of an owner below those of its process
 _CAN_NOT: Final = re.compile("unable to open|readonly|permission", re.I)
 _INHERITED: Final[list[sqlite3.Connection]] = []
 
@@ -111,9 +113,14 @@ class Disk:
         return changed
 
     def claim(self, address: str, now: float, until: float) -> bool:
-        """Whether this process may make the request for a site's file: until this time no other one does. Where that can't be found out, it
-        may."""
-        return self.write((_CLAIM, (address, until, self._owner, now))) != 0
+        """Whether this process may make the request for a site's file: until this time, or its end, no other one does. Where that can't be
+        found out, it may."""
+        if self.write((_CLAIM, (address, until, self._owner, now))) != 0:
+            return True
+        rows = self._tried("SELECT owner FROM leases WHERE address = ?", (address,))
+        if not rows or _is_running(rows[0][0] >> _PROCESS):
+            return False
+        return self.write(("UPDATE leases SET until = ?, owner = ? WHERE address = ? AND owner = ?", (until, self._owner, address, *rows[0]))) != 0
 
     def release(self, address: str) -> None:
         """Ends the lease for a request that isn't made."""
@@ -122,6 +129,7 @@ class Disk:
     def close(self) -> None:
         """Writes what is pending, ends all leases and closes the database, in which nothing is kept from now on."""
         self._locked_until = 0.0
+        self._tried(f"PRAGMA busy_timeout = {_START * 1000:.0f}", ())
         self.write(("DELETE FROM leases WHERE owner = ?", (self._owner,)))
         if self._connection:
             self._connection.close()
@@ -129,12 +137,14 @@ class Disk:
 
     def _open(self, now: float) -> None:
         """Another process, as after a fork, has a connection of its own, and its own leases."""
-        self._process, self._owner = os.getpid(), int.from_bytes(os.urandom(7), "big")
+        self._process = os.getpid()
+        self._owner = self._process << _PROCESS | int.from_bytes(os.urandom(4), "big")
         try:
-            self._connection = _connection(self._path, now)
+            self._connection = _patient_connection(self._path, now)
         except sqlite3.DatabaseError as error:
             if _is_locked(error):
-                return logger.warning("the database of robots.txt files isn't used, as another program has it: %s", error)
+                logger.warning("the database of robots.txt files isn't used, as another program has it: %s", error)
+                return
             if isinstance(error, sqlite3.OperationalError) and _CAN_NOT.search(str(error)):
                 raise
             aside = f"{self._path}.damaged"
@@ -142,7 +152,7 @@ class Disk:
             for end in ("-wal", "-shm", ""):
                 if os.path.exists(self._path + end):
                     os.replace(self._path + end, aside + end)
-            self._connection = _connection(self._path, now)
+            self._connection = _patient_connection(self._path, now)
 
     def _connected(self) -> sqlite3.Connection | None:
         if self._connection and self._process != os.getpid():
@@ -174,13 +184,36 @@ class Disk:
         self._connection = None
 
 
+def _is_running(process: int) -> bool:
+    """Whether there is a process with this number. One in another container isn't found, which costs a request."""
+    try:
+        os.kill(process, 0)
+    except ProcessLookupError:
+        return False
+    except OSError:
+        pass  # of another user
+    return True
+
+
 def _is_locked(error: sqlite3.Error) -> bool:
     return isinstance(error, sqlite3.OperationalError) and ("locked" in str(error) or "busy" in str(error))
 
 
+def _patient_connection(path: str, now: float) -> sqlite3.Connection:
+    """The database, as soon as no other process that starts, too, has it: sqlite waits for some locks and not for others."""
+    end = time.monotonic() + _START
+    while True:
+        try:
+            return _connection(path, now)
+        except sqlite3.OperationalError as error:
+            if not _is_locked(error) or time.monotonic() > end:
+                raise
+        time.sleep(_START / 500)
+
+
 def _connection(path: str, now: float) -> sqlite3.Connection:
     """Opens or makes the database, and takes over what is in one of the format before. It may be used from any thread."""
-    connection = sqlite3.connect(path, timeout=10, isolation_level=None, check_same_thread=False)
+    connection = sqlite3.connect(path, timeout=_START, isolation_level=None, check_same_thread=False)
     try:
         (found,) = connection.execute("PRAGMA user_version").fetchone()
         if found not in (0, 1, _FORMAT):

@@ -182,10 +182,13 @@ class Parking:
         slot, place = _engine_slot(self._crawler.engine), self._places.get(address)
         given = self._open_rows().give(address, until) if slot and not slot.closing else []
         for row, its_until, request in given:
-            request.dont_filter = True
-            request.meta[_ROW] = (row, its_until)
-            self._crawler.stats.inc_value("robotstxt/resumed")
-            self._crawler.engine.crawl(request)
+            self._crawler.stats.inc_value("robotstxt/resumed" if request else "robotstxt/lost")
+            if request:
+                request.dont_filter = True
+                request.meta[_ROW] = (row, its_until)
+                self._crawler.engine.crawl(request)
+            else:
+                self._open_rows().take(row)
         if place:
             place.rows = max(0, place.rows - len(given))
         if given:
@@ -248,9 +251,8 @@ class Parking:
 
     def _ask_again(self, address: str) -> None:
         place = self._places.get(address)
-        request = place and (place.requests[0].request if place.requests else self._open_rows().first(address))
-        if request:
-            self._ask(address, request)
+        if place:
+            self._ask(address, place.requests[0].request if place.requests else self._open_rows().first(address))
 
     def _watch(self) -> None:
         """Looks from time to time whether the spider is being closed, of which there is no signal, and which waits for all requests."""

@@ -160,13 +160,14 @@ class Robot:
         return _verdict(self._result(url))
 
     def verdict_within(self, url: str, budget: int) -> Verdict:
-        """As that of `Robots`."""
+        """The verdict for a URL, for a file that may be hostile: before a rule that might cost more than is left of the budget, it raises
+        `TooCostlyError` (see `Robots.verdict_within`)."""
         text, result = _encoded(url, "url"), ffi.new("int64_t *")
         _check(lib.robot_query_within(self._opened, text, len(text), budget, result), self._opened)
         return _verdict(result[0])
 
     def cost(self, length: int) -> int:
-        """As that of `Robots`."""
+        """A budget that suffices for any URL whose path, query and fragment, escaped, have this length."""
         cost = ffi.new("uint64_t *")
         _check(lib.robot_cost(self._opened, length, cost), self._opened)
         return int(cost[0])

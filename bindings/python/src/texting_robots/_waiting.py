@@ -10,6 +10,7 @@ import sqlite3
 import time
 from typing import Any, Final
 
+from scrapy.http import Request
 from scrapy.utils.request import request_from_dict
 
 logger = logging.getLogger(__name__)
@@ -63,20 +64,21 @@ class WaitingRequests:
         return done is None or done.rowcount > 0
 
     def first(self, address: str) -> Any:
-        """One of the requests that wait for this file, or None."""
+        """One of the requests that wait for this file, or another one to its site if that can't be read."""
         rows = self._execute("SELECT request FROM requests WHERE address = ? LIMIT 1", (address,))
         found = rows.fetchone() if rows else None
-        return self._request(found[0]) if found else None
+        return (found and self._request(found[0])) or Request(address)
 
     def give(self, address: str, until: float) -> list[tuple[int, float, Any]]:
-        """Some of the requests that wait for this file, and do so until this time at the latest, with their rows and times."""
+        """Some of the requests that wait for this file, and do so until this time at the latest, with their rows and times; None for one that
+        can't be read."""
         rows = self._execute(
             "SELECT row, until, request FROM requests WHERE address = ? AND NOT is_given AND until <= ? LIMIT ?", (address, until, _BATCH)
         )
         found = rows.fetchall() if rows else []
         for row, _, _ in found:
             self._execute("UPDATE requests SET is_given = 1 WHERE row = ?", (row,))
-        return [(row, time_, request) for row, time_, packed in found if (request := self._request(packed))]
+        return [(row, its_until, self._request(packed)) for row, its_until, packed in found]
 
     def counts(self) -> dict[str, int]:
         """How many requests wait for each file."""

@@ -9,7 +9,11 @@
 
             async def get(address, headers):
                 async with session.get(address, headers=headers, allow_redirects=False) as response:
-                    body = await response.content.read(2 * FILE_LIMIT)
+                    body = b""
+                    async for part in response.content.iter_any():
+                        body += part
+                        if len(body) > 2 * FILE_LIMIT:  # no more than FILE_LIMIT bytes count, unpacked
+                            break
                     return Response(response.status, response.headers, body)
 
             robots = AsyncRobots(get, "FerrisBot/1.0")
@@ -115,8 +119,9 @@ class AsyncRobots:
                 request, next_one = next_one, None
                 known: dict[str, Site] = {}
                 try:
-                    known, next_one = self.cache.received(request, *await self._get(request.address, request.headers))
-                    reason: object = "its server fails"
+                    response = await self._get(request.address, request.headers)
+                    reason = f"status {response.status}"
+                    known, next_one = self.cache.received(request, *response)
                 except Exception as error:
                     known, reason = self.cache.failed(request).known, repr(error)
                 for address, site in known.items():

@@ -67,7 +67,8 @@ class RobotsCache:
     comparisons. Of hosts in ``exempt``, such as your own, no file is fetched, and everything may be.
 
     Several processes of one machine may share a database, but not in a network's file system. One of them then fetches a file, and the
-    others wait for it. A lock of another program is waited for 0.2 seconds. A file that is no such database is renamed, and begun anew.
+    others wait for it. A lock of another program is waited for 0.2 seconds, and then not for a second; when the database is opened or closed,
+    it is waited for 10 seconds. A file that is no such database is renamed, and begun anew.
 
     ``count`` is called with the name of an event: ``parsed`` again from compressed bytes, ``evicted`` from memory, ``read`` from the
     database, ``stale`` for a file that counts on, ``not_modified``, ``unanswered`` for a request without an answer. ``found`` is called with
@@ -215,7 +216,7 @@ class RobotsCache:
         return moment - now
 
     def close(self) -> None:
-        """Closes the database, in which nothing is kept from now on."""
+        """Writes what isn't in the database yet, and closes it: nothing is kept there from now on. Without this, the last second may be missing."""
         if self._disk:
             self._disk.close()
 
@@ -297,6 +298,7 @@ class RobotsCache:
             for it, redirects in flight.redirects.items():
                 self._join(other, it, redirects, flight.before[it])
             other.reached |= flight.reached
+            flight.redirects, flight.before = {}, {}  # nothing waits for this one any more
             return Step(known, None)
         if site and now < site.refresh:
             for it in list(flight.redirects):

@@ -62,6 +62,7 @@ _WAY_OUT: Final = ("proxy", "_auth_proxy", "bindaddress")  # in the meta of a re
 _ENCODING: Final = "Robots-Content-Encoding"  # of a body that Scrapy mustn't unpack, as it would do so without a limit
 _FIELDS: Final = ("Location", "ETag", "Retry-After", "Cache-Control")
 _NOT_REACHED: Final = (DNSLookupError, UnknownHostError, ConnectionRefusedError, NoRouteError)
+_MAX_DELAY: Final = ("MAX_DELAY", 60)
 _WARNINGS_KEPT: Final = 10_000
 
 
@@ -132,8 +133,9 @@ class RobotsMiddleware:
     - ``TEXTING_ROBOTS_IDLE_SECONDS = 120``: so many seconds an otherwise idle spider stays open while requests wait, but never for such a host.
     - ``TEXTING_ROBOTS_RETRY = 300``: at most so many seconds after the server failed, the file is asked for again, unless it says when
       (Retry-After): after 5, 10, 20 and so on, up to a tenth longer by chance.
-    - ``TEXTING_ROBOTS_ANSWER_WITHIN = 300``: after so many seconds a request for a file counts as failed whatever comes, as that of another
-      process with the same database.
+    - ``TEXTING_ROBOTS_ANSWER_WITHIN = 1260``: after so many seconds a request for a file counts as failed whatever comes, as that of another
+      process with the same database. It is 300 and the longest time that a request waits in a slot: the longest delay for each of the
+      ``CONCURRENT_REQUESTS``.
     - ``TEXTING_ROBOTS_AFTER_30_DAYS = "last file"``: what counts when a server has failed for 30 days: the file before, if there was one;
       ``"no file"``, so everything may be fetched; or ``"closed"``.
     - ``TEXTING_ROBOTS_TIMEOUT = 30``: for so many seconds an answer is waited for, or as long as ``DOWNLOAD_TIMEOUT`` says if that is shorter.
@@ -162,7 +164,7 @@ class RobotsMiddleware:
         self._user_agent = settings.get("ROBOTSTXT_USER_AGENT")
         self._names = tuple(self._user_agent) if isinstance(self._user_agent, (list, tuple)) else ()
         self._default_user_agent = settings.get("USER_AGENT", "Scrapy")
-        self._max_delay = _number(settings, "MAX_DELAY", 60, not_negative)
+        self._max_delay = _number(settings, *_MAX_DELAY, not_negative)
         self._timeout = _number(settings, "TIMEOUT", min(30.0, settings.getfloat("DOWNLOAD_TIMEOUT") or 30.0))
         self._is_by_ip = settings.getint("CONCURRENT_REQUESTS_PER_IP") > 0
         self._slots = frozenset(settings.getdict("DOWNLOAD_SLOTS"))
@@ -170,28 +172,10 @@ class RobotsMiddleware:
         if job:
             os.makedirs(job, exist_ok=True)
             database = os.path.join(job, "robots.sqlite3") if database is None else database
-        self._cache = RobotsCache(
-            lifetime=_number(settings, "LIFETIME", LIFETIME),
-            retry=_number(settings, "RETRY", 300),
-            answer_within=_number(settings, "ANSWER_WITHIN", 300),
-            after_30_days=settings.get("TEXTING_ROBOTS_AFTER_30_DAYS", "last file"),
-            budget=int(_number(settings, "BUDGET", 100_000_000)),
-            database=database or "",
-            cost_limit=int(_number(settings, "COST", COST_LIMIT)),
-            exempt=settings.getlist("TEXTING_ROBOTS_EXEMPT"),
-            count=self._count,
-            found=self._found,
-        )
-        limits = Limits(
-            int(_number(settings, "PARKED", 1000, not_negative)),
-            _number(settings, "PARKED_SECONDS", 86_400, not_negative),
-            int(_number(settings, "DEAD_PARKED", 10, not_negative)),
-            int(_number(settings, "DEAD_TRIES", 3)),
-            _number(settings, "IDLE_SECONDS", 120, not_negative),
-        )
+        self._cache = _cache(settings, database or "", self._count, self._found)
         name = quote(getattr(crawler.spider or crawler.spidercls, "name", None) or "", safe="")
         path = os.path.join(job, f"robots-waiting-{name}.sqlite3") if job else f"{database}-waiting-{name}" if database else ""
-        self._parking = Parking(crawler, limits, path, bool(job), self._ask)
+        self._parking = Parking(crawler, _limits(settings), path, bool(job), self._ask)
         self._figures = Figures(crawler, lambda: self._parking.waiting, lambda: self._cache.in_flight)
         self._timers: dict[str, Any] = {}  # of files that are looked for again
         self._waiting: dict[str, list[Deferred[Site]]] = {}  # for a file that is being fetched
@@ -394,6 +378,8 @@ class RobotsMiddleware:
     # ---- signals of Scrapy
 
     def _reached_downloader(self, request: Any) -> None:
+        if _MARK not in request.meta:
+            self._parking.busy()
         pace = self._pace_of.get(request) or self._paces.get(_address(request))
         if pace:
             self._pace_of[request] = pace
@@ -439,6 +425,33 @@ def _number(settings: Any, name: str, usual: float, check: Callable[[str, float]
     """The number of this setting."""
     name = f"TEXTING_ROBOTS_{name}"
     return check(name, settings.getfloat(name, usual))
+
+
+def _cache(settings: Any, database: str, count: Callable[[str], object], found: Callable[[str, list[str]], object]) -> RobotsCache:
+    """The cache that the settings ask for."""
+    return RobotsCache(
+        lifetime=_number(settings, "LIFETIME", LIFETIME),
+        retry=_number(settings, "RETRY", 300),
+        answer_within=_number(settings, "ANSWER_WITHIN", 300 + settings.getint("CONCURRENT_REQUESTS") * _number(settings, *_MAX_DELAY, not_negative)),
+        after_30_days=settings.get("TEXTING_ROBOTS_AFTER_30_DAYS", "last file"),
+        budget=int(_number(settings, "BUDGET", 100_000_000)),
+        database=database,
+        cost_limit=int(_number(settings, "COST", COST_LIMIT)),
+        exempt=settings.getlist("TEXTING_ROBOTS_EXEMPT"),
+        count=count,
+        found=found,
+    )
+
+
+def _limits(settings: Any) -> Limits:
+    """How many requests wait, and for how long."""
+    return Limits(
+        int(_number(settings, "PARKED", 1000, not_negative)),
+        _number(settings, "PARKED_SECONDS", 86_400, not_negative),
+        int(_number(settings, "DEAD_PARKED", 10, not_negative)),
+        int(_number(settings, "DEAD_TRIES", 3)),
+        _number(settings, "IDLE_SECONDS", 120, not_negative),
+    )
 
 
 def _address(request: Any) -> str:
