@@ -83,7 +83,7 @@ def test_a_request_without_an_answer_counts_as_failed(caches):
     caches.clock.now += 299
     assert cache.look(HTTPS).site.state is cache.look(HTTP).site.state is State.UNREACHABLE
     assert cache.look(A)[0] is Action.FETCH and caches.events == {"unanswered": 2}
-    assert caches(answer_within=7).look(A).fetch and cache.size == 2 * 740 + 740 + 570
+    assert caches(answer_within=7).look(A).fetch and cache.size == 2 * 740 + 740 + 610
 
 
 def test_a_refresh_without_an_answer_counts_as_failed(caches):

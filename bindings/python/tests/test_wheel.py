@@ -143,14 +143,28 @@ def test_mypy_is_strict(tmp_path):
 CALLER = """
 from array import array
 from mmap import mmap
-from typing import Iterator, List, Optional, Tuple, Type
+from typing import Iterator, List, Mapping, Optional, Tuple, Type
 from urllib.robotparser import RequestRate, RobotFileParser
 from texting_robots import LIFETIME, REDIRECT_LIMIT, AgentError, Matrix, Meaning, OverlongRuleError, Robots, RobotsError, TooCostlyError, UrlError
 from texting_robots import Verdict, meaning, product_token, robots_url
 from texting_robots import protego, robotparser
+from texting_robots.aio import AsyncRobots, Response
+from texting_robots.cache import Decision, Fetch, RobotsCache, Site
 
 class Own(Robots):
     pass
+
+async def get(address: str, headers: Mapping[str, str]) -> Response:
+    return Response(200, {"ETag": "1"}, b"")
+
+async def may(url: str) -> float:
+    with RobotsCache(database="x", after_30_days="no file", exempt=["a.example"]) as cache:
+        decision: Decision = await AsyncRobots(get, ["A", "B"], cache, patience=9).may(url)
+        fetch: Optional[Fetch] = cache.look(url).fetch
+        if decision and fetch:
+            known = {**cache.received(fetch, 200, [(b"ETag", b"1")], b"").known, **cache.failed(fetch, was_reached=False).known}
+            return sum(cache.next_request(site, ("A", "B")) + site.failing_since for site in known.values())
+        return 0 if decision.line else 1
 
 robots: Robots = Robots(b"")
 allowed: bool = robots.allowed(robots_url("https://example.com/"), product_token("a/1"))

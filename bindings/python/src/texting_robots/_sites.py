@@ -8,6 +8,7 @@ from typing import Final, NamedTuple
 from ._disk import Record
 from ._rules import Rules
 
+_NONE: Final[frozenset[str]] = frozenset()
 _SITE_BYTES: Final = 740  # of a site without its file; measured, with what is lost between objects
 
 
@@ -146,4 +147,4 @@ class Flight:
         self.since, self.until = since, until
         self.redirects: dict[str, int] = {}
         self.before: dict[str, Site | None] = {}
-        self.reached: set[str] = set()
+        self.reached = _NONE

@@ -5,6 +5,8 @@
         "scrapy.downloadermiddlewares.robotstxt.RobotsTxtMiddleware": None,
         "texting_robots.middleware.RobotsMiddleware": 100,
     }
+
+From Scrapy 2.10 on, ``ADDONS = {"texting_robots.scrapy.RobotsAddon": 100}`` is meant to do the same, but that hasn't been tried.
 """
 
 from __future__ import annotations
