@@ -123,7 +123,7 @@ class AsyncRobots:
                     reason = f"status {response.status}"
                     known, next_one = self.cache.received(request, *response)
                 except Exception as error:
-                    known, reason = self.cache.failed(request).known, repr(error)
+                    known, reason = self.cache.failed(request).known, str(error) or type(error).__name__
                 for address, site in known.items():
                     if site.is_failing:
                         logger.log(logging.WARNING if site.failures == 1 else logging.DEBUG, "%s can't be fetched: %s", address, reason)

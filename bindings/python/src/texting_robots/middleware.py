@@ -127,7 +127,8 @@ class RobotsMiddleware:
     ``ROBOTSTXT_PARSER`` isn't used. The first failure of a site is a warning, and later ones are for debugging. Settings of its own, with
     their defaults:
 
-    - ``TEXTING_ROBOTS_PARKED = 1000``: so many requests wait in memory for sites whose files can't be fetched, and others on disk.
+    - ``TEXTING_ROBOTS_PARKED = 1000``: so many requests wait in memory for sites whose files can't be fetched, and others on disk. With 0 all
+      are on disk, and a crash loses none of them.
     - ``TEXTING_ROBOTS_PARKED_SECONDS = 86400``: each waits for at most so many seconds, in a JOBDIR from each start on. 0 lets none wait.
     - ``TEXTING_ROBOTS_DEAD_PARKED = 10``: so many in memory for a host to which there never was a connection, as its name is unknown or it
       refuses them.
