@@ -37,12 +37,12 @@ OUTAGES = {
     "then no file": ([FAILS, answers(404)], WAITS, 2, PAGES),
     "then all is denied": ([FAILS, answers(200, CLOSED)], WAITS, 2, []),
     "with retries by Scrapy": ([FAILS, answers(200)], WAITS | {"RETRY_ENABLED": True}, 2, PUBLIC),
-    "for longer than requests may wait": ([FAILS], WAITS | {"TEXTING_ROBOTS_RETRY": 3, "TEXTING_ROBOTS_PARKED_SECONDS": 8}, 3, []),
+    "for longer than requests may wait": ([FAILS], WAITS | {"TEXTING_ROBOTS_RETRY": 3, "TEXTING_ROBOTS_PARKED_SECONDS": 8.7}, 3, []),
     "for longer, by the server": ([answers(503, b"", **{"Retry-After": "9"})], WAITS | {"TEXTING_ROBOTS_PARKED_SECONDS": 5}, 1, []),
     "with asyncio": ([FAILS, answers(200)], WAITS | {"TWISTED_REACTOR": "twisted.internet.asyncioreactor.AsyncioSelectorReactor"}, 2, PUBLIC),
 }
 MANY = [f"/public/{number}" for number in range(25)]
-SHORT_LIFE = WAITS | {"TEXTING_ROBOTS_LIFETIME": 3, "TEXTING_ROBOTS_RETRY": 30, "TEXTING_ROBOTS_TIMEOUT": 8, "DOWNLOAD_DELAY": 0.2, "CONCURRENT_REQUESTS": 2}
+SHORT_LIFE = WAITS | {"TEXTING_ROBOTS_LIFETIME": 6, "TEXTING_ROBOTS_RETRY": 30, "TEXTING_ROBOTS_TIMEOUT": 8, "DOWNLOAD_DELAY": 0.2, "CONCURRENT_REQUESTS": 2}
 
 
 @pytest.fixture(scope="module")
@@ -94,7 +94,7 @@ def test_no_page_waits_while_a_file_is_fetched_again(crawls):
     """The server hangs for longer than the file's lifetime."""
     crawl = crawls[0]["a refresh"]
     pages = [moment for moment, path in crawl.got if path != "/robots.txt"]
-    assert len(pages) == 26 and crawl.paths().count("/robots.txt") == 2 and max(gaps(pages)) < 5
+    assert len(pages) == 26 and crawl.paths().count("/robots.txt") >= 2 and max(gaps(pages)) < 5
 
 
 def test_a_site_with_a_delay_slows_down_no_other_in_its_slot(crawls):

@@ -10,6 +10,7 @@ import re
 import sqlite3
 import time
 from typing import Any, Final, NamedTuple, Union
+from weakref import WeakSet
 
 logger = logging.getLogger(__name__)
 
@@ -34,7 +35,6 @@ _CLAIM: Final = """INSERT INTO leases VALUES (?1, ?2, ?3)
 
 _PROCESS: Final = 32  # the bits of an owner below those of its process
 _CAN_NOT: Final = re.compile("unable to open|readonly|permission", re.I)
-_INHERITED: Final[list[sqlite3.Connection]] = []
 
 
 class Record(NamedTuple):
@@ -64,7 +64,9 @@ class Disk:
         self._due = math.inf  # when what is pending is to be written, and
         self._locked_until = 0.0  # until when nothing is tried: both by the clock that can't be set
         self._connection: sqlite3.Connection | None = None
+        self._is_used = True
         self._open(now)
+        _OPEN.add(self)
 
     def get(self, address: str) -> Record | None:
         """What was kept of the site with this address."""
@@ -75,7 +77,7 @@ class Disk:
     def put(self, record: Record, is_last: bool) -> None:
         """Keeps a site in place of what was kept of it, and ends the lease for its request. It is written with others, at once if it is the
         last one for now."""
-        if not self._connection:
+        if not self._is_used:
             return
         if len(self._pending) >= _MOST_KEPT:
             del self._pending[next(iter(self._pending))]
@@ -131,12 +133,16 @@ class Disk:
         self._locked_until = 0.0
         self._tried(f"PRAGMA busy_timeout = {_START * 1000:.0f}", ())
         self.write(("DELETE FROM leases WHERE owner = ?", (self._owner,)))
+        self.pause()
+        self._is_used = False
+
+    def pause(self) -> None:
+        """Closes the database until it is used again, here or in a child: a connection must not be open during a fork, nor lead to another."""
         if self._connection:
             self._connection.close()
         self._connection = None
 
     def _open(self, now: float) -> None:
-        """Another process, as after a fork, has a connection of its own, and its own leases."""
         self._process = os.getpid()
         self._owner = self._process << _PROCESS | int.from_bytes(os.urandom(4), "big")
         try:
@@ -144,6 +150,7 @@ class Disk:
         except sqlite3.DatabaseError as error:
             if _is_locked(error):
                 logger.warning("the database of robots.txt files isn't used, as another program has it: %s", error)
+                self._is_used = False
                 return
             if isinstance(error, sqlite3.OperationalError) and _CAN_NOT.search(str(error)):
                 raise
@@ -155,10 +162,15 @@ class Disk:
             self._connection = _patient_connection(self._path, now)
 
     def _connected(self) -> sqlite3.Connection | None:
-        if self._connection and self._process != os.getpid():
-            _INHERITED.append(self._connection)  # to close it is the parent's affair, as it is to write what is pending
-            self._pending.clear()
-            self._open(0)
+        if self._connection is None and self._is_used:
+            try:
+                if self._process != os.getpid():
+                    self._pending.clear()  # the parent's
+                    self._open(0)
+                else:
+                    self._connection = _patient_connection(self._path, 0)
+            except sqlite3.Error as error:
+                self._end(error)
         return self._connection
 
     def _tried(self, statement: str, values: tuple[object, ...]) -> list[Any]:
@@ -179,9 +191,23 @@ class Disk:
             if self._connection.in_transaction:
                 self._connection.execute("ROLLBACK")
             return
+        self._end(error)
+
+    def _end(self, error: sqlite3.Error) -> None:
         logger.warning("the database of robots.txt files fails, and is used no more: %s", error)
-        self._connection.close()
-        self._connection = None
+        self.pause()
+        self._is_used = False
+
+
+_OPEN: Final[WeakSet[Disk]] = WeakSet()
+
+
+def _pause_all() -> None:
+    for disk in list(_OPEN):
+        disk.pause()
+
+
+os.register_at_fork(before=_pause_all)
 
 
 def _is_running(process: int) -> bool:

@@ -234,7 +234,10 @@ class Robot:
 
     def _result(self, url: str) -> int:
         """0 or the line that allows the URL, or minus the line that denies it."""
-        text = _encoded(url, "url")
+        try:
+            text = _encode(url)
+        except TypeError:
+            raise _wrong("url", url) from None
         result = _query(self._opened, text, len(text))
         if result <= _LAST_FAILURE:
             self._fails(result)

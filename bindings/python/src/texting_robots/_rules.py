@@ -39,6 +39,17 @@ OUT_OF_MEMORY: Final = Decision(False, None, "out of memory")  # made in advance
 _TOO_COSTLY: Final = Decision(False, None, "a verdict may take too long")
 
 
+_DECISIONS: Final[dict[int, Decision]] = {}  # those that were made, by what the library returns
+_DECISIONS_KEPT: Final = 10_000
+
+
+def _decision(result: int) -> Decision:
+    decision = Decision(result >= 0, abs(result) or None)
+    if len(_DECISIONS) < _DECISIONS_KEPT:
+        _DECISIONS[result] = decision
+    return decision
+
+
 class Rules:
     """The rules of a file, for crawlers by their names."""
 
@@ -58,7 +69,8 @@ class Rules:
             if is_costly or len(url) > _URL_CHARACTERS:
                 return Decision(*robot.verdict_within(url, self._limit))
             result = robot._result(url)
-            return Decision(result >= 0, abs(result) or None)
+            decision = _DECISIONS.get(result)
+            return _decision(result) if decision is None else decision
         except OverlongRuleError as error:
             return Decision(False, error.line, str(error))
         except TooCostlyError:

@@ -43,7 +43,7 @@ class WaitingRequests:
     without a path in a temporary one. A row stays until its request comes to be made."""
 
     def __init__(self, path: str, spider: Any) -> None:
-        self._path, self._spider = path, spider
+        self._path, self._spider, self._row = path, spider, 0
         self._connection = self._opened()
         self._execute("UPDATE requests SET is_given = 0")
 
@@ -55,8 +55,8 @@ class WaitingRequests:
     def put(self, address: str, until: float, request: Any) -> bool:
         """Writes a request, and says whether that was possible."""
         packed = _packed(request, self._spider)
-        row = int.from_bytes(os.urandom(7), "big")  # which no row had before
-        return packed is not None and self._execute("INSERT INTO requests VALUES (?, ?, ?, 0, ?)", (row, address, until, packed)) is not None
+        self._row = max(self._row + 1, time.time_ns() // 1000)  # which no row had before
+        return packed is not None and self._execute("INSERT INTO requests VALUES (?, ?, ?, 0, ?)", (self._row, address, until, packed)) is not None
 
     def take(self, row: int) -> bool:
         """Removes a row, as its request is being made. False if another copy of the request was before it."""
@@ -73,7 +73,7 @@ class WaitingRequests:
         """Some of the requests that wait for this file, and do so until this time at the latest, with their rows and times; None for one that
         can't be read."""
         rows = self._execute(
-            "SELECT row, until, request FROM requests WHERE address = ? AND NOT is_given AND until <= ? LIMIT ?", (address, until, _BATCH)
+            "SELECT row, until, request FROM requests WHERE address = ? AND NOT is_given AND until <= ? ORDER BY row LIMIT ?", (address, until, _BATCH)
         )
         found = rows.fetchall() if rows else []
         for row, _, _ in found:
