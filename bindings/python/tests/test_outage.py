@@ -37,7 +37,7 @@ OUTAGES = {
     "then no file": ([FAILS, answers(404)], WAITS, 2, PAGES),
     "then all is denied": ([FAILS, answers(200, CLOSED)], WAITS, 2, []),
     "with retries by Scrapy": ([FAILS, answers(200)], WAITS | {"RETRY_ENABLED": True}, 2, PUBLIC),
-    "for longer than requests may wait": ([FAILS], WAITS | {"TEXTING_ROBOTS_RETRY": 3, "TEXTING_ROBOTS_PARKED_SECONDS": 8.7}, 3, []),
+    "for longer than requests may wait": ([FAILS], WAITS | {"TEXTING_ROBOTS_RETRY": 3, "TEXTING_ROBOTS_PARKED_SECONDS": 8.7}, (2, 3), []),
     "for longer, by the server": ([answers(503, b"", **{"Retry-After": "9"})], WAITS | {"TEXTING_ROBOTS_PARKED_SECONDS": 5}, 1, []),
     "with asyncio": ([FAILS, answers(200)], WAITS | {"TWISTED_REACTOR": "twisted.internet.asyncioreactor.AsyncioSelectorReactor"}, 2, PUBLIC),
 }
@@ -74,7 +74,8 @@ def crawls(tmp_path_factory):
 @pytest.mark.parametrize("name", OUTAGES)
 def test_no_request_is_lost_in_an_outage(crawls, name):
     _, _, fetches, pages = OUTAGES[name]
-    assert (crawls[0][name].paths().count("/robots.txt"), crawls[0][name].pages()) == (fetches, pages)
+    several = fetches if isinstance(fetches, tuple) else (fetches,)  # as a busy machine waits for longer
+    assert crawls[0][name].paths().count("/robots.txt") in several and crawls[0][name].pages() == pages
 
 
 def test_a_server_that_fails_is_asked_again_when_it_says(crawls):
