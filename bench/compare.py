@@ -69,7 +69,7 @@ def with_urllib(case):
 def listed(title):
     """The differences that docs/COMPATIBILITY.md lists for a parser."""
     rows = re.findall(r"^\| (.*?) \| (.*?) \|", DIFFERENCES, re.M)
-    return {difference for difference, parsers in rows if parsers == "both" or title in parsers}
+    return {difference for difference, parsers in rows if parsers == "both" or title.split(".")[0] in parsers}
 
 
 def check(title, found):

@@ -24,7 +24,7 @@ def results(text, url):
     protego = pytest.importorskip("protego")
     parser = urllib.robotparser.RobotFileParser()
     parser.parse(text.decode().splitlines())
-    theirs = {"Protego": protego.Protego.parse(text.decode()).can_fetch(url, "FerrisBot"), "urllib.robotparser": parser.can_fetch("FerrisBot", url)}
+    theirs = {"Protego": protego.Protego.parse(text.decode()).can_fetch(url, "FerrisBot"), "urllib": parser.can_fetch("FerrisBot", url)}
     return {**theirs, "here": Robots(text).allowed(url, "FerrisBot")}
 
 
@@ -33,7 +33,7 @@ def test_parser_differs_as_documented(difference, parsers, file, url, there, her
     words = {True: "allowed", False: "denied"}
     text = bytes_in(file) if "ser-agent" in file else b"User-agent: *\n" + bytes_in(file)
     found = {parser: words[it] for parser, it in results(text, url.strip("`")).items()}
-    named = {"Protego", "urllib.robotparser"} if parsers == "both" else parsers
+    named = {"Protego", "urllib"} if parsers == "both" else parsers
     assert found == {parser: (there if parser in named else here).split(":")[0] for parser in found}
 
 

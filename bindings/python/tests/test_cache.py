@@ -3,16 +3,15 @@
 import doctest
 import gzip
 import random
-import sqlite3
 import zlib
 from collections import Counter
 
 import package  # noqa: F401 (puts the package on the path)
 import pytest
 
-from texting_robots import FILE_LIMIT, UrlError
+from texting_robots import FILE_LIMIT, UrlError, _memory, _robots, robots_url
 from texting_robots import cache as module
-from texting_robots.cache import Action, RobotsCache, State
+from texting_robots.cache import Action, Look, RobotsCache, State
 
 RULES, CLOSED = b"User-agent: *\nDisallow: /private/\n", b"User-agent: *\nDisallow: /\n"
 A, HTTP, HTTPS = "http://a.example/robots.txt", "http://h.example/robots.txt", "https://h.example/robots.txt"
@@ -35,6 +34,7 @@ class Caches:
         self.clock, self.events, self.sitemaps = Clock(), Counter(), []
 
     def __call__(self, **words):
+        words = {"chance": lambda: 0.0} | words
         return RobotsCache(clock=self.clock, count=lambda name: self.events.update([name]), found=lambda *found: self.sitemaps.append(found), **words)
 
 
@@ -71,7 +71,7 @@ def test_what_to_do_for_a_url(caches):
     assert (look.action, look.address, look.fetch.address, look.fetch.headers) == (Action.FETCH, A, A, {"Accept-Encoding": "identity"})
     assert cache.look("http://a.example/y")[0] is Action.WAIT and cache.look("https://a.example/")[0] is Action.FETCH
     site = cache.received(look.fetch, *file()).known[A]
-    assert cache.look("http://a.example/x") == (Action.USE, A, site, None)
+    assert cache.look("http://a.example/x") == Look(Action.USE, A, site)
     assert (site.state, site.expires, site.refresh) == (State.FILE, caches.clock.now + DAY, caches.clock.now + 23 * HOUR)
     assert cache.decide(site, "http://a.example/private/", "FerrisBot/1.0") == (False, 2, "")
     assert cache.decide(site, "http://a.example/", "FerrisBot/1.0") == (True, None, "")
@@ -87,13 +87,13 @@ def test_half_of_a_short_lifetime(caches):
 def test_an_older_file_counts_while_a_newer_one_is_fetched_in_time(caches):
     cache = caches()
     old, _ = fetched(cache, A, file())
-    caches.clock.now += 23 * HOUR
+    caches.clock.now += DAY - 100
     look = cache.look(A)
-    assert (look.action, look.site) == (Action.REFRESH, old) and cache.look(A) == (Action.USE, A, old, None)
-    caches.clock.now += 2 * HOUR
-    assert cache.look(A) == (Action.USE, A, old, None)
+    assert (look.action, look.site) == (Action.REFRESH, old) and cache.look(A) == Look(Action.USE, A, old)
+    caches.clock.now += 200
+    assert cache.look(A) == Look(Action.USE, A, old)
     new = cache.received(look.fetch, *file(CLOSED)).known[A]
-    assert cache.look(A) == (Action.USE, A, new, None) and new.expires == caches.clock.now + DAY
+    assert cache.look(A) == Look(Action.USE, A, new) and new.expires == caches.clock.now + DAY
 
 
 def test_no_file_counts_for_longer_unless_its_server_fails(caches):
@@ -103,42 +103,18 @@ def test_no_file_counts_for_longer_unless_its_server_fails(caches):
     look = cache.look(A)
     assert look[0] is Action.FETCH and cache.look(A)[0] is Action.WAIT
     site = cache.received(look.fetch, *BUSY).known[A]
-    for _ in range(3):
-        assert site.state is State.FILE and site.is_failing and cache.look(A) == (Action.USE, A, site, None)
-        caches.clock.now += 300
+    for seconds in (5, 10, 20):
+        assert site.state is State.FILE and site.is_failing and cache.look(A) == Look(Action.USE, A, site)
+        caches.clock.now += seconds
         look = cache.look(A)
-        assert look[:3] == (Action.REFRESH, A, site) and cache.look(A) == (Action.USE, A, site, None)
+        assert look[:3] == (Action.REFRESH, A, site) and cache.look(A) == Look(Action.USE, A, site)
         site = cache.failed(look.fetch).known[A]
     assert not cache.decide(site, "http://a.example/private/", "x").allowed and caches.events == {"stale": 4}
-    caches.clock.now += 300
+    caches.clock.now += 40
     site, _ = fetched(cache, A, (404, {}, CLOSED))
     assert (site.state, site.is_failing) == (State.NO_FILE, False) and cache.decide(site, "http://a.example/private/", "x").allowed
-    caches.clock.now += DAY - 200
+    caches.clock.now += DAY - 4
     assert fetched(cache, A, BUSY)[0].state is State.UNREACHABLE
-
-
-@pytest.mark.parametrize(
-    "seconds, fields",
-    [
-        (300, {}),
-        (120, {"Retry-After": "120"}),
-        (1, {"Retry-After": "0"}),
-        (DAY, {"retry-after": "9" * 400}),
-        (60, {"Retry-After": "Sun, 09 Sep 2001 01:47:40 GMT"}),
-        (1, {"Retry-After": "Sun, 09 Sep 2001 00:00:00 GMT"}),
-        (300, {"Retry-After": "soon"}),
-        (300, {"Retry-After": ""}),
-    ],
-)
-def test_when_a_server_that_fails_is_asked_again(caches, seconds, fields):
-    cache = caches()
-    site, _ = fetched(cache, A, (503, fields, b""))
-    assert (site.state, site.refresh) == (State.UNREACHABLE, caches.clock.now + seconds)
-    assert cache.decide(site, "http://a.example/", "x") == (False, None, "unreachable") and cache.decide(site, A, "x").allowed
-    caches.clock.now += seconds - 0.5
-    assert cache.look(A) == (Action.USE, A, site, None)
-    caches.clock.now += 0.5
-    assert cache.look(A)[0] is Action.FETCH
 
 
 def test_a_file_that_has_not_changed(caches):
@@ -212,7 +188,7 @@ def test_a_redirect_to_a_file_that_is_known_or_on_its_way(caches):
     assert asked == [HTTP] and (site.packed, site.expires, site.address) == (known.packed, known.expires, HTTP)
     cache = caches()
     one, other = cache.look(HTTP).fetch, cache.look(HTTPS).fetch
-    assert cache.received(one, *moved(HTTPS)) == ({}, None)
+    assert cache.received(one, *moved(HTTPS)) == cache.failed(one) == ({}, None)
     assert set(cache.received(other, *file()).known) == {HTTP, HTTPS}
     cache = caches()
     one, other = cache.look(HTTP).fetch, cache.look(HTTPS).fetch
@@ -324,7 +300,7 @@ def test_a_file_is_parsed_again_rather_than_fetched(caches):
     for number in range(60, 200):
         fetched(cache, f"http://{number}.example", file(RULES + filler))
     kept = [number for number in range(200) if cache.look(f"http://{number}.example")[0] is Action.USE]
-    assert kept[-1] == 199 and kept == list(range(200 - len(kept), 200)) and 75_000 // 800 < len(kept) <= 100_000 // 700
+    assert kept[-1] == 199 and kept == list(range(200 - len(kept), 200)) and 75_000 // 840 < len(kept) <= 100_000 // 740
     assert caches.events["evicted"] == 200 - len(kept)
 
 
@@ -345,79 +321,10 @@ def test_the_memory_of_each_crawler_counts(caches):
     assert cache.size == site.memory + site.rules.size > before + 50 * 100
 
 
-def test_a_database_keeps_what_a_server_answered(caches, tmp_path):
-    path = str(tmp_path / "robots.sqlite3")
-    cache = caches(database=path)
-    fetched(cache, A, file(RULES + b"Sitemap: /s.xml\n", ETag='"1"'))
-    fetched(cache, "http://b.example", (404, {}, b""))
-    fetched(cache, "http://c.example", (503, {"Retry-After": "900"}, b""))
-    fetched(cache, "http://d.example", None)
-    assert caches.sitemaps == [(A, ["/s.xml"])]
-    cache.close()
-    caches.clock.now += 600
-    cache = caches(database=path)
-    states = {look.address[7]: look.site.state for look in map(cache.look, ("http://a.example", "http://b.example", "http://c.example"))}
-    assert states == {"a": State.FILE, "b": State.NO_FILE, "c": State.UNREACHABLE} and cache.look("http://d.example")[0] is Action.FETCH
-    assert cache.decide(cache.look(A).site, "http://a.example/private/", "x") == (False, 2, "")
-    assert caches.sitemaps == [(A, ["/s.xml"])] * 2 and caches.events["read"] == 3
-    caches.clock.now += 23 * HOUR
-    assert cache.look(A).fetch.headers["If-None-Match"] == '"1"'
-    caches.clock.now += 40 * DAY
-    caches(database=path)
-    assert sqlite3.connect(path).execute("SELECT COUNT(*) FROM sites").fetchone() == (0,)
-
-
-def test_a_database_keeps_that_a_server_fails(caches, tmp_path):
-    """So the file counts on after the next start."""
-    path = str(tmp_path / "robots.sqlite3")
-    cache = caches(database=path)
-    fetched(cache, A, file())
-    caches.clock.now += DAY
-    fetched(cache, A, BUSY)
-    cache.close()
-    caches.clock.now += 300
-    assert caches(database=path).look(A)[0] is Action.REFRESH
-
-
-def test_a_clock_that_was_wrong(caches, tmp_path):
-    """What was fetched in the future counts no longer than anything else."""
-    path = str(tmp_path / "robots.sqlite3")
-    caches.clock.now += 400 * DAY
-    cache = caches(database=path)
-    fetched(cache, A, file())
-    caches.clock.now -= 400 * DAY
-    for it in (cache, caches(database=path)):
-        assert it.look(A).site.expires == caches.clock.now + DAY
-
-
-def test_a_database_that_fails(caches, tmp_path, caplog):
-    """It is a warning, and what it doesn't keep is fetched again; but a file that isn't a database is an error at the start."""
-    path = tmp_path / "robots.sqlite3"
-    cache = caches(database=str(path), budget=1)
-    fetched(cache, A, file())
-    connection = sqlite3.connect(path, isolation_level=None)
-    connection.execute("DROP TABLE sites")
-    fetched(cache, "http://b.example", file())
-    assert cache.look(A)[0] is Action.FETCH and len(caplog.records) == 1 and "fails, and is used no more" in caplog.text
-    connection.execute("PRAGMA user_version = 9")
-    with pytest.raises(sqlite3.DatabaseError, match="another version: 9"):
-        caches(database=str(path))
-    path.write_bytes(b"#" * 9000)
-    with pytest.raises(sqlite3.DatabaseError):
-        caches(database=str(path))
-
-
-def test_with_a_database_nothing_is_fetched_again(caches, tmp_path):
-    cache = caches(database=str(tmp_path / "robots.sqlite3"), budget=20_000)
-    for number in range(100):
-        fetched(cache, f"http://{number}.example", file())
-    assert len(cache) <= 20_000 // 700 and cache.size <= 20_000
-    assert {cache.look(f"http://{number}.example")[0] for number in range(100)} == {Action.USE}
-
-
 def test_sitemaps_are_told_once(caches):
-    cache = caches(lifetime=0)
+    cache = caches()
     for number, names in enumerate(["a", "a", "ab", "", "ab"]):
+        caches.clock.now += DAY
         fetched(cache, A, file(b"# %d\n" % number + b"".join(b"Sitemap: /%c\n" % it for it in names.encode())))
     assert caches.sitemaps == [(A, ["/a"]), (A, ["/a", "/b"]), (A, ["/a", "/b"])]
 
@@ -457,7 +364,8 @@ def test_without_memory(caches, monkeypatch):
     with monkeypatch.context() as changed:
         changed.setattr(module.Rules, "decide", no_memory)
         assert cache.decide(site, "http://a.example/", "x") == (False, None, "out of memory")
-    monkeypatch.setattr(module, "Rules", no_memory)
+    for it in (module, _memory):
+        monkeypatch.setattr(it, "Rules", no_memory)
     assert fetched(cache, "http://b.example", file())[0].state is State.UNREACHABLE
     site.rules = None
     assert not cache.decide(site, "http://a.example/", "x").allowed and cache.delay(site, "x") == 0
@@ -469,6 +377,119 @@ def test_a_delay(caches):
     site, _ = fetched(cache, A, file(b"User-agent: A\nCrawl-delay: 3\n\nUser-agent: B\nCrawl-delay: 2\n"))
     assert [cache.delay(site, name) for name in ("C", "B/1.0", "A", "B")] == [0, 2, 3, 3]
     assert cache.delay(fetched(cache, "http://b.example", (404, {}, b""))[0], "A") == 0
+
+
+@pytest.mark.parametrize(
+    "said, seconds",
+    [("max-age=3600", HOUR), ("public, Max-Age=0", 300), ("max-age=301, x", 301), ("s-maxage=9, max-age = \"400\"", 400), ("max-age=99999999999", DAY), ("no-cache", DAY), ("max-age=x", DAY)],
+)
+@pytest.mark.parametrize("status", [200, 404])
+def test_a_server_may_say_for_how_long_its_answer_counts(caches, said, seconds, status):
+    """Not for less than five minutes, and not for longer than usual."""
+    cache = caches()
+    site, _ = fetched(cache, A, (status, {"Cache-Control": said, "ETag": "1"}, RULES))
+    assert site.expires == caches.clock.now + seconds and site.refresh == site.expires - min(HOUR, seconds / 2)
+    if status == 200:
+        caches.clock.now = site.refresh
+        assert fetched(cache, A, (304, {"Cache-Control": said}, b""))[0].expires == caches.clock.now + seconds
+    assert fetched(caches(lifetime=100), A, (status, {"Cache-Control": said}, RULES))[0].expires == caches.clock.now + 100
+
+
+def test_hosts_that_are_exempt(caches):
+    """With any port and scheme; no file of them is fetched, or kept."""
+    cache = caches(exempt=["A.example", "b.example"])
+    for url in ("http://a.example/private/", "https://A.EXAMPLE:8443/private/"):
+        look = cache.look(url)
+        assert look.action is Action.USE and cache.decide(look.site, url, "x") == (True, None, "") and cache.delay(look.site, "x") == 0
+    assert cache.look("http://www.a.example/").fetch and len(cache) == 0
+    with pytest.raises(TypeError):
+        caches(exempt="a.example")
+
+
+NAMES = b"User-agent: A\nDisallow: /a\nCrawl-delay: 1\n\nUser-agent: B\nDisallow: /b\nCrawl-delay: 2\n\nUser-agent: *\nDisallow: /s\nCrawl-delay: 3\n"
+
+
+@pytest.mark.parametrize("names, line, delay", [(["A", "B"], 2, 1), (["B/1.0", "A"], 6, 2), (("C", "B"), 6, 2), (["C", "D"], 10, 3), (["A"], 2, 1), ("C", 10, 3)])
+def test_several_names_in_order_of_precedence(caches, names, line, delay):
+    """The first that the file names counts, and the rules for * if it names none."""
+    cache = caches()
+    site, _ = fetched(cache, A, file(NAMES))
+    denied = [decision.line for path in "abs" if not (decision := cache.decide(site, f"http://a.example/{path}", names))]
+    assert denied == [line] and cache.delay(site, names) == delay
+    assert cache.decide(site, "http://a.example/x", names) and cache.size == site.memory + site.rules.size
+
+
+@pytest.mark.parametrize("names", [[], None, [1], b"x"])
+def test_names_that_are_none(caches, names):
+    cache = caches()
+    site, _ = fetched(cache, A, file(NAMES))
+    with pytest.raises(TypeError):
+        cache.decide(site, "http://a.example/x", names)
+
+
+def test_when_the_next_request_may_go(caches):
+    """Each call counts as a request; a site without a delay needs none."""
+    cache = caches()
+    site, _ = fetched(cache, A, file(b"Crawl-delay: 2.5\n"))
+    assert [cache.next_request(site, "x") for _ in range(3)] == [0, 2.5, 5]
+    caches.clock.now += 6
+    assert [cache.next_request(site, "x", 1) for _ in range(2)] == [1.5, 2.5]
+    caches.clock.now += 100
+    fetched(cache, HTTP, file(RULES))
+    assert [cache.next_request(cache.look(HTTP).site, "x") for _ in range(2)] == [0, 0] and cache.next_request(site, "x") == 0
+    for number in range(5000):
+        cache.next_request(fetched(cache, f"http://{number}.example", file(b"Crawl-delay: 1\n"))[0], "x")
+        caches.clock.now += 1
+    assert len(cache._turns) <= 1000
+
+
+@pytest.mark.parametrize("name", ["lifetime", "retry", "answer_within", "budget", "cost_limit"])
+@pytest.mark.parametrize("value", [0, -1, float("nan"), float("inf"), "9"])
+def test_a_number_that_is_none(name, value):
+    """Those that would deny or fetch everything again, too."""
+    with pytest.raises(TypeError if value == "9" else ValueError, match=f"^{name} (is|has the type str)"):
+        RobotsCache(**{name: value})
+    with pytest.raises(ValueError, match="^after_30_days is 'open': it has to be"):
+        RobotsCache(after_30_days="open")
+
+
+def test_a_decision_is_true_if_the_crawler_may_fetch(caches):
+    cache = caches()
+    site, _ = fetched(cache, A, file())
+    assert cache.decide(site, "http://a.example/", "x") and not cache.decide(site, "http://a.example/private/", "x")
+    assert not cache.decide(fetched(cache, HTTP, BUSY)[0], "http://h.example/", "x")
+
+
+FIELDS = {"Location": "http://b.example/r"}
+
+
+@pytest.mark.parametrize(
+    "headers", [FIELDS, {"LOCATION": b"http://b.example/r"}, {b"Location": [b"http://b.example/r"]}, [*FIELDS.items()], [(b"location", b"http://b.example/r")]]
+)
+def test_names_of_headers_may_be_bytes(caches, headers):
+    """As a mapping or as pairs, with one or several values."""
+    cache = caches()
+    assert cache.received(cache.look(A).fetch, 301, headers, b"").fetch.address == "http://b.example/r"
+
+
+def test_the_address_of_a_site_that_was_asked_about_before():
+    """Is that of the same URL otherwise."""
+    fronts = ["http://a.example", "HTTP://a.example", "https://a.example:443", "http://a.example:8080", "http://u@a.example", "http:///a.example", "http://127.1"]
+    for front in fronts:
+        for rest in ("", "/", "/x?y#z", "?q", "#f", "/\u00e9"):
+            for address in (robots_url(front + rest), robots_url(front + rest)):
+                _robots._ADDRESSES.clear()
+                assert address == robots_url(front + rest)
+    robots_url("http://a.example/")
+    for text in ("http://a.example\\@b.example/", "http://a.example:x/", "ftp://a.example/", "http://a.example:99999/", "http://a.example/\udc80"):
+        if "b.example" in text:
+            assert robots_url(text) == "http://a.example/robots.txt"
+        else:
+            with pytest.raises(ValueError):
+                robots_url(text)
+    for number in range(3000):
+        robots_url(f"http://{number}.example/")
+    assert len(_robots._ADDRESSES) <= 2000
 
 
 def test_the_lines_of_the_docstring():

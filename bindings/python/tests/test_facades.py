@@ -379,15 +379,24 @@ def test_read_again(server, status, after):
     [
         (b"User-agent: *\n", {"Content_Length": "99"}, http.client.IncompleteRead),
         (b"", {"Content_Length": "99"}, http.client.IncompleteRead),
-        (gzip.compress(b"User-agent: *\nDisallow: /", mtime=0), {"Content_Encoding": "gzip"}, urllib.error.URLError),
+        (b"User-agent: *\nDisallow: /", {"Content_Encoding": "br"}, urllib.error.URLError),
     ],
 )
-def test_a_body_that_is_cut_or_compressed(server, body, fields, error):
+def test_a_body_that_is_cut_or_can_not_be_unpacked(server, body, fields, error):
     with answered(server, body=body, **fields) as url:
         parser = RobotFileParser(url)
         with pytest.raises(error):
             parser.read()
     assert denied(parser) == ["/a", "/b"] and parser.mtime() == 0
+
+
+@pytest.mark.parametrize("pack", [gzip.compress, bytes])
+def test_a_body_for_which_the_server_says_gzip(server, pack):
+    """Whether it is or isn't; urllib reads the second one."""
+    with answered(server, body=pack(b"User-agent: *\nDisallow: /a"), Content_Encoding="gzip") as url:
+        parser = RobotFileParser(url)
+        parser.read()
+    assert denied(parser) == ["/a"]
 
 
 def test_no_more_than_the_limit_is_read(server):
@@ -402,6 +411,28 @@ def test_a_server_that_is_not_there(server):
     with pytest.raises(urllib.error.URLError):
         parser.read()
     assert denied(parser) == ["/a", "/b"]
+
+
+def test_an_empty_sitemap_is_none_for_protego():
+    assert list(Protego.parse("Sitemap:\nSitemap: /s").sitemaps) == ["/s"] and by_urllib("Sitemap:\nSitemap: /s").site_maps() == ["", "/s"]
+
+
+VERSIONS = "User-agent: FerrisBot/1.0\nDisallow: /a\nCrawl-delay: 1\nRequest-rate: 1/5\n\nUser-agent: FerrisBot\nDisallow: /b\nCrawl-delay: 2\n"
+
+
+@pytest.mark.parametrize("parse", BOTH)
+def test_a_name_with_a_version(parse):
+    """Is asked first, and then the product token; neither as another version, nor of the file itself, whose names have none."""
+    parser = parse(VERSIONS)
+    for user_agent, path, delay in [(FERRIS, "/a", 1), ("ferrisbot/1.0", "/a", 1), ("FerrisBot/2.0", "/b", 2), ("FerrisBot", "/b", 2)]:
+        assert [it for it in ("/a", "/b") if not fetchable(parser, it, user_agent)] == [path] and parser.crawl_delay(user_agent) == delay
+    assert (parser.request_rate(FERRIS).seconds, parser.request_rate("FerrisBot")) == (5, None)
+    again = pickle.loads(pickle.dumps(parser))
+    assert not fetchable(again, "/a", FERRIS) and fetchable(again, "/a", "FerrisBot")
+    with pytest.raises(AgentError):
+        parser.robots.allowed("/a", "FerrisBot/1.0")
+    with pytest.raises(AgentError):
+        parser.robots.delay("FerrisBot/1.0")
 
 
 def test_a_file_in_a_folder(tmp_path):

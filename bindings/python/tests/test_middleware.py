@@ -16,6 +16,7 @@ from sites import PAGES, PUBLIC, RULES, Site, answers, closes, crawled, endless,
 package.needs("scrapy")
 pytestmark = pytest.mark.alone
 
+from scrapy import Spider  # noqa: E402
 from scrapy.core.downloader import Slot  # noqa: E402
 from scrapy.exceptions import IgnoreRequest, NotConfigured, StopDownload  # noqa: E402
 from scrapy.http import Request, Response  # noqa: E402
@@ -32,7 +33,7 @@ SITEMAPS = [f"https://example.com/{number}.xml" for number in range(2)]
 README = (package.PACKAGE / "README.md").read_text()
 DOWNLOADER_MIDDLEWARES = ast.literal_eval(re.search(r"^    DOWNLOADER_MIDDLEWARES = (\{.*?\})$", README, re.M | re.S)[1])
 MIDDLEWARE = {"USER_AGENT": "FerrisBot/1.0 (+https://example.com/bot)", "DOWNLOADER_MIDDLEWARES": DOWNLOADER_MIDDLEWARES}
-MIDDLEWARE["TEXTING_ROBOTS_PARKED"] = 0  # the requests of an outage wait in test_outage.py
+MIDDLEWARE["TEXTING_ROBOTS_PARKED_SECONDS"] = 0  # the requests of an outage wait in test_outage.py
 TOLERANCE = 0.1  # seconds, as a process on a busy machine may stop at any point
 
 
@@ -188,7 +189,7 @@ def resumed(tmp_path_factory):
     first, sites = {"CONCURRENT_REQUESTS": 1, "CLOSESPIDER_PAGECOUNT": 1}, {}
     for name, (answer, _) in RESUMED.items():
         folder = str(tmp_path_factory.mktemp("job"))
-        settings = {"JOBDIR": folder, "HTTPCACHE_ENABLED": True, "HTTPCACHE_DIR": f"{folder}/cache"}
+        settings = {"JOBDIR": folder, "TEXTING_ROBOTS_DATABASE": "", "HTTPCACHE_ENABLED": True, "HTTPCACHE_DIR": f"{folder}/cache"}
         settings["TWISTED_REACTOR"] = "twisted.internet.asyncioreactor.AsyncioSelectorReactor"
         sites[name] = site(answers(200), answer, settings=settings | first)
     with served(sites.values()):
@@ -200,7 +201,7 @@ def resumed(tmp_path_factory):
 
 
 @pytest.mark.parametrize("name", RESUMED)
-def test_a_resumed_crawl_fetches_the_file_again(resumed, name):
+def test_a_resumed_crawl_without_a_database_fetches_the_file_again(resumed, name):
     assert resumed[name].paths()[:3] == ["/robots.txt", "/", "/robots.txt"]
     assert resumed[name].pages() == RESUMED[name][1]
 
@@ -228,9 +229,13 @@ class Engine:
         return [request.url for request in self.requests]
 
 
+class SmallSpider(Spider):
+    name = "small/one"
+
+
 def ours(answer, **settings):
     """A middleware whose engine answers this, with its crawler."""
-    crawler = get_crawler(settings_dict={"ROBOTSTXT_OBEY": True, "USER_AGENT": "FerrisBot/1.0", "TEXTING_ROBOTS_PARKED": 0} | settings)
+    crawler = get_crawler(SmallSpider, {"ROBOTSTXT_OBEY": True, "USER_AGENT": "FerrisBot/1.0", "TEXTING_ROBOTS_PARKED_SECONDS": 0, "DOWNLOADER_MIDDLEWARES": DOWNLOADER_MIDDLEWARES} | settings)
     crawler.engine = Engine(answer)
     return middleware.RobotsMiddleware.from_crawler(crawler), crawler
 
@@ -278,15 +283,15 @@ def test_lifetime(monkeypatch):
         return allowed(robots, "http://a.example/"), allowed(robots, "http://a.example/private/"), len(crawler.engine.requests) - before
 
     assert after(0, file(status=500)) == (False, False, 1)
-    assert after(299, file()) == (False, False, 0)
+    assert after(4, file()) == (False, False, 0)
     assert after(2, file()) == (True, False, 1)
     assert after(82_799, file(CLOSED)) == (True, False, 0)
     assert after(2, file(status=500)) == (True, False, 1)
-    assert after(299, file(CLOSED)) == (True, False, 0)
+    assert after(4, file(CLOSED)) == (True, False, 0)
     assert after(2, file(status=404)) == (True, True, 1)
     assert after(82_799, file(CLOSED)) == (True, True, 0)
     assert after(3602, file(CLOSED)) == (False, False, 1)
-    assert robots._cache.size == sum(it.memory + it.size for it in robots._cache._sites.values())
+    assert robots._cache.size == sum(it.memory + it.size for it in robots._cache._memory.sites.values())
 
 
 def test_the_file_that_was_not_used_for_longest_goes_first():
@@ -296,13 +301,13 @@ def test_the_file_that_was_not_used_for_longest_goes_first():
     for name, fetched in [("a", 1), ("b", 1), ("a", 0), ("c", 1), ("a", 0), ("c", 0), ("b", 1), ("a", 1)]:
         before = len(crawler.engine.requests)
         assert allowed(robots, f"http://{name}.example/") and len(crawler.engine.requests) - before == fetched, name
-    assert robots._cache.size == sum(site.memory + site.size for site in robots._cache._sites.values()) <= 36_000
+    assert robots._cache.size == sum(site.memory + site.size for site in robots._cache._memory.sites.values()) <= 36_000
 
 
 def test_a_file_that_is_larger_than_the_budget_is_kept_alone():
     robots, crawler = ours(file(b"#" * 9000), TEXTING_ROBOTS_BUDGET=1)
     assert [allowed(robots, url) for url in ("http://a.example/", "http://a.example/x", "http://b.example/")] == [True] * 3
-    assert len(crawler.engine.requests) == 2 and list(robots._cache._sites) == ["http://b.example/robots.txt"]
+    assert len(crawler.engine.requests) == 2 and list(robots._cache._memory.sites) == ["http://b.example/robots.txt"]
 
 
 def fails(error):
@@ -325,15 +330,6 @@ def test_stats(caplog):
     assert [record.getMessage() for record in caplog.records if record.name == middleware.__name__ and record.levelname != "DEBUG"] == [
         f"{start}{end}" for start, end in zip(messages, ["status 503", "broken", "refused", ""])
     ]
-
-
-def test_a_warning_while_an_older_file_counts_on(caplog):
-    robots, crawler = ours(file(), TEXTING_ROBOTS_LIFETIME=0)
-    assert allowed(robots, "http://a.example/")
-    crawler.engine.answer = file(status=503)
-    assert allowed(robots, "http://a.example/")
-    warnings = [it.getMessage() for it in caplog.records if it.levelname == "WARNING"]
-    assert warnings == ["http://a.example/robots.txt can't be fetched: status 503"]
 
 
 def test_what_goes_without_a_file():
@@ -377,15 +373,16 @@ def test_the_longest_delay_and_the_memory_of_several_crawlers_count():
     robots, _ = ours(file(b"User-agent: A\nCrawl-delay: 3\n\nUser-agent: B\nCrawl-delay: 2\n"))
     for name in "AB":
         assert allowed(robots, "http://a.example/", headers={"User-Agent": name})
-        (kept,) = robots._cache._sites.values()
+        (kept,) = robots._cache._memory.sites.values()
         assert kept.longest_delay == 3 and robots._cache.size == kept.memory + kept.rules.size
 
 
 def test_other_sitemaps_of_a_later_file_come_too():
-    robots, crawler = ours(file(), TEXTING_ROBOTS_LIFETIME=0)
+    robots, crawler = ours(file(), TEXTING_ROBOTS_LIFETIME=0.01)
     found, names = [], ["a", "a", "b", None, "b"]
-    crawler.signals.send_catch_log = lambda signal, sitemaps, **_: found.extend(sitemaps)
+    crawler.signals.send_catch_log = lambda signal, sitemaps=(), **_: found.extend(sitemaps)
     for name in names:
+        time.sleep(0.02)
         crawler.engine.answer = file(f"Sitemap: {name}\n".encode() if name else b"")
         assert allowed(robots, "http://a.example/")
     assert found == ["a", "b", "b"]

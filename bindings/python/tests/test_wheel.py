@@ -50,8 +50,8 @@ def test_the_readme_prints_what_it_says(installed_python, tmp_path):
 def test_the_wheel_is_for_every_cpython_and_exports_nothing():
     assert WHEEL.name.endswith("-cp39-abi3-linux_x86_64.whl")
     assert sorted(it.name for it in (package.SITE / "texting_robots").iterdir() if it.suffix) == [
-        "__init__.py", "_contents.py", "_disk.py", "_facade.py", "_native.abi3.so", "_native.pyi", "_pacing.py", "_parking.py", "_responses.py",
-        "_robots.py", "_rules.py", "cache.py", "middleware.py", "protego.py", "py.typed", "robotparser.py", "scrapy.py",
+        "__init__.py", "_contents.py", "_disk.py", "_facade.py", "_figures.py", "_memory.py", "_native.abi3.so", "_native.pyi", "_pacing.py", "_parking.py",
+        "_responses.py", "_robots.py", "_rules.py", "_settings.py", "_sites.py", "_waiting.py", "aio.py", "cache.py", "middleware.py", "protego.py", "py.typed", "robotparser.py", "scrapy.py",
     ]  # fmt: skip
     assert sorted(it.name for it in package.SITE.glob("*.dist-info/**/LICENSE-*")) == ["LICENSE-APACHE", "LICENSE-MIT"]
     names = subprocess.run(["nm", "-D", "--defined-only", package.SITE / "texting_robots/_native.abi3.so"], capture_output=True, text=True)
@@ -143,14 +143,28 @@ def test_mypy_is_strict(tmp_path):
 CALLER = """
 from array import array
 from mmap import mmap
-from typing import Iterator, List, Optional, Tuple, Type
+from typing import Iterator, List, Mapping, Optional, Tuple, Type
 from urllib.robotparser import RequestRate, RobotFileParser
 from texting_robots import LIFETIME, REDIRECT_LIMIT, AgentError, Matrix, Meaning, OverlongRuleError, Robots, RobotsError, TooCostlyError, UrlError
 from texting_robots import Verdict, meaning, product_token, robots_url
 from texting_robots import protego, robotparser
+from texting_robots.aio import AsyncRobots, Response
+from texting_robots.cache import Decision, Fetch, RobotsCache, Site
 
 class Own(Robots):
     pass
+
+async def get(address: str, headers: Mapping[str, str]) -> Response:
+    return Response(200, {"ETag": "1"}, b"")
+
+async def may(url: str) -> float:
+    with RobotsCache(database="x", after_30_days="no file", exempt=["a.example"]) as cache:
+        decision: Decision = await AsyncRobots(get, ["A", "B"], cache, patience=9).may(url)
+        fetch: Optional[Fetch] = cache.look(url).fetch
+        if decision and fetch:
+            known = {**cache.received(fetch, 200, [(b"ETag", b"1")], b"").known, **cache.failed(fetch, was_reached=False).known}
+            return sum(cache.next_request(site, ("A", "B")) + site.failing_since for site in known.values())
+        return 0 if decision.line else 1
 
 robots: Robots = Robots(b"")
 allowed: bool = robots.allowed(robots_url("https://example.com/"), product_token("a/1"))

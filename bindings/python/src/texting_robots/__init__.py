@@ -12,6 +12,9 @@
     2.5
     >>> product_token("FerrisBot/1.0 (+https://example.com/bot)")
     'FerrisBot'
+
+Crawlers also need to know when each file is fetched, and what counts if it can't be: `texting_robots.aio` says so for asyncio,
+`texting_robots.middleware` for Scrapy, and `texting_robots.cache`, which both use, for any other way to make requests.
 """
 
 from ._robots import (

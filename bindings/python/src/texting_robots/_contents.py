@@ -2,15 +2,46 @@
 
 from __future__ import annotations
 
+import re
 import zlib
+from collections.abc import Iterable, Mapping
 from email.utils import parsedate_to_datetime
-from typing import Final
+from typing import Any, Final, Union
 from urllib.parse import urljoin
 
 from . import FILE_LIMIT, robots_url
 
+Headers = Union[Mapping[str, str], Mapping[bytes, bytes], Iterable[tuple[str, str]], Iterable[tuple[bytes, bytes]]]
+"""The fields of a response, as any library for HTTP has them: names with values, or pairs of these, in ``str`` or in bytes."""
+
+_MAX_AGE: Final = re.compile(r"(?:^|[,\s])max-age\s*=\s*\"?([0-9]+)", re.I)
 _STEP: Final = 64  # an error in a packed body loses no more of it
 _CONTROLS: Final = bytes({*range(32)} - {*b"\t\n\r"})
+
+
+def fields_of(headers: Headers) -> dict[str, str]:
+    """The fields by their names in small letters. A body may have several encodings, each in a field of its own; else the last one counts."""
+    pairs: Iterable[tuple[Any, Any]] = headers.items() if hasattr(headers, "items") else headers
+    fields: dict[str, str] = {}
+    for name, values in pairs:
+        for value in values if isinstance(values, (list, tuple)) else [values]:
+            key, text = _text(name, name, value).lower(), _text(value, name, value)
+            fields[key] = f"{fields[key]},{text}" if key == "content-encoding" and key in fields else text
+    return fields
+
+
+def _text(text: object, name: object, value: object) -> str:
+    if isinstance(text, str):
+        return text
+    if isinstance(text, bytes):
+        return text.decode("latin-1")
+    raise TypeError(f"headers have {name!r}: {value!r}, and both have to be str or bytes")
+
+
+def max_age(fields: Mapping[str, str]) -> float | None:
+    """For how many seconds a response may be kept, if it says so."""
+    found = _MAX_AGE.search(fields.get("cache-control", ""))
+    return float(found[1]) if found else None
 
 
 def unpacked(body: bytes, encodings: str) -> bytes | None:

@@ -7,11 +7,12 @@ from collections.abc import Callable
 from datetime import time
 from typing import Final, Generic, NamedTuple, TypeVar
 
-from ._robots import FILE_LIMIT, AgentError, OverlongRuleError, Robots, product_token
+from ._robots import FILE_LIMIT, AgentError, OverlongRuleError, Robot, Robots, product_token
 
 T = TypeVar("T")
 _NAMES_KEPT: Final = 1000
 
+_VERSIONED: Final = re.compile(r"\s*([^\s/(),;:]+/[^\s/(),;:]+)")
 _URL: Final = re.compile(r"\s*(?:/|[A-Za-z][A-Za-z0-9+.-]*://)")
 _LINE: Final = rb"(?i)(?:\A\xef?\xbb?\xbf?|(?<=[\r\n\0]))[ \t]*(crawl[- ]?delay|%s)[ \t]*[: \t]([^#\r\n\0]*)"
 _RATE: Final = re.compile(r"([1-9][0-9]{0,8})\s*/\s*([1-9][0-9]{0,8})\s*([smhd]?)(?:\s+(\S.*))?", re.I)
@@ -77,8 +78,8 @@ class _Values(Generic[T]):
 
         self._robots = Robots(re.sub(_LINE % field, numbered, body))
 
-    def value(self, agent: str) -> T | None:
-        microseconds = self._robots.delay_microseconds(agent)
+    def value(self, name: bytes) -> T | None:
+        microseconds = self._robots._site.delay(name)
         return None if microseconds is None else self._values[microseconds // 1_000_000]
 
 
@@ -89,19 +90,25 @@ class File:
         encoded = body.encode("utf-8", "surrogateescape") if isinstance(body, str) else body
         self.robots = Robots(encoded)
         self.body = bytes(encoded)[:FILE_LIMIT]
-        self._names: dict[str, str] = {}
+        self._names: dict[str, bytes] = {}
+        self._kept: dict[str, Robot] = {}
         self._rates: _Values[RequestRate] | None = None
         self._times: _Values[VisitTime] | None = None
+
+    def __getstate__(self) -> dict[str, object]:
+        """A robot can't be pickled, and is opened again."""
+        return self.__dict__ | {"_kept": {}}
 
     def allowed(self, url: str, user_agent: str) -> bool:
         """Whether the crawler may fetch the URL: not if the file can't be used for it."""
         try:
-            return self.robots.allowed(url, self._name(user_agent))
+            return ((type(user_agent) is str and self._kept.get(user_agent)) or self._robot(user_agent)).allowed(url)
         except OverlongRuleError:
             return False
 
     def delay(self, user_agent: str) -> float | None:
-        return self.robots.delay(self._name(user_agent))
+        microseconds = self.robots._site.delay(self._name(user_agent))
+        return None if microseconds is None else microseconds / 1_000_000
 
     def request_rate(self, user_agent: str) -> RequestRate | None:
         if self._rates is None:
@@ -113,9 +120,18 @@ class File:
             self._times = _Values(self.body, rb"visit[- ]time", _visit_time)
         return self._times.value(self._name(user_agent))
 
-    def _name(self, user_agent: str) -> str:
-        """What the file calls a crawler. It is kept, since a crawler has one User-Agent."""
-        if type(user_agent) is not str:  # it may have its own equality
+    def _robot(self, user_agent: str) -> Robot:
+        """What the file says to a crawler. It is kept, since a crawler has one User-Agent, unless that is a `str` with its own equality."""
+        robot = self.robots._site.open_robot(self._name(user_agent))
+        if type(user_agent) is str:
+            if len(self._kept) >= _NAMES_KEPT:
+                self._kept.clear()
+            self._kept[user_agent] = robot
+        return robot
+
+    def _name(self, user_agent: str) -> bytes:
+        """What the file calls a crawler, which is kept, too."""
+        if type(user_agent) is not str:
             return _name_in(self.robots, user_agent)
         name = self._names.get(user_agent)
         if name is None:
@@ -125,10 +141,13 @@ class File:
         return name
 
 
-def _name_in(robots: Robots, user_agent: str) -> str:
-    """The part of a User-Agent before a slash, if a line of the file is for just that, as for a name with a space; or its product token."""
+def _name_in(robots: Robots, user_agent: str) -> bytes:
+    """The first name in a User-Agent that a line of the file is for: with its version, or all before a slash, as for a name with a space; or
+    else the product token."""
     token = product_token(user_agent)
     if _URL.match(user_agent):
         raise AgentError(f"{user_agent!r} is a URL in the place of a User-Agent: are the arguments in the other order?")
-    name = user_agent.partition("/")[0].strip()
-    return name if robots.is_named(name) else token
+    versioned = _VERSIONED.match(user_agent)
+    names = [versioned[1]] if versioned else []
+    names.append(user_agent.partition("/")[0].strip())
+    return next(filter(robots._site.is_named, map(str.encode, names)), token.encode())

@@ -25,6 +25,11 @@ _AGENTS_KEPT: Final = 1000
 
 _Body = Union["ReadableBuffer", str]
 _FRONT: Final = re.compile(r"\s*([^\s/(),;:]+)")
+_SITE: Final = re.compile(r"https?://[A-Za-z0-9.-]+(?::[0-9]{1,5})?(?=[/?#]|\Z)")
+"""The front of a usual URL, on which alone the address of its robots.txt file depends."""
+
+_ADDRESSES: Final[dict[str, str]] = {}
+_ADDRESSES_KEPT: Final = 2000
 _MAY_BE: Final = {
     "url": "a str, such as 'https://example.com/a'",
     "agent": "a str, such as 'FerrisBot'",
@@ -108,8 +113,16 @@ def product_token(user_agent: str) -> str:
 
 def robots_url(url: str) -> str:
     """The address of the robots.txt file for a URL of http or https. Any other text is a `UrlError`."""
-    text = _encoded(url, "url")
-    return _written(lambda *out: lib.robots_address(text, len(text), *out), 256, url)
+    front = _SITE.match(url) if type(url) is str and url.isascii() else None
+    address = _ADDRESSES.get(front[0]) if front else None
+    if address is None:
+        text = _encoded(url, "url")
+        address = _written(lambda *out: lib.robots_address(text, len(text), *out), 256, url)
+        if front:
+            if len(_ADDRESSES) >= _ADDRESSES_KEPT:
+                _ADDRESSES.clear()
+            _ADDRESSES[front[0]] = address
+    return address
 
 
 class Robot:
@@ -147,13 +160,14 @@ class Robot:
         return _verdict(self._result(url))
 
     def verdict_within(self, url: str, budget: int) -> Verdict:
-        """As that of `Robots`."""
+        """The verdict for a URL, for a file that may be hostile: before a rule that might cost more than is left of the budget, it raises
+        `TooCostlyError` (see `Robots.verdict_within`)."""
         text, result = _encoded(url, "url"), ffi.new("int64_t *")
         _check(lib.robot_query_within(self._opened, text, len(text), budget, result), self._opened)
         return _verdict(result[0])
 
     def cost(self, length: int) -> int:
-        """As that of `Robots`."""
+        """A budget that suffices for any URL whose path, query and fragment, escaped, have this length."""
         cost = ffi.new("uint64_t *")
         _check(lib.robot_cost(self._opened, length, cost), self._opened)
         return int(cost[0])
@@ -220,7 +234,10 @@ class Robot:
 
     def _result(self, url: str) -> int:
         """0 or the line that allows the URL, or minus the line that denies it."""
-        text = _encoded(url, "url")
+        try:
+            text = _encode(url)
+        except TypeError:
+            raise _wrong("url", url) from None
         result = _query(self._opened, text, len(text))
         if result <= _LAST_FAILURE:
             self._fails(result)
@@ -328,10 +345,7 @@ class Robots:
     def delay_microseconds(self, agent: str) -> int | None:
         """The delay in microseconds, exactly, or None."""
         robot = type(agent) is str and self._site.robots.get(agent)
-        if robot and not lib.robot_overlong_line(robot._opened):
-            return robot.delay_microseconds
-        site, name, microseconds = self._site.read(), _name(agent), ffi.new("uint64_t *")
-        return _delay(lib.site_delay(site, name, len(name), microseconds), microseconds)
+        return self._site.delay(_name(agent)) if not robot or lib.robot_overlong_line(robot._opened) else robot.delay_microseconds
 
     @property
     def sitemaps(self) -> list[str]:
@@ -356,8 +370,7 @@ class Robots:
 
     def is_named(self, agent: str) -> bool:
         """Whether a user-agent line names the crawler. All crawlers that none names have the rules and the delay of ``*``."""
-        name = _name(agent)
-        return lib.site_is_named(self._site.opened, name, len(name)) == 1
+        return self._site.is_named(_name(agent))
 
     def _verdict_or_none(self, url: str, agent: str) -> Verdict | None:
         try:
@@ -403,14 +416,26 @@ class _Site:
         """What the file says to an agent. A `str` of another type may have its own equality, so its robot isn't looked up."""
         return (type(agent) is str and self.robots.get(agent)) or self._open(agent)
 
-    def _open(self, agent: str) -> Robot:
-        """Opens a robot. The library shares it among all agents that no line names."""
-        name = _name(agent)
+    def is_named(self, name: bytes) -> bool:
+        """Whether a user-agent line has this name, which may be one that isn't a product token."""
+        return lib.site_is_named(self.opened, name, len(name)) == 1
+
+    def delay(self, name: bytes) -> int | None:
+        """The delay in microseconds, even if a rule for this name is too long."""
+        site, microseconds = self.read(), ffi.new("uint64_t *")
+        return _delay(lib.site_delay(site, name, len(name), microseconds), microseconds)
+
+    def open_robot(self, name: bytes) -> Robot:
+        """Opens the robot for a name, which isn't kept. The library shares it among all agents that no line names."""
         if self.robots or self.kept:
             opened = lib.robot_open(self.opened, name, len(name))
         else:
             opened = lib.robot_of_file(self.body, len(self.body), name, len(name))
-        robot = Robot.__new__(Robot)._open(opened)
+        return Robot.__new__(Robot)._open(opened)
+
+    def _open(self, agent: str) -> Robot:
+        name = _name(agent)
+        robot = self.open_robot(name)
         if len(self.robots) >= _AGENTS_KEPT:
             self.robots.clear()
         self.robots[str(name, "utf-8")] = robot

@@ -2,12 +2,17 @@
 
 from __future__ import annotations
 
-from typing import Final, NamedTuple
+from collections.abc import Sequence
+from typing import Final, NamedTuple, Union
 
-from . import OverlongRuleError, Robots, TooCostlyError
+from . import OverlongRuleError, Robots, TooCostlyError, product_token
+from ._robots import Robot
 
 COST_LIMIT: Final = 20_000_000
 """A verdict may take so many comparisons. One that could take more is asked for with this budget."""
+
+Agents = Union[str, Sequence[str]]
+"""A crawler's User-Agent or product token, or several in order of precedence: the first that a file names counts, or else ``*``."""
 
 _URL_LENGTH: Final = 2000
 _URL_CHARACTERS: Final = _URL_LENGTH // 12
@@ -17,33 +22,55 @@ _NAMES_KEPT: Final = 1000
 
 
 class Decision(NamedTuple):
-    """Whether a crawler may fetch a URL, and the line that decides it. If there is a problem, the URL is denied because of it."""
+    """Whether a crawler may fetch a URL, and the line that decides it. If there is a problem, the URL is denied because of it.
+
+    It is true if the crawler may fetch the URL, and false if not.
+    """
 
     allowed: bool
     line: int | None = None
     problem: str = ""
+
+    def __bool__(self) -> bool:
+        return self.allowed
 
 
 OUT_OF_MEMORY: Final = Decision(False, None, "out of memory")  # made in advance, as it can't be made without memory
 _TOO_COSTLY: Final = Decision(False, None, "a verdict may take too long")
 
 
-class Rules:
-    """The rules of a file, for crawlers by their product tokens."""
+_DECISIONS: Final[dict[int, Decision]] = {}  # those that were made, by what the library returns
+_DECISIONS_KEPT: Final = 10_000
 
-    __slots__ = ("_costly", "_limit", "_robots")
+
+def _decision(result: int) -> Decision:
+    decision = Decision(result >= 0, abs(result) or None)
+    if len(_DECISIONS) < _DECISIONS_KEPT:
+        _DECISIONS[result] = decision
+    return decision
+
+
+class Rules:
+    """The rules of a file, for crawlers by their names."""
+
+    __slots__ = ("_known", "_limit", "_robots", "learned")
 
     def __init__(self, body: bytes, cost_limit: int = COST_LIMIT) -> None:
         self._robots = Robots(body)
         self._limit = cost_limit
-        self._costly: dict[str, bool] = {}
+        self.learned = 0
+        """How often another crawler was asked about, as that changes the size."""
+        self._known: dict[str | tuple[str, ...], tuple[Robot, bool, float]] = {}
 
-    def decide(self, url: str, token: str) -> Decision:
-        """Whether the crawler with this product token may fetch the URL."""
+    def decide(self, url: str, agents: Agents) -> Decision:
+        """Whether the crawler with these names may fetch the URL."""
         try:
-            if self._is_costly(token) or len(url) > _URL_CHARACTERS:
-                return Decision(*self._robots.verdict_within(url, token, self._limit))
-            return Decision(*self._robots.verdict(url, token))
+            robot, is_costly, _ = (type(agents) is str and self._known.get(agents)) or self._learned(agents)
+            if is_costly or len(url) > _URL_CHARACTERS:
+                return Decision(*robot.verdict_within(url, self._limit))
+            result = robot._result(url)
+            decision = _DECISIONS.get(result)
+            return _decision(result) if decision is None else decision
         except OverlongRuleError as error:
             return Decision(False, error.line, str(error))
         except TooCostlyError:
@@ -51,9 +78,12 @@ class Rules:
         except MemoryError:
             return OUT_OF_MEMORY
 
-    def delay(self, token: str) -> float:
+    def delay(self, agents: Agents) -> float:
         """How many seconds the crawler waits between two requests, or 0 if the file doesn't say."""
-        return self._robots.delay(token) or 0.0
+        try:
+            return ((type(agents) is str and self._known.get(agents)) or self._learned(agents))[2]
+        except OverlongRuleError:
+            return self._robots.delay(self._token(_names(agents))) or 0.0
 
     @property
     def sitemaps(self) -> list[str]:
@@ -65,14 +95,29 @@ class Rules:
         """How many bytes of memory the file takes. It grows with each crawler that is asked about."""
         return self._robots.size
 
-    def is_known(self, token: str) -> bool:
-        """Whether the crawler was asked about before."""
-        return token in self._costly
+    def _token(self, names: tuple[str, ...]) -> str:
+        """The product token that counts."""
+        tokens = [product_token(name) for name in names]
+        return tokens[0] if len(tokens) == 1 else next(filter(self._robots.is_named, tokens), "*")
 
-    def _is_costly(self, token: str) -> bool:
-        costly = self._costly.get(token)
-        if costly is None:
-            if len(self._costly) >= _NAMES_KEPT:
-                self._costly.clear()
-            costly = self._costly[token] = self._robots.cost(_URL_LENGTH, token) > self._limit
-        return costly
+    def _learned(self, agents: Agents) -> tuple[Robot, bool, float]:
+        """What the file says to a crawler, which is kept; whether a verdict may take too long; and the delay."""
+        names = _names(agents)
+        key: str | tuple[str, ...] = names[0] if len(names) == 1 else names
+        known = self._known.get(key)
+        if not known:
+            site, token = self._robots._site, self._token(names)
+            before, robot = site.kept, site.robot(token)
+            if len(self._known) >= _NAMES_KEPT or site.kept is not before:
+                self._known.clear()  # of the second crawler on, all share what C has read
+            self.learned += 1
+            known = self._known[key] = robot, robot.cost(_URL_LENGTH) > self._limit, robot.delay or 0.0
+        return known
+
+
+def _names(agents: Agents) -> tuple[str, ...]:
+    """The names as plain `str`, whose equality is their text's."""
+    names = (agents,) if isinstance(agents, str) else tuple(agents)
+    if not names or not all(isinstance(name, str) for name in names):
+        raise TypeError(f"user_agent is {agents!r}: it has to be a str, such as 'FerrisBot/1.0', or several in order of precedence")
+    return tuple(str.__str__(name) for name in names)

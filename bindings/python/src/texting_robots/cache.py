@@ -13,140 +13,69 @@
 
 from __future__ import annotations
 
-import enum
+import logging
+import random
 import time
 import zlib
-from collections import OrderedDict
-from collections.abc import Callable, Mapping
-from typing import Final, NamedTuple
+from collections.abc import Callable, Iterable
+from math import inf
+from typing import Final, Literal
+from urllib.parse import urlsplit
 
-from . import FILE_LIMIT, LIFETIME, Meaning, Robots, meaning, product_token, robots_url
-from ._contents import seconds_of, target, unpacked
-from ._disk import Disk, Record
-from ._rules import COST_LIMIT, OUT_OF_MEMORY, Decision, Rules
+from . import FILE_LIMIT, LIFETIME, Meaning, Robots, meaning, robots_url
+from ._contents import Headers, fields_of, max_age, seconds_of, target, unpacked
+from ._disk import Disk, Path
+from ._memory import Memory
+from ._rules import COST_LIMIT, OUT_OF_MEMORY, Agents, Decision, Rules
+from ._settings import positive
+from ._sites import Action, Fetch, Flight, Look, Site, State, Step
 
-__all__ = ["Action", "Decision", "Fetch", "Look", "RobotsCache", "Site", "State", "Step"]
+__all__ = ["Action", "Agents", "Decision", "Fetch", "Headers", "Look", "RobotsCache", "Site", "State", "Step"]
 
+logger = logging.getLogger(__name__)
+
+LongOutage = Literal["last file", "no file", "closed"]
 _AN_HOUR: Final = 3600
+_30_DAYS: Final = 30 * 86_400
+_FIRST_RETRY: Final = 5.0
+_LEAST_LIFETIME: Final = 300.0
+_TURNS_KEPT: Final = 1000
+_LOOK_AGAIN: Final = 1.0  # seconds until another process may have the file
 _ETAG_LIMIT: Final = 200
-_SITE_BYTES: Final = 700  # of a site without its file; measured, with what is lost between objects
+_FLIGHT_BYTES: Final = 610  # measured
 _CLOSED: Final = Robots.deny_all()
-
-
-class State(enum.Enum):
-    """What is known of a site: it has a file, it has none, or that can't be found out now, and then nothing may be fetched."""
-
-    FILE = 1
-    NO_FILE = 2
-    UNREACHABLE = 3
-
-
-class Action(enum.Enum):
-    """What to do for a URL.
-
-    - ``USE``: what is known of its site counts.
-    - ``REFRESH``: it counts, but it is time to make the request of `Look.fetch`.
-    - ``FETCH``: nothing counts before the request of `Look.fetch` is answered.
-    - ``WAIT``: nothing counts before a request is answered that was given out for the site before.
-    """
-
-    USE = "use"
-    REFRESH = "refresh"
-    FETCH = "fetch"
-    WAIT = "wait"
-
-
-class Site:
-    """What is known of a site.
-
-    ``address`` is that of its robots.txt file. Until ``expires`` the file counts, and from ``refresh`` on it is asked for again; both are
-    seconds since 1970. If its server fails then, ``is_failing`` is true, and the file counts on.
-    """
-
-    __slots__ = ("__weakref__", "address", "etag", "expires", "is_failing", "longest_delay", "packed", "refresh", "rules", "size", "source", "state")
-
-    def __init__(self, address: str, state: State, expires: float, refresh: float) -> None:
-        self.address, self.state, self.expires, self.refresh = address, state, expires, refresh
-        self.is_failing = False
-        self.source, self.etag = address, ""  # where the file was at last, and its version there
-        self.packed = b""  # the file, compressed
-        self.rules: Rules | None = None  # the file, parsed, as long as there is room
-        self.size = 0  # of the rules
-        self.longest_delay = 0.0  # of the crawlers that were asked about
-
-    def counts(self, now: float) -> bool:
-        """Whether it can be used now, though a newer one may be fetched."""
-        return self.state is not State.UNREACHABLE and (now < self.expires or self.is_failing)
-
-    @property
-    def memory(self) -> int:
-        """How many bytes of memory it takes without the rules."""
-        return _SITE_BYTES + len(self.packed) + len(self.etag) + (0 if self.source is self.address else len(self.source))
-
-    def record(self) -> Record:
-        """What is kept of it on disk."""
-        return Record(
-            self.address, self.state.value, self.is_failing, self.expires, self.refresh, self.source, self.etag, self.packed
-        )
-
-
-class Fetch:
-    """A request to make for a site's file: its address, and the fields that it has to have. It is given to the cache with the response."""
-
-    __slots__ = ("address", "flight", "headers")
-
-    def __init__(self, address: str, headers: dict[str, str], flight: _Flight) -> None:
-        self.address, self.headers, self.flight = address, headers, flight
-
-
-class Look(NamedTuple):
-    """What to do for a URL, the address of its robots.txt file, what is known of its site if that counts, and the request to make."""
-
-    action: Action
-    address: str
-    site: Site | None
-    fetch: Fetch | None
-
-
-class Step(NamedTuple):
-    """What a response is good for: the sites that are known now, by the addresses of their files, and the next request, if there is one.
-
-    Who waits for one of the sites can go on, even if what is known is that its file can't be reached. A site that isn't known after the
-    last request waits for one that was given out for another site, to whose file it was redirected.
-    """
-
-    known: dict[str, Site]
-    fetch: Fetch | None
-
-
-class _Flight:
-    """A file on its way: for the sites with these addresses, each after so many redirects, with what was known of them before."""
-
-    __slots__ = ("before", "redirects", "since")
-
-    def __init__(self, since: float) -> None:
-        self.since = since
-        self.redirects: dict[str, int] = {}
-        self.before: dict[str, Site | None] = {}
 
 
 class RobotsCache:
     """What is known of sites, by the addresses of their robots.txt files.
 
     `look` says what to do for a URL. Who makes the request that it asks for gives the response to `received`, or if there was none calls
-    `failed`, and goes on with the next request until there is none. `decide` says whether a crawler may fetch a URL.
+    `failed`, and goes on with the next request until there is none. One of the two has to be called for each request, whatever happens, as
+    when a task is cancelled: else the site's URLs wait, until after ``answer_within`` seconds the request counts as failed. `decide` says
+    whether a crawler may fetch a URL.
 
-    A file counts for ``lifetime`` seconds (RFC 9309 asks for at most 24 hours), and is fetched again in the last hour of them, or the last
-    half of a shorter lifetime. If the server fails then, it counts on; if it fails at first, nothing may be fetched. In both cases the file
-    is asked for again after ``retry`` seconds, or when the server said (at most after the lifetime).
+    A file counts for ``lifetime`` seconds (RFC 9309 asks for at most 24 hours), or as many as its server says if they are fewer
+    (Cache-Control: max-age), but at least 300. It is fetched again in the last hour of them, or the last half of a shorter lifetime. If the server fails then, it counts on; if it fails at first, nothing may be fetched. In both cases the file
+    is asked for again after 5 seconds, 10, 20 and so on up to ``retry``, and up to a tenth longer by ``chance``; or when the server said
+    (Retry-After, at most the lifetime), where 0 and times that are over count as 5 seconds. From the third failure in a row on, it is the
+    later of both. When a server has failed for 30 days, ``after_30_days`` says what counts: the ``"last file"`` that it gave, or if there
+    was none nothing may be fetched; ``"no file"``, so everything may be; or ``"closed"``, so nothing may be.
 
     It takes about ``budget`` bytes of memory: a quarter for the parsed files that were used last, and the rest for all files, compressed.
-    Where that doesn't suffice, the file that wasn't used for the longest time goes, and is fetched again; unless ``database`` names a sqlite3
-    file, in which all of them are kept, also for the next start. A verdict takes at most ``cost_limit`` comparisons.
+    Where that doesn't suffice, the file that wasn't used for the longest time goes, and is fetched again, which the first time is a warning;
+    unless ``database`` names a sqlite3 file, in which all of them are kept, also for the next start. A verdict takes at most ``cost_limit``
+    comparisons. Of hosts in ``exempt``, such as your own, no file is fetched, and everything may be.
+
+    Several processes of one machine may share a database, but not in a network's file system. One of them then fetches a file, and the
+    others wait for it. A lock of another program is waited for 0.2 seconds, and then not for a second; when the database is opened or closed,
+    it is waited for 10 seconds. A file that is no such database is renamed, and begun anew.
 
     ``count`` is called with the name of an event: ``parsed`` again from compressed bytes, ``evicted`` from memory, ``read`` from the
-    database, ``stale`` for a file that counts on, ``not_modified``. ``found`` is called with an address and its sitemaps, once a file has
-    been fetched or read from the database, unless the one before had the same. Threads can't share it.
+    database, ``stale`` for a file that counts on, ``not_modified``, ``unanswered`` for a request without an answer. ``found`` is called with
+    an address and its sitemaps, once a file has been fetched or read from the database, unless the one before had the same. ``clock``
+    returns the seconds since 1970, and ``chance`` a number from 0 to 1.
+
+    Any thread may call it, but one call has to end before another begins. A number that isn't more than 0 is a ValueError.
     """
 
     def __init__(
@@ -154,119 +83,200 @@ class RobotsCache:
         *,
         lifetime: float = LIFETIME,
         retry: float = 300,
+        answer_within: float = 300,
+        after_30_days: LongOutage = "last file",
         budget: int = 100_000_000,
-        database: str = "",
+        database: Path = "",
         cost_limit: int = COST_LIMIT,
+        exempt: Iterable[str] = (),
         clock: Callable[[], float] = time.time,
+        chance: Callable[[], float] = random.random,
         count: Callable[[str], object] = lambda name: None,
         found: Callable[[str, list[str]], object] = lambda address, sitemaps: None,
     ) -> None:
-        self._lifetime, self._retry, self._budget, self._cost_limit = lifetime, retry, budget, cost_limit
-        self._clock, self._count, self._found = clock, count, found
+        self._lifetime, self._retry = positive("lifetime", lifetime), positive("retry", retry)
+        self._answer_within, self._cost_limit = positive("answer_within", answer_within), positive("cost_limit", cost_limit)
+        if after_30_days not in ("last file", "no file", "closed"):
+            raise ValueError(f"after_30_days is {after_30_days!r}: it has to be 'last file', 'no file' or 'closed'")
+        self._after_30_days, self._clock, self._chance = after_30_days, clock, chance
+        self._count, self._found = count, found
+        self._memory = Memory(positive("budget", budget), cost_limit, self._counted)
+        self._longest = max(lifetime, 1.1 * retry)  # until a file is asked for again
+        self._flights: dict[str, Flight] = {}
+        self._turns: dict[str, float] = {}  # when the next request to a site with a delay may go
+        self._turns_kept = _TURNS_KEPT
+        self._has_evicted = False
+        if isinstance(exempt, str):
+            raise TypeError("exempt has to be several str, for example in a list")
+        self._exempt = frozenset(host.lower() for host in exempt)
         self._disk = Disk(database, clock()) if database else None
-        self._sites: OrderedDict[str, Site] = OrderedDict()  # the one that was used last is at the end, in both
-        self._parsed: OrderedDict[str, Site] = OrderedDict()
-        self._flights: dict[str, _Flight] = {}
-        self._parsed_size = self._sites_size = 0
 
     def look(self, url: str) -> Look:
         """What to do for a URL, or UrlError if it isn't one of http or https."""
         return self.at(robots_url(url))
 
     def at(self, address: str) -> Look:
-        """What to do for the site whose file has this address."""
+        """What to do for the site whose file has this address, which is what `texting_robots.robots_url` returned: no other text is one."""
         now = self._clock()
-        site, flight = self._known(address), self._flights.get(address)
-        if site and flight and (site.counts(now) or site.state is not State.UNREACHABLE and flight.since < site.expires):
-            return Look(Action.USE, address, site, None)  # the request was made in time
-        if flight:
-            return Look(Action.WAIT, address, None, None)
-        if site and now < site.refresh:
-            return Look(Action.USE, address, site, None)
-        flight = _Flight(now)
-        self._join(flight, address, 0, site)
-        if site and site.counts(now):
-            return Look(Action.REFRESH, address, site, self._fetch(address, flight))
-        return Look(Action.FETCH, address, None, self._fetch(address, flight))
+        if self._exempt and urlsplit(address).hostname in self._exempt:
+            return Look(Action.USE, address, Site(address, State.NO_FILE, inf, inf))
+        if self._flights:
+            self._give_up(now)
+        site = self._known(address, now)
+        flight = self._flights.get(address)
+        if flight is None:
+            if site is not None and now < site.refresh:
+                return Look(Action.USE, address, site)
+            return self._due(address, site, now)
+        if site and (site.counts(now) or site.state is not State.UNREACHABLE and flight.since < site.expires):
+            return Look(Action.USE, address, site)  # the request was made in time
+        return Look(Action.WAIT, address, again=flight.until - now)
 
-    def received(self, fetch: Fetch, status: int, headers: Mapping[str, str], body: bytes, is_complete: bool = True) -> Step:
-        """What a response says. ``body`` is as received, also if it is compressed, or its first part if it is longer than what counts;
-        ``is_complete`` is whether it came to its end."""
-        flight, fields = fetch.flight, _fields(headers)
-        location = target(fetch.address, fields.get("location"))
-        refresh = self._clock() + self._retry_after(fields)
-        known: dict[str, Site] = {}
+    def received(self, fetch: Fetch, status: int, headers: Headers, body: bytes, is_complete: bool = True) -> Step:
+        """What a response says.
+
+        ``headers`` are names with values, or pairs, in ``str`` or in bytes. ``body`` is as received, also if it is compressed, or its first
+        part if it is longer than what counts; but if the HTTP library has unpacked it, leave ``Content-Encoding`` out. ``is_complete`` is
+        whether it came to its end. An answer that comes after the request counts as failed has no effect.
+        """
+        flight, fields = fetch.flight, fields_of(headers)
+        if not isinstance(body, (bytes, bytearray, memoryview)):
+            raise TypeError(f"body has the type {type(body).__name__}: it has to be bytes")
+        location, known, files = target(fetch.address, fields.get("location")), dict[str, Site](), list[Site]()
+        flight.reached = flight.reached.union(flight.redirects)
+        before, lifetime = dict(flight.before), self._lifetime_of(fields)
         try:
             version = fetch.headers.get("If-None-Match") if status == 304 else None
-            same = next((it for it in flight.before.values() if it and (it.source, it.etag) == (fetch.address, version)), None)
+            same = next((it for it in before.values() if it and (it.source, it.etag) == (fetch.address, version)), None)
             plain = unpacked(body, fields.get("content-encoding", ""))
             is_whole = plain is not None and (is_complete or len(plain) >= FILE_LIMIT)
             packed = zlib.compress((plain or b"")[:FILE_LIMIT], 1)
             for address, redirects in list(flight.redirects.items()):
                 what = meaning(status, redirects=redirects, has_location=bool(location), is_complete=is_whole)
                 if same:
-                    known[address] = self._renewed(flight, address, same)
+                    known[address] = self._renewed(flight, address, same, lifetime)
                 elif what is Meaning.PARSE:
-                    known[address] = self._with_file(flight, address, packed, fetch.address, fields.get("etag", ""))
+                    known[address] = self._with_file(flight, address, packed, fetch.address, fields.get("etag", ""), lifetime)
+                    files.append(known[address])
                 elif what is Meaning.ALLOW_ALL:
-                    known[address] = self._settled(flight, self._new(address, State.NO_FILE))
+                    known[address] = self._settled(flight, self._new(address, State.NO_FILE, lifetime))
                 elif what is Meaning.DENY_ALL:
-                    known[address] = self._unreachable(flight, address, refresh, is_answer=True)
+                    known[address] = self._unreachable(flight, address, self._wait_of(fields))
         except MemoryError:
             known |= self.failed(fetch).known
-        return self._followed(flight, location, known) if flight.redirects else Step(known, None)
+        step = self._followed(flight, location, known) if flight.redirects else Step(known, None)
+        for site in files:
+            self._tell_sitemaps(site, before[site.address])
+        return step
 
-    def failed(self, fetch: Fetch) -> Step:
-        """What it means that there is no response."""
-        flight, refresh = fetch.flight, self._clock() + self._retry
-        return Step({it: self._unreachable(flight, it, refresh, is_answer=False) for it in list(flight.redirects)}, None)
+    def failed(self, fetch: Fetch, was_reached: bool = True) -> Step:
+        """What it means that there is no response, or that its request is given up. ``was_reached`` is whether there was a connection to the
+        server: not if its name is unknown, or if it refuses connections."""
+        flight = fetch.flight
+        if was_reached:
+            flight.reached = flight.reached.union(flight.redirects)
+        return Step({it: self._unreachable(flight, it, None) for it in list(flight.redirects)}, None)
 
-    def decide(self, site: Site, url: str, user_agent: str) -> Decision:
-        """Whether a crawler with this User-Agent or product token may fetch a URL of the site."""
+    def decide(self, site: Site, url: str, user_agent: Agents) -> Decision:
+        """Whether a crawler may fetch a URL of the site. ``user_agent`` is its User-Agent or product token, or a list of several in order of
+        precedence: the first that the file names counts, or else ``*``. The decision is true if the crawler may fetch the URL."""
         if site.state is State.NO_FILE:
             return Decision(True)
         if site.state is State.UNREACHABLE:
             return Decision(_CLOSED.allowed(url, "*"), None, "unreachable")
         try:
-            rules, token = self._rules(site), product_token(user_agent)
-            is_known = rules.is_known(token)
-            decision = rules.decide(url, token)
-            if not is_known:
-                self._measure(site)
+            rules = self._memory.rules(site)
+            before = rules.learned
+            decision = rules.decide(url, user_agent)
+            if rules.learned != before:
+                self._memory.measure(site)
             return decision
         except MemoryError:
             return OUT_OF_MEMORY
 
-    def delay(self, site: Site, user_agent: str) -> float:
+    def delay(self, site: Site, user_agent: Agents) -> float:
         """The longest of the delays that the site's file asks for of the crawlers that it was asked about, with this one, in seconds."""
         if site.state is State.FILE:
             try:
-                site.longest_delay = max(site.longest_delay, self._rules(site).delay(product_token(user_agent)))
+                site.longest_delay = max(site.longest_delay, self._memory.rules(site).delay(user_agent))
             except MemoryError:
                 pass  # then nothing is fetched either
         return site.longest_delay
 
+    def next_request(self, site: Site, user_agent: Agents, longest: float = 60) -> float:
+        """In how many seconds the next request to the site may go: 0.0 if now, else as long after the one before as the file asks for, but at
+        most ``longest`` seconds. It counts as made then: call this once for each request, before it."""
+        now, delay = self._clock(), min(self.delay(site, user_agent), longest)
+        moment = max(now, self._turns.pop(site.address, 0.0))
+        if len(self._turns) >= self._turns_kept:
+            self._turns = {address: turn for address, turn in self._turns.items() if turn > now}
+            self._turns_kept = max(_TURNS_KEPT, 2 * len(self._turns))
+        if delay:
+            self._turns[site.address] = moment + delay
+        return moment - now
+
     def close(self) -> None:
-        """Closes the database."""
+        """Writes what isn't in the database yet, and closes it: nothing is kept there from now on. Without this, the last second may be missing."""
         if self._disk:
             self._disk.close()
 
     @property
     def size(self) -> int:
-        """How many bytes of memory the sites take."""
-        return self._sites_size + self._parsed_size
+        """How many bytes of memory the sites take, with the requests that have no answer yet."""
+        return self._memory.size + len(self._flights) * _FLIGHT_BYTES
+
+    @property
+    def in_flight(self) -> int:
+        """How many sites wait for the answer to a request that was given out."""
+        return len(self._flights)
 
     def __len__(self) -> int:
         """How many sites are in memory."""
-        return len(self._sites)
+        return len(self._memory.sites)
+
+    def __enter__(self) -> RobotsCache:
+        return self
+
+    def __exit__(self, *error: object) -> None:
+        self.close()
+
+    def __repr__(self) -> str:
+        return f"<{type(self).__name__} of {len(self)} sites>"
 
     # ---- requests
 
-    def _join(self, flight: _Flight, address: str, redirects: int, before: Site | None) -> None:
+    def _due(self, address: str, site: Site | None, now: float) -> Look:
+        """What to do for a site whose file is to be asked for, unless another process does so, or has done it."""
+        if self._disk:
+            is_ours, record = self._disk.claim(address, now, now + self._answer_within), self._disk.get(address)
+            if record and now < record.refresh:
+                if is_ours:
+                    self._disk.release(address)
+                return Look(Action.USE, address, self._read(Site.of(record)))
+            if not is_ours:
+                return Look(Action.USE, address, site) if site and site.counts(now) else Look(Action.WAIT, address, again=_LOOK_AGAIN)
+        flight = Flight(now, now + self._answer_within)
+        self._join(flight, address, 0, site)
+        fetch = self._fetch(address, flight)
+        if site and site.counts(now):
+            return Look(Action.REFRESH, address, site, fetch)
+        return Look(Action.FETCH, address, None, fetch, self._answer_within)
+
+    def _give_up(self, now: float) -> None:
+        """Counts requests as failed that have had no answer for too long."""
+        while self._flights:
+            flight = next(iter(self._flights.values()))
+            if now < flight.until:
+                return
+            self._counted("unanswered")
+            for address in list(flight.redirects):
+                self._unreachable(flight, address, None)
+
+    def _join(self, flight: Flight, address: str, redirects: int, before: Site | None) -> None:
         flight.redirects[address], flight.before[address] = redirects, before
         self._flights[address] = flight
 
-    def _fetch(self, address: str, flight: _Flight) -> Fetch:
+    def _fetch(self, address: str, flight: Flight) -> Fetch:
         """The request. A version that is known is named where it is from, if no site waits for more than to hear that it is still that."""
         headers = {"Accept-Encoding": "identity"}
         versions = {it.etag if it and it.state is State.FILE and it.source == address else "" for it in flight.before.values()}
@@ -274,180 +284,129 @@ class RobotsCache:
             headers["If-None-Match"] = versions.pop()
         return Fetch(address, headers, flight)
 
-    def _followed(self, flight: _Flight, address: str, known: dict[str, Site]) -> Step:
+    def _followed(self, flight: Flight, address: str, known: dict[str, Site]) -> Step:
         """What comes after a redirect to this address, for the sites that are in the flight. Where the address is that of a site's file, that
         one is in it too, and what is known of it, or is on its way, counts for all of them."""
+        now = self._clock()
+        flight.until = now + self._answer_within
         for it in flight.redirects:
             flight.redirects[it] += 1
         if address in flight.redirects or robots_url(address) != address:
             return Step(known, self._fetch(address, flight))
-        other, site = self._flights.get(address), self._known(address)
+        other, site = self._flights.get(address), self._known(address, now)
         if other:
             for it, redirects in flight.redirects.items():
                 self._join(other, it, redirects, flight.before[it])
+            other.reached |= flight.reached
+            flight.redirects, flight.before = {}, {}  # nothing waits for this one any more
             return Step(known, None)
-        if site and self._clock() < site.refresh:
+        if site and now < site.refresh:
             for it in list(flight.redirects):
                 if site.state is State.UNREACHABLE:
-                    known[it] = self._unreachable(flight, it, site.refresh, is_answer=True)
+                    known[it] = self._unreachable(flight, it, site.refresh)
                 else:
-                    known[it] = self._settled(flight, self._copy(it, site))
+                    known[it] = self._settled(flight, site.copy(it))
             return Step(known, None)
         self._join(flight, address, 0, site)
         return Step(known, self._fetch(address, flight))
 
-    def _settled(self, flight: _Flight, site: Site, is_answer: bool = True) -> Site:
+    def _settled(self, flight: Flight, site: Site) -> Site:
         """Keeps what a flight found out of a site."""
         del flight.redirects[site.address], flight.before[site.address], self._flights[site.address]
-        self._keep(site)
-        if self._disk and is_answer:
-            self._disk.put(site.record())
+        self._memory.keep(site)
+        if self._disk:
+            self._disk.put(site.record(), is_last=not self._flights)
         return site
 
-    def _new(self, address: str, state: State) -> Site:
-        now = self._clock()
-        expires = now + self._lifetime
-        return Site(address, state, expires, expires - min(_AN_HOUR, self._lifetime / 2))
+    def _lifetime_of(self, fields: dict[str, str]) -> float:
+        """For how many seconds a response counts."""
+        said = max_age(fields)
+        return self._lifetime if said is None else min(self._lifetime, max(said, _LEAST_LIFETIME))
 
-    def _with_file(self, flight: _Flight, address: str, packed: bytes, source: str, etag: str) -> Site:
-        site, before = self._new(address, State.FILE), flight.before[address]
+    def _new(self, address: str, state: State, lifetime: float) -> Site:
+        expires = self._clock() + lifetime
+        return Site(address, state, expires, expires - min(_AN_HOUR, lifetime / 2))
+
+    def _with_file(self, flight: Flight, address: str, packed: bytes, source: str, etag: str, lifetime: float) -> Site:
+        site = self._new(address, State.FILE, lifetime)
         site.packed, site.source = packed, address if source == address else source
         site.etag = etag if len(etag) <= _ETAG_LIMIT and etag.isascii() and etag.isprintable() else ""
         site.rules = Rules(zlib.decompress(packed), self._cost_limit)
-        self._settled(flight, site)
-        self._tell_sitemaps(site, before)
-        return site
-
-    def _renewed(self, flight: _Flight, address: str, before: Site) -> Site:
-        """A site whose file is still the one that was known before, for it or another site."""
-        self._count("not_modified")
-        site = self._copy(address, before)
-        fresh = self._new(address, State.FILE)
-        site.expires, site.refresh, site.is_failing = fresh.expires, fresh.refresh, False
         return self._settled(flight, site)
 
-    def _unreachable(self, flight: _Flight, address: str, refresh: float, is_answer: bool) -> Site:
-        """A site whose server fails: what was known of it before counts on, if it still can."""
-        before = flight.before[address]
-        if before and before.state is State.FILE:
-            self._count("stale")
-            site = self._copy(address, before)
-            site.is_failing = True
+    def _renewed(self, flight: Flight, address: str, before: Site, lifetime: float) -> Site:
+        """A site whose file is still the one that was known before, for it or another site."""
+        self._counted("not_modified")
+        site, fresh = before.copy(address), self._new(address, State.FILE, lifetime)
+        site.expires, site.refresh, site.failing_since, site.failures = fresh.expires, fresh.refresh, 0.0, 0
+        return self._settled(flight, site)
+
+    def _unreachable(self, flight: Flight, address: str, refresh: float | None) -> Site:
+        """A site whose server fails: what was known of it before counts on, if it still can. It is asked again at this time at the earliest."""
+        before, now = flight.before[address], self._clock()
+        failures = 1 + (before.failures if before else 0)
+        usual = now + min(self._retry, _FIRST_RETRY * 2.0 ** min(failures - 1, 40)) * (1 + self._chance() / 10)
+        refresh = usual if refresh is None else max(refresh, usual if failures > 2 else 0.0)
+        if before and before.packed:
+            self._counted("stale")
+            site = before.copy(address)
+            site.state = State.FILE
         elif before and before.counts(refresh):
-            site = self._copy(address, before)
+            site = before.copy(address)
         else:
             site = Site(address, State.UNREACHABLE, refresh, refresh)
-        site.refresh = refresh
-        return self._settled(flight, site, is_answer)
+        site.refresh, site.failures, site.failing_since = refresh, failures, (before and before.failing_since) or now
+        site.was_reached = address in flight.reached or bool(before and before.was_reached)
+        if now - site.failing_since >= _30_DAYS and self._after_30_days != "last file":
+            site.state = State.NO_FILE if self._after_30_days == "no file" else State.UNREACHABLE
+            site.expires = max(refresh, now + self._lifetime)
+        return self._settled(flight, site)
 
-    def _copy(self, address: str, before: Site) -> Site:
-        """What is known of a site, for this address. Its rules stay what they are."""
-        site = Site(address, before.state, before.expires, before.refresh)
-        site.source = address if before.source == address else before.source
-        site.packed, site.etag, site.is_failing = before.packed, before.etag, before.is_failing
-        if address == before.address:
-            site.rules, site.size, site.longest_delay = before.rules, before.size, before.longest_delay
-        return site
-
-    def _retry_after(self, fields: dict[str, str]) -> float:
-        """How many seconds to wait after a server's failure, as it says itself, or else as usual."""
-        seconds = seconds_of(fields["retry-after"], self._clock()) if "retry-after" in fields else None
-        return self._retry if seconds is None else min(max(seconds, 1), self._lifetime)
+    def _wait_of(self, fields: dict[str, str]) -> float | None:
+        """When a server that fails says that it is to be asked again."""
+        now = self._clock()
+        seconds = seconds_of(fields["retry-after"], now) if "retry-after" in fields else None
+        return None if seconds is None else now + min(seconds if seconds > 0 else min(_FIRST_RETRY, self._retry), self._lifetime)
 
     def _tell_sitemaps(self, site: Site, before: Site | None) -> None:
         """Tells of the sitemaps of a file, unless those of the file before were the same."""
         try:
-            sitemaps = self._rules(site).sitemaps
+            sitemaps = self._memory.rules(site).sitemaps
             old = before if sitemaps and before and before.state is State.FILE else None
             if sitemaps and not (old and (old.packed == site.packed or Rules(zlib.decompress(old.packed)).sitemaps == sitemaps)):
                 self._found(site.address, sitemaps)
         except MemoryError:
             pass
 
-    # ---- memory
+    # ---- what is known
 
-    def _known(self, address: str) -> Site | None:
+    def _known(self, address: str, now: float) -> Site | None:
         """The site, from memory, or else from the database."""
-        site = self._sites.get(address) or self._read(address)
-        if site:
-            # a clock that was wrong makes no file count for longer
-            latest = self._clock() + max(self._lifetime, self._retry)
-            site.expires, site.refresh = min(site.expires, latest), min(site.refresh, latest)
-            if address in self._sites:
-                self._sites.move_to_end(address)
+        site = self._memory.get(address)
+        if site is None and self._disk:
+            self._disk.write_if_due()
+            record = self._disk.get(address)
+            site = self._read(Site.of(record)) if record else None
+        if site is not None:
+            latest = now + self._longest  # a clock that was wrong makes no file count for longer
+            if site.expires > latest or site.refresh > latest:
+                site.expires, site.refresh = min(site.expires, latest), min(site.refresh, latest)
         return site
 
-    def _read(self, address: str) -> Site | None:
-        record = self._disk.get(address) if self._disk else None
-        if not record:
-            return None
-        site = Site(address, State(record.state), record.expires, record.refresh)
-        site.source = address if record.source == address else record.source
-        site.is_failing, site.etag, site.packed = bool(record.is_failing), record.etag, record.packed
-        self._count("read")
-        self._keep(site)
+    def _read(self, site: Site) -> Site:
+        """Keeps a site that the database has."""
+        self._counted("read")
+        before = self._memory.sites.get(site.address)
+        self._memory.keep(site)
         if site.state is State.FILE:
-            self._tell_sitemaps(site, None)
+            self._tell_sitemaps(site, before)
         return site
 
-    def _rules(self, site: Site) -> Rules:
-        """The site's file, parsed."""
-        rules = site.rules
-        if rules is None:
-            rules = Rules(zlib.decompress(site.packed), self._cost_limit)
-            self._count("parsed")
-            if self._sites.get(site.address) is site:
-                self._keep_rules(site, rules)
-        elif site.address in self._parsed:
-            self._parsed.move_to_end(site.address)
-        return rules
-
-    def _keep(self, site: Site) -> None:
-        """Keeps a site in place of what was known of it."""
-        self._forget(site.address)
-        self._sites[site.address] = site
-        self._sites_size += site.memory
-        if site.rules:
-            self._keep_rules(site, site.rules)
-        self._make_room()
-
-    def _keep_rules(self, site: Site, rules: Rules) -> None:
-        site.rules, site.size = rules, rules.size
-        self._parsed[site.address] = site
-        self._parsed_size += site.size
-        self._make_room()
-
-    def _measure(self, site: Site) -> None:
-        """Notes how much memory the rules take now."""
-        if site.rules and self._parsed.get(site.address) is site:
-            self._parsed_size -= site.size
-            site.size = site.rules.size
-            self._parsed_size += site.size
-            self._make_room()
-
-    def _forget(self, address: str) -> None:
-        site = self._sites.pop(address, None)
-        if site:
-            self._sites_size -= site.memory
-        parsed = self._parsed.pop(address, None)
-        if parsed:
-            self._parsed_size -= parsed.size
-
-    def _make_room(self) -> None:
-        """Parsed files take at most a quarter of the budget, as parsing one again takes microseconds. The last one of each kind stays."""
-        while len(self._parsed) > 1 and self._parsed_size > self._budget // 4:
-            _, site = self._parsed.popitem(last=False)
-            self._parsed_size -= site.size
-            site.rules, site.size = None, 0
-        while len(self._sites) > 1 and self.size > self._budget:
-            self._count("evicted")
-            self._forget(next(iter(self._sites)))
-
-
-def _fields(headers: Mapping[str, str]) -> dict[str, str]:
-    """The fields by their names in small letters. A body may have several encodings, each in a field of its own."""
-    fields: dict[str, str] = {}
-    for name, value in headers.items():
-        name = name.lower()
-        fields[name] = f"{fields[name]},{value}" if name == "content-encoding" and name in fields else value
-    return fields
+    def _counted(self, name: str) -> None:
+        self._count(name)
+        if name == "evicted" and not self._has_evicted and not self._disk:
+            self._has_evicted = True
+            logger.warning(
+                "there are more robots.txt files than fit into the budget of memory, so some are fetched again and again: set a larger one"
+                " (budget, or TEXTING_ROBOTS_BUDGET), or name a file to keep them (database, or TEXTING_ROBOTS_DATABASE)"
+            )

@@ -20,8 +20,9 @@ _HOST: Final = re.compile(rb"(?i)(?<![^\r\n\0])[ \t]*host[ \t]*:([^#\r\n\0]*)")
 class Protego:
     """A robots.txt file with the interface of `protego.Protego`, and the verdicts of this library.
 
-    A ``user_agent`` may be a whole one, of which the product token counts, and isn't looked for elsewhere in it. ``robots`` is the same
-    file as a `Robots`, which says more, such as the line that decides.
+    A ``user_agent`` may be a whole one, of which the name at the front counts, and isn't looked for elsewhere in it: with its version, as
+    ``FerrisBot/1.0``, if a line of the file is for just that, or else the product token. ``robots`` is the same file as a `Robots`, which
+    says more, such as the line that decides.
     """
 
     def __init__(self) -> None:
@@ -57,8 +58,8 @@ class Protego:
 
     @property
     def sitemaps(self) -> Iterator[str]:
-        """The sitemaps, in the file's order."""
-        return iter(self._file.robots.sitemaps)
+        """The sitemaps, in the file's order, without empty ones."""
+        return filter(None, self._file.robots.sitemaps)
 
     @property
     def preferred_host(self) -> str | None:

@@ -9,6 +9,7 @@ from collections.abc import Iterable
 from urllib.robotparser import RequestRate
 from urllib.robotparser import RobotFileParser as UrllibParser
 
+from ._contents import unpacked
 from ._facade import File
 from ._responses import Meaning, meaning
 from ._robots import FILE_LIMIT, Robots
@@ -19,8 +20,8 @@ __all__ = ["RequestRate", "RobotFileParser"]
 class RobotFileParser(UrllibParser):
     """A robots.txt file with the interface of `urllib.robotparser.RobotFileParser`, and the verdicts of this library.
 
-    A ``useragent`` may be a whole one, of which the product token counts. ``robots`` is the same file as a `Robots`, which says more,
-    such as the line that decides.
+    A ``useragent`` may be a whole one, of which the name at the front counts: with its version, as ``FerrisBot/1.0``, if a line of the file
+    is for just that, or else the product token. ``robots`` is the same file as a `Robots`, which says more, such as the line that decides.
     """
 
     url: str
@@ -38,8 +39,8 @@ class RobotFileParser(UrllibParser):
         """Fetches the file, of which the first 512,000 bytes count. Without one, after a status 4xx, everything is allowed, but after 401
         or 403, as in urllib, denied. After 429 or 5xx, and after an error, it is as before: if no file was read yet, everything is denied.
 
-        It raises an OSError or an HTTPException if there is no response, or a body that is cut or compressed. As in urllib, up to ten redirects
-        are followed, and no timeout holds but that of `socket.setdefaulttimeout`.
+        It raises an OSError or an HTTPException if there is no response, or a body that is cut or can't be unpacked. As in urllib, up to ten
+        redirects are followed, and no timeout holds but that of `socket.setdefaulttimeout`.
         """
         try:
             response = urllib.request.urlopen(self.url)
@@ -55,10 +56,11 @@ class RobotFileParser(UrllibParser):
             encoding = response.headers.get("Content-Encoding") or "identity"
         if missing:
             raise http.client.IncompleteRead(body, missing)
-        if encoding.lower() != "identity":
+        plain = unpacked(body, encoding)
+        if plain is None:
             raise urllib.error.URLError(f"the file is encoded as {encoding}, which wasn't asked for")
         self.disallow_all = self.allow_all = False
-        self.parse(body.split(b"\n"))
+        self.parse(plain.split(b"\n"))
 
     def parse(self, lines: Iterable[str | bytes]) -> None:
         """Parses the lines of a file, each with or without its end. They take the place of those that were parsed before."""

@@ -3,15 +3,19 @@
 from __future__ import annotations
 
 import logging
-from typing import Any, ClassVar
+from typing import Any, ClassVar, Final
 
 from scrapy.robotstxt import RobotParser as ScrapyRobotParser
 
 from . import product_token
-from ._rules import COST_LIMIT, OUT_OF_MEMORY, Rules
+from ._rules import COST_LIMIT, OUT_OF_MEMORY, Decision, Rules
 
 logger = logging.getLogger(__name__)
 
+_MIDDLEWARES: Final = {
+    "scrapy.downloadermiddlewares.robotstxt.RobotsTxtMiddleware": None,
+    "texting_robots.middleware.RobotsMiddleware": 100,
+}
 NO_TOKEN = "User-Agent %r: the group of this crawler isn't found in a robots.txt file, unless ROBOTSTXT_USER_AGENT is its product token"
 
 
@@ -28,6 +32,8 @@ class RobotParser(ScrapyRobotParser):
     def __init__(self, robotstxt_body: bytes, spider: Any = None, cost_limit: int = COST_LIMIT) -> None:
         self._rules = Rules(robotstxt_body, cost_limit)
         self._spider = spider
+        self._agent: str | bytes = ""  # the User-Agent that was asked about last, and
+        self._name = ""  # the same as a text
         self._warned: set[str] = set()
 
     @classmethod
@@ -44,14 +50,19 @@ class RobotParser(ScrapyRobotParser):
     def allowed(self, url: str | bytes, user_agent: str | bytes) -> bool:
         """Whether the crawler may fetch the URL. ``user_agent`` is the whole User-Agent, or a product token."""
         try:
-            return self._allowed(_text(url), _text(user_agent))
+            if type(user_agent) is not type(self._agent) or user_agent != self._agent:
+                self._meet(user_agent)
+            decision = self._rules.decide(url if type(url) is str else _text(url), self._name)
+            if decision.problem:
+                self._warn_of(decision, url)
+            return decision.allowed
         except MemoryError:
             _warn(self._spider, "robots.txt for %s: out of memory: it isn't fetched", url)
             return False
 
     def delay(self, user_agent: str | bytes) -> float:
         """How many seconds the crawler waits between two requests, or 0 if the file doesn't say."""
-        return self._rules.delay(product_token(_text(user_agent)))
+        return self._rules.delay(_text(user_agent))
 
     @property
     def sitemaps(self) -> list[str]:
@@ -63,16 +74,19 @@ class RobotParser(ScrapyRobotParser):
         """How many bytes of memory the file takes."""
         return self._rules.size
 
-    def _allowed(self, url: str, user_agent: str) -> bool:
-        warn_of_browser(user_agent, self._spider)
-        token = product_token(user_agent)
-        decision = self._rules.decide(url, token)
+    def _meet(self, user_agent: str | bytes) -> None:
+        """Takes another User-Agent for that of the crawler."""
+        self._name = _text(user_agent)
+        warn_of_browser(self._name, self._spider)
+        self._agent = user_agent if type(user_agent) in (str, bytes) else ""  # another type may have its own equality
+
+    def _warn_of(self, decision: Decision, url: str | bytes) -> None:
         if decision is OUT_OF_MEMORY:
             raise MemoryError
-        if decision.problem and token not in self._warned:
+        token = product_token(self._name)
+        if token not in self._warned:
             self._warned.add(token)
-            _warn(self._spider, "robots.txt for %s: %s, %s: nothing is fetched", url, token, decision.problem)
-        return decision.allowed
+            _warn(self._spider, "robots.txt for %s: %s, %s: nothing is fetched", _text(url), token, decision.problem)
 
 
 class _Closed(RobotParser):
@@ -83,6 +97,24 @@ class _Closed(RobotParser):
 
     def allowed(self, url: str | bytes, user_agent: str | bytes) -> bool:
         return False
+
+
+class RobotsAddon:
+    """An add-on for Scrapy 2.10 and later, which puts `texting_robots.middleware.RobotsMiddleware` in the place of Scrapy's own, and obeys
+    robots.txt files::
+
+        ADDONS = {"texting_robots.scrapy.RobotsAddon": 100}
+
+    It is tested by a stand-in for such a version, and hasn't been tried with one.
+    """
+
+    def update_settings(self, settings: Any) -> None:
+        """Changes the settings of a project, which its own go before."""
+        settings.set("ROBOTSTXT_OBEY", True, priority="addon")
+        middlewares = settings["DOWNLOADER_MIDDLEWARES"]
+        for path, place in _MIDDLEWARES.items():
+            if path not in middlewares:
+                middlewares[path] = place
 
 
 _CLOSED = _Closed()  # made in advance, as it can't be made without memory
