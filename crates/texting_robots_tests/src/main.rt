@@ -1,5 +1,5 @@
 //! Calls of public functions that neither another program nor the C library calls, and of inputs that neither can
-//! have: the others have golden cases (`tests/golden`) and tests in C (`tests/host.c`). There is no `#[test]`, since a
+//! have: the others have golden cases (`tests/golden`) and tests in C (`tests/host.c`). There is no test function, since a
 //! program with tests is proved a second time with them.
 //!
 //! The program makes the calls of a table, and prints for each whether its result is right.
