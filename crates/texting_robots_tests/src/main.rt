@@ -1,6 +1,6 @@
 //! Calls of public functions that neither another program nor the C library calls, and of inputs that neither can
-//! have: the others have golden cases (`tests/golden`) and tests in C (`tests/host.c`). There is no test function, since a
-//! program with tests is proved a second time with them.
+//! have: the others have golden cases (`tests/golden`) and tests in C (`tests/host.c`). The crate has no test
+//! functions, since a program that has some is proved a second time with them.
 //!
 //! The program makes the calls of a table, and prints for each whether its result is right.
 //! `tests/test_allocation_failures.py` makes the allocations fail; then a call that allocates can also print
