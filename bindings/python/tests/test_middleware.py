@@ -14,7 +14,7 @@ import pytest
 from sites import PAGES, PUBLIC, RULES, Site, answers, closes, crawled, endless, never, redirects, served
 
 package.needs("scrapy")
-pytestmark = pytest.mark.alone
+pytestmark = pytest.mark.alone("crawls", "resumed")
 
 from scrapy import Spider  # noqa: E402
 from scrapy.core.downloader import Slot  # noqa: E402
