@@ -16,8 +16,9 @@ from collections import Counter
 from collections.abc import Iterable, Mapping
 
 import aiohttp
+from yarl import URL
 
-from texting_robots import FILE_LIMIT, UrlError, product_token, robots_url
+from texting_robots import FILE_LIMIT, product_token, robots_url
 from texting_robots.aio import AsyncRobots, Response
 from texting_robots.cache import RobotsCache
 
@@ -36,19 +37,19 @@ class Crawler:
         sites: dict[str, list[str]] = {}
         for url in urls:
             try:
-                sites.setdefault(robots_url(url), []).append(url)
-            except UrlError:
+                sites.setdefault(robots_url(as_sent(url)), []).append(url)
+            except ValueError:
                 print(f"no URL of http or https: {url}")
         await asyncio.gather(*(self.visit_site(address, several) for address, several in sites.items()))
 
     async def visit_site(self, address: str, urls: list[str]) -> None:
         """Visits the URLs of a site."""
         for url in urls:
-            decision = await self.robots.may(url)
+            decision = await self.robots.may(as_sent(url))
             if decision:
                 print(f"{await self.page(url)}: {url}")
             elif decision.problem == "unreachable":
-                print(f"unreachable, again in {max(0, (await self.robots.site(url)).refresh - time.time()):.0f} s: {url}")
+                print(f"unreachable, again in {max(0, (await self.robots.site(as_sent(url))).refresh - time.time()):.0f} s: {url}")
             else:
                 print(f"denied, {decision.problem or f'line {decision.line} of {address}'}: {url}")
 
@@ -77,6 +78,11 @@ class Crawler:
     def get(self, url: str, headers: Mapping[str, str]) -> aiohttp.client._RequestContextManager:
         """A request, whose redirects aren't followed: the cache says which of a file's are, and a page's may be denied."""
         return self.session.get(url, headers=headers, allow_redirects=False, proxy=self.proxy)
+
+
+def as_sent(url: str) -> str:
+    """The URL that aiohttp sends for this one: rules are for URLs as they are sent."""
+    return str(URL(url))
 
 
 def arguments() -> argparse.Namespace:

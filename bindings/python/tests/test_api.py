@@ -508,3 +508,12 @@ if __name__ == "__main__":
 def test_robots_and_errors_go_to_another_process_and_back(tmp_path):
     (tmp_path / "worker.py").write_text(IN_A_WORKER)
     assert package.run([tmp_path / "worker.py"]) == "False Verdict(allowed=True, line=None)\n4\n"
+
+
+def test_what_the_docstrings_say_of_constants_and_urls():
+    words = " ".join(texting_robots.__doc__.split())
+    for value in (f"({FILE_LIMIT:,})", f"({LIFETIME:,}, a day)", f"({REDIRECT_LIMIT})"):
+        assert value in words
+    robots = Robots(b"User-agent: *\nDisallow: /private\n")
+    assert [robots.allowed(url, "x") for url in ("https://example.com/a/../private", "/a/../private")] == [False, True]
+    assert "matches ``https://example.com/a/../private``, and not ``/a/../private``" in " ".join(Robots.__doc__.split())

@@ -2,6 +2,7 @@
 
 import doctest
 import gzip
+import pickle
 import random
 import zlib
 from collections import Counter
@@ -9,7 +10,7 @@ from collections import Counter
 import package  # noqa: F401 (puts the package on the path)
 import pytest
 
-from texting_robots import FILE_LIMIT, UrlError, _memory, _robots, robots_url
+from texting_robots import FILE_LIMIT, UrlError, _memory, _names, robots_url
 from texting_robots import cache as module
 from texting_robots.cache import Action, Look, RobotsCache, State
 
@@ -472,13 +473,32 @@ def test_names_of_headers_may_be_bytes(caches, headers):
     assert cache.received(cache.look(A).fetch, 301, headers, b"").fetch.address == "http://b.example/r"
 
 
+def test_a_cache_is_not_pickled():
+    with pytest.raises(TypeError, match="can't be pickled or copied: name a database"):
+        pickle.dumps(RobotsCache())
+
+
+def test_how_long_the_next_request_waits():
+    """By the requests that were counted as made, and without counting another one."""
+    now = [1e9]
+    cache = RobotsCache(clock=lambda: now[0])
+    (site,) = cache.received(cache.look(A).fetch, 200, {}, b"Crawl-delay: 3\n").known.values()
+    assert [cache.until_next_request(site) for _ in range(2)] == [0.0] * 2
+    assert [cache.next_request(site, "x") for _ in range(2)] == [0.0, 3.0]
+    assert [cache.until_next_request(site) for _ in range(2)] == [6.0] * 2
+    for seconds, waits in [(4, 2.0), (2, 0.0), (90, 0.0)]:
+        now[0] += seconds
+        assert cache.until_next_request(site) == waits
+    assert cache.next_request(site, "x") == 0.0 and cache.until_next_request(site) == 3.0
+
+
 def test_the_address_of_a_site_that_was_asked_about_before():
     """Is that of the same URL otherwise."""
     fronts = ["http://a.example", "HTTP://a.example", "https://a.example:443", "http://a.example:8080", "http://u@a.example", "http:///a.example", "http://127.1"]
     for front in fronts:
         for rest in ("", "/", "/x?y#z", "?q", "#f", "/\u00e9"):
             for address in (robots_url(front + rest), robots_url(front + rest)):
-                _robots._ADDRESSES.clear()
+                _names._ADDRESSES.clear()
                 assert address == robots_url(front + rest)
     robots_url("http://a.example/")
     for text in ("http://a.example\\@b.example/", "http://a.example:x/", "ftp://a.example/", "http://a.example:99999/", "http://a.example/\udc80"):
@@ -489,7 +509,7 @@ def test_the_address_of_a_site_that_was_asked_about_before():
                 robots_url(text)
     for number in range(3000):
         robots_url(f"http://{number}.example/")
-    assert len(_robots._ADDRESSES) <= 2000
+    assert len(_names._ADDRESSES) <= 2000
 
 
 def test_the_lines_of_the_docstring():

@@ -128,7 +128,7 @@ def test_a_database_may_be_used_from_any_thread(caches, tmp_path):
 
 @pytest.mark.alone
 def test_a_lock_of_another_program(caches, tmp_path, caplog):
-    """It is waited for 0.2 seconds, and not again within a second; then what couldn't be written is."""
+    """It is waited for 0.2 seconds, and not again within a second; what couldn't be written is as soon as it is over."""
     path = tmp_path / "robots.sqlite3"
     cache = caches(database=path)
     other = sqlite3.connect(path, isolation_level=None)
@@ -139,9 +139,11 @@ def test_a_lock_of_another_program(caches, tmp_path, caplog):
     assert 0.15 < time.monotonic() - began < 0.9 and not caplog.records
     other.execute("COMMIT")
     assert other.execute("SELECT count(*) FROM sites").fetchone() == (0,)
-    cache._disk._locked_until = 0
     fetched(cache, HTTP, file())
     assert other.execute("SELECT count(*) FROM sites").fetchone() == (9,)
+    cache._disk._locked_until -= 1
+    assert cache._disk.get(HTTP) and not cache._disk._locked_until
+    assert cache._disk._connection.execute("PRAGMA busy_timeout").fetchone() == (200,)
 
 
 def test_many_sites_are_written_at_once(caches, tmp_path):

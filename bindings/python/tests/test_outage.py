@@ -12,16 +12,17 @@ from sites import PUBLIC, RULES, Site, answers, closes, crawled, never, served
 from test_middleware import CLOSED, FAILS, HALF, MIDDLEWARE, PAGES, TOLERANCE, Engine, file, gaps, ours
 
 package.needs("scrapy")
-pytestmark = pytest.mark.alone
+pytestmark = pytest.mark.alone("crawls")
 
 from scrapy.exceptions import DontCloseSpider, IgnoreRequest  # noqa: E402
 from scrapy.http import Request, Response  # noqa: E402
 from scrapy.http.request import NO_CALLBACK  # noqa: E402
 from twisted.internet.defer import Deferred, ensureDeferred  # noqa: E402
 from twisted.internet.error import ConnectionRefusedError  # noqa: E402
+from twisted.internet.task import Clock  # noqa: E402
 from twisted.python.failure import Failure  # noqa: E402
 
-from texting_robots import middleware  # noqa: E402
+from texting_robots import _parking, middleware  # noqa: E402
 from texting_robots.middleware import Forbidden, Postponed, Unreachable  # noqa: E402
 
 WAITS = {name: value for name, value in MIDDLEWARE.items() if name != "TEXTING_ROBOTS_PARKED_SECONDS"} | {"TEXTING_ROBOTS_RETRY": 0.3}
@@ -38,7 +39,7 @@ OUTAGES = {
     "then no file": ([FAILS, answers(404)], WAITS, 2, PAGES),
     "then all is denied": ([FAILS, answers(200, CLOSED)], WAITS, 2, []),
     "with retries by Scrapy": ([FAILS, answers(200)], WAITS | {"RETRY_ENABLED": True}, 2, PUBLIC),
-    "for longer than requests may wait": ([FAILS], WAITS | {"TEXTING_ROBOTS_RETRY": 3, "TEXTING_ROBOTS_PARKED_SECONDS": 8.7}, (2, 3), []),
+    "for longer than requests may wait": ([FAILS], WAITS | {"TEXTING_ROBOTS_RETRY": 4, "TEXTING_ROBOTS_PARKED_SECONDS": 5}, 2, []),
     "for longer, by the server": ([answers(503, b"", **{"Retry-After": "9"})], WAITS | {"TEXTING_ROBOTS_PARKED_SECONDS": 5}, 1, []),
     "with asyncio": ([FAILS, answers(200)], WAITS | {"TWISTED_REACTOR": "twisted.internet.asyncioreactor.AsyncioSelectorReactor"}, 2, PUBLIC),
 }
@@ -75,8 +76,7 @@ def crawls(tmp_path_factory):
 @pytest.mark.parametrize("name", OUTAGES)
 def test_no_request_is_lost_in_an_outage(crawls, name):
     _, _, fetches, pages = OUTAGES[name]
-    several = fetches if isinstance(fetches, tuple) else (fetches,)  # as a busy machine waits for longer
-    assert crawls[0][name].paths().count("/robots.txt") in several and crawls[0][name].pages() == pages
+    assert (crawls[0][name].paths().count("/robots.txt"), crawls[0][name].pages()) == (fetches, pages)
 
 
 def test_a_server_that_fails_is_asked_again_when_it_says(crawls):
@@ -93,10 +93,10 @@ def test_requests_that_wait_hold_no_others_up(crawls):
 
 
 def test_no_page_waits_while_a_file_is_fetched_again(crawls):
-    """The server hangs for longer than the file's lifetime."""
+    """The server hangs for longer than the file's lifetime, and isn't asked again meanwhile."""
     crawl = crawls[0]["a refresh"]
-    pages = [moment for moment, path in crawl.got if path != "/robots.txt"]
-    assert len(pages) == 26 and crawl.paths().count("/robots.txt") >= 2 and max(gaps(pages)) < 5
+    files, pages = ([moment for moment, path in crawl.got if (path == "/robots.txt") is is_file] for is_file in (True, False))
+    assert len(pages) == 26 and len([it for it in files if it < files[1] + SHORT_LIFE["TEXTING_ROBOTS_TIMEOUT"]]) == 2 and max(gaps(pages)) < 5
 
 
 def test_a_site_with_a_delay_slows_down_no_other_in_its_slot(crawls):
@@ -116,6 +116,7 @@ def test_a_dead_host_takes_a_line_of_the_log(crawls):
     assert "Traceback" not in crawls[1] and "Unhandled" not in crawls[1]
 
 
+@pytest.mark.alone
 def test_with_a_job_folder_requests_wait_for_the_next_start(tmp_path):
     """The link is found in the first crawl, and not again, since Scrapy has seen it."""
     busy = Site(FAILS, settings=WAITS, links={})
@@ -285,6 +286,61 @@ def test_a_file_of_requests_runs_no_code(tmp_path, capsys, caplog):
     robots._parking._ask_again("http://a.example/robots.txt")
     assert capsys.readouterr().out == "" and caplog.text.count("can't be read: builtins.print") == 3
     assert crawler.engine.scheduled == [] and crawler.stats.get_value("robotstxt/lost") == 2 and rows.close() == 0
+
+
+@pytest.fixture
+def clock(monkeypatch):
+    """The clock of what follows, which the test sets. Until then it is 0."""
+    clock = Clock()
+    for module in (middleware, _parking):
+        monkeypatch.setattr(module, "time", types.SimpleNamespace(time=clock.seconds, monotonic=clock.seconds))
+        monkeypatch.setattr(module, "later", clock.callLater)
+    return clock
+
+
+def with_clock(clock, answer, **settings):
+    """A middleware with this clock, and when its engine was asked for a file."""
+    moments = []
+
+    def noted(request):
+        moments.append(clock.seconds())
+        return answer(request)
+
+    robots, crawler = ours(noted, **settings)
+    crawler.engine = Slots(noted)
+    robots._cache._clock, robots._cache._chance = clock.seconds, lambda: 0.0
+    return robots, moments
+
+
+@pytest.mark.parametrize(
+    "seconds, settings, asked, end",
+    [
+        (8.75, {"TEXTING_ROBOTS_RETRY": 3}, [0, 3, 6], 6),
+        (9.25, {"TEXTING_ROBOTS_RETRY": 3}, [0, 3, 6, 9], 9),
+        (5, {"TEXTING_ROBOTS_RETRY": 4}, [0, 4], 4),
+        (100, {}, [0, 5, 15, 35, 75], 75),
+        (3, {}, [0], 0),
+    ],
+)
+def test_requests_wait_until_the_next_time_would_be_too_late(clock, seconds, settings, asked, end):
+    robots, moments = with_clock(clock, file(status=503), TEXTING_ROBOTS_PARKED_SECONDS=seconds, **settings)
+    outcomes = [outcome(robots, Request(f"http://a.example/{it}")) for it in range(2)]
+    while not outcomes[0]:
+        clock.advance(0.25)
+    assert clock.seconds() == end and moments == asked and [type(it[0]) for it in outcomes] == [Unreachable] * 2
+    clock.advance(1000)
+    assert moments == asked
+
+
+def test_a_server_that_hangs_is_asked_once(clock):
+    """While its file is fetched again, also when the time of that is over."""
+    pending = Deferred()
+    robots, moments = with_clock(clock, lambda request: pending if moments[1:] else file()(request), TEXTING_ROBOTS_LIFETIME=6)
+    for _ in range(100):
+        assert outcome(robots, Request("http://a.example/")) == [None]
+        assert isinstance(outcome(robots, Request("http://a.example/private/"))[0], Forbidden)
+        clock.advance(0.25)
+    assert moments == [0, 3]
 
 
 def test_what_can_not_be_written_holds_a_place():

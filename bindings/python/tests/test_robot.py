@@ -13,7 +13,7 @@ import package
 import pytest
 from library import random_case
 
-from texting_robots import AgentError, OverlongRuleError, Robot, Robots, TooCostlyError, Verdict, _robots
+from texting_robots import AgentError, OverlongRuleError, Robot, Robots, TooCostlyError, Verdict, _robot
 
 SHOP = b"User-agent: *\nDisallow: /search # \xff\nAllow: /search/help\nCrawl-delay: 2.5\nSitemap: /s.xml\n"
 URLS = ["/search", "/search/help", "https://example.com/s\u00e9arch", ""]
@@ -58,7 +58,7 @@ def test_its_errors(monkeypatch):
         Robot(SHOP, "x").verdict_within("/search/help", 1)
     with pytest.raises(TypeError):
         pickle.dumps(Robot(SHOP, "x"))
-    monkeypatch.setattr(_robots, "_query", lambda *_: _robots.lib.NO_RESULT - _robots.lib.ROBOTS_OUT_OF_MEMORY)
+    monkeypatch.setattr(_robot, "_query", lambda *_: _robot.lib.NO_RESULT - _robot.lib.ROBOTS_OUT_OF_MEMORY)
     with pytest.raises(MemoryError):
         Robot(SHOP, "x").allowed("/")
 

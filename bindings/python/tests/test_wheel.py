@@ -50,8 +50,8 @@ def test_the_readme_prints_what_it_says(installed_python, tmp_path):
 def test_the_wheel_is_for_every_cpython_and_exports_nothing():
     assert WHEEL.name.endswith("-cp39-abi3-linux_x86_64.whl")
     assert sorted(it.name for it in (package.SITE / "texting_robots").iterdir() if it.suffix) == [
-        "__init__.py", "_contents.py", "_disk.py", "_facade.py", "_figures.py", "_memory.py", "_native.abi3.so", "_native.pyi", "_pacing.py", "_parking.py",
-        "_responses.py", "_robots.py", "_rules.py", "_settings.py", "_sites.py", "_waiting.py", "aio.py", "cache.py", "middleware.py", "protego.py", "py.typed", "robotparser.py", "scrapy.py",
+        "__init__.py", "_calls.py", "_contents.py", "_disk.py", "_errors.py", "_facade.py", "_figures.py", "_memory.py", "_names.py", "_native.abi3.so", "_native.pyi", "_pacing.py",
+        "_parking.py", "_responses.py", "_robot.py", "_robots.py", "_rules.py", "_settings.py", "_sites.py", "_waiting.py", "aio.py", "cache.py", "middleware.py", "protego.py", "py.typed", "robotparser.py", "scrapy.py",
     ]  # fmt: skip
     assert sorted(it.name for it in package.SITE.glob("*.dist-info/**/LICENSE-*")) == ["LICENSE-APACHE", "LICENSE-MIT"]
     names = subprocess.run(["nm", "-D", "--defined-only", package.SITE / "texting_robots/_native.abi3.so"], capture_output=True, text=True)

@@ -13,25 +13,19 @@
     >>> product_token("FerrisBot/1.0 (+https://example.com/bot)")
     'FerrisBot'
 
-Crawlers also need to know when each file is fetched, and what counts if it can't be: `texting_robots.aio` says so for asyncio,
+``FILE_LIMIT`` is how many bytes of a file count (512,000). ``LIFETIME`` is for how many seconds a file is in force (86,400, a day), unless a
+new one can't be fetched. ``REDIRECT_LIMIT`` is how many redirects in a row are followed to a file (5).
+
+Crawlers also need to know when each file is fetched, and what to do if it can't be: `texting_robots.aio` decides that for asyncio,
 `texting_robots.middleware` for Scrapy, and `texting_robots.cache`, which both use, for any other way to make requests.
 """
 
-from ._robots import (
-    FILE_LIMIT,
-    AgentError,
-    Matrix,
-    OverlongRuleError,
-    Robot,
-    Robots,
-    RobotsError,
-    TooCostlyError,
-    UrlError,
-    Verdict,
-    product_token,
-    robots_url,
-)
-from ._responses import LIFETIME, REDIRECT_LIMIT, Meaning, meaning  # once `_robots` has tested the processor
+from ._calls import FILE_LIMIT, Verdict
+from ._errors import AgentError, OverlongRuleError, RobotsError, TooCostlyError, UrlError
+from ._names import product_token, robots_url
+from ._responses import LIFETIME, REDIRECT_LIMIT, Meaning, meaning
+from ._robot import Robot
+from ._robots import Matrix, Robots
 
 __all__ = [
     "FILE_LIMIT",

@@ -62,7 +62,7 @@ class Disk:
         self._path = os.fspath(path)
         self._pending: dict[str, Record] = {}
         self._due = math.inf  # when what is pending is to be written, and
-        self._locked_until = 0.0  # until when nothing is tried: both by the clock that can't be set
+        self._locked_until = 0.0  # until when no lock is waited for, or 0.0: both by the clock that can't be set
         self._connection: sqlite3.Connection | None = None
         self._is_used = True
         self._open(now)
@@ -94,8 +94,8 @@ class Disk:
     def write(self, *more: tuple[str, tuple[object, ...]]) -> int:
         """Writes what is pending, and runs these statements, in one transaction. Returns how many rows the last statement changed, or -1 if it
         couldn't be run."""
-        connection = self._connected()
-        if not connection or time.monotonic() < self._locked_until:
+        connection = self._ready()
+        if not connection:
             return -1
         try:
             connection.execute("BEGIN IMMEDIATE")
@@ -173,10 +173,19 @@ class Disk:
                 self._end(error)
         return self._connection
 
+    def _ready(self) -> sqlite3.Connection | None:
+        """The connection, which waits for a lock at most once in a second."""
+        connection = self._connected()
+        if connection and self._locked_until:
+            is_over = self._locked_until <= time.monotonic()
+            self._locked_until = 0.0 if is_over else self._locked_until
+            connection.execute(f"PRAGMA busy_timeout = {LOCK_SECONDS * 1000 if is_over else 0:.0f}")
+        return connection
+
     def _tried(self, statement: str, values: tuple[object, ...]) -> list[Any]:
         """The rows that a statement gives, or none if it fails."""
-        connection = self._connected()
-        if not connection or time.monotonic() < self._locked_until:
+        connection = self._ready()
+        if not connection:
             return []
         try:
             return connection.execute(statement, values).fetchall()
@@ -187,7 +196,8 @@ class Disk:
     def _failed(self, error: sqlite3.Error) -> None:
         assert self._connection
         if _is_locked(error):
-            self._locked_until = self._due = time.monotonic() + _PAUSE
+            self._due = time.monotonic() + _PAUSE
+            self._locked_until = self._locked_until or self._due
             if self._connection.in_transaction:
                 self._connection.execute("ROLLBACK")
             return

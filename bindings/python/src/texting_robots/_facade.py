@@ -7,7 +7,11 @@ from collections.abc import Callable
 from datetime import time
 from typing import Final, Generic, NamedTuple, TypeVar
 
-from ._robots import FILE_LIMIT, AgentError, OverlongRuleError, Robot, Robots, product_token
+from ._calls import FILE_LIMIT
+from ._errors import AgentError, OverlongRuleError
+from ._names import product_token
+from ._robot import Robot
+from ._robots import Robots
 
 T = TypeVar("T")
 _NAMES_KEPT: Final = 1000

@@ -1,259 +1,52 @@
-"""The calls of the C library for Python. It decides everything: nothing here reads a file or compares a rule."""
+"""What a robots.txt file says to any crawler."""
 
 from __future__ import annotations
 
-import re
-from collections.abc import Callable, Iterable
-from typing import TYPE_CHECKING, Final, NamedTuple, Union
+from collections.abc import Iterable
+from typing import TYPE_CHECKING, Final
 
+from ._calls import (
+    LAST_FAILURE,
+    NO_RESULT,
+    Body,
+    Verdict,
+    check,
+    delay_of,
+    file_bytes,
+    joined,
+    name_bytes,
+    owned,
+    several,
+    verdict_of,
+    written,
+    wrong_type,
+)
+from ._errors import OverlongRuleError
 from ._native import ffi, lib
+from ._robot import Robot
 
 if TYPE_CHECKING:
-    from _typeshed import ReadableBuffer, WriteableBuffer  # collections.abc.Buffer, which Python has from 3.12 on
+    from _typeshed import ReadableBuffer
     from typing_extensions import Self
 
     from ._native import CData
 
-if not lib.processor_fits():
-    raise ImportError("texting_robots needs a processor of the level x86-64-v2 (SSE4.2 and POPCNT), and this one is older")
-
-FILE_LIMIT: Final = lib.ROBOTS_FILE_LIMIT
-"""How many bytes of a file count: no more need be fetched."""
-
 _AGENTS_KEPT: Final = 1000
 """For so many agents a Robots keeps what the file says to them, so that it doesn't grow forever."""
 
-_Body = Union["ReadableBuffer", str]
-_FRONT: Final = re.compile(r"\s*([^\s/(),;:]+)")
-_SITE: Final = re.compile(r"https?://[A-Za-z0-9.-]+(?::[0-9]{1,5})?(?=[/?#]|\Z)")
-"""The front of a usual URL, on which alone the address of its robots.txt file depends."""
-
-_ADDRESSES: Final[dict[str, str]] = {}
-_ADDRESSES_KEPT: Final = 2000
-_MAY_BE: Final = {
-    "url": "a str, such as 'https://example.com/a'",
-    "agent": "a str, such as 'FerrisBot'",
-    "user_agent": "a str, such as 'FerrisBot/1.0'",
-    "urls": "several str, for example in a list",
-    "agents": "several str, for example in a list",
-    "body": "bytes or another buffer, or for a Robots or a Robot a str",
-    "column": "an array of strings of Arrow without nulls, or a buffer with `ends`",
-    "results": "a buffer of 64-bit integers that can be written to, with room for each URL",
-    "ends": "a buffer of 64-bit integers, which don't decrease, up to the length of the URLs",
-}
-"""What an argument may be, for the error about another type."""
 _query: Final = lib.robot_query
 _encode: Final = str.encode
-_NO_RESULT: Final = lib.NO_RESULT
-_LAST_FAILURE: Final = _NO_RESULT - lib.ROBOTS_OVERLONG_RULE
-_MISFITS: Final = {
-    lib.ROBOTS_INVALID_ENDS: "the ends decrease, or one is after the end of the URLs",
-    lib.ROBOTS_NOT_UTF8: "a URL isn't UTF-8",
-}
-
-
-class RobotsError(Exception):
-    """The base of this package's errors: `OverlongRuleError`, `TooCostlyError`, `AgentError` and `UrlError`."""
-
-
-class OverlongRuleError(RobotsError):
-    """A rule for this crawler is too long, so the file can't be used for it. What that means is the crawler's policy.
-
-    Such a rule contains ``$`` and has more than 4,096 bytes when escaped, each run of stars counted as one. ``line`` is the number of the
-    first such line, counted from 1.
-    """
-
-    def __init__(self, line: int) -> None:
-        super().__init__(line)
-        self.line = line
-
-    def __str__(self) -> str:
-        return f"the rule in line {self.line} is too long: the file can't be used for this crawler"
-
-
-class TooCostlyError(RobotsError):
-    """`Robots.verdict_within` gave up, since the verdict might have cost more than its budget."""
-
-
-class AgentError(RobotsError, TypeError, ValueError):
-    """An agent contains ``/``, so it is a URL, which comes first, or a User-Agent with a version."""
-
-
-class UrlError(RobotsError, ValueError):
-    """A text is no URL of http or https with a host, so it has no robots.txt file."""
-
-
-class Verdict(NamedTuple):
-    """Whether a crawler may fetch a URL, and the number of the line that decides it, counted from 1, or None if none does.
-
-    It is true if the crawler may fetch the URL.
-    """
-
-    allowed: bool
-    line: int | None
-
-    def __bool__(self) -> bool:
-        return self.allowed
-
-
-def product_token(user_agent: str) -> str:
-    """The name at the front of a User-Agent, after any spaces and up to a space or one of ``/(),;:``, or ``*`` if there is none.
-
-    >>> product_token("GPTBot/1.2 (+https://openai.com/gptbot)")
-    'GPTBot'
-
-    The front of a User-Agent like a browser's is ``Mozilla``. Such a crawler gives its name itself.
-    """
-    try:
-        front = _FRONT.match(user_agent)
-    except TypeError:
-        raise _wrong("user_agent", user_agent) from None
-    return front[1] if front else "*"
-
-
-def robots_url(url: str) -> str:
-    """The address of the robots.txt file for a URL of http or https. Any other text is a `UrlError`."""
-    front = _SITE.match(url) if type(url) is str and url.isascii() else None
-    address = _ADDRESSES.get(front[0]) if front else None
-    if address is None:
-        text = _encoded(url, "url")
-        address = _written(lambda *out: lib.robots_address(text, len(text), *out), 256, url)
-        if front:
-            if len(_ADDRESSES) >= _ADDRESSES_KEPT:
-                _ADDRESSES.clear()
-            _ADDRESSES[front[0]] = address
-    return address
-
-
-class Robot:
-    """What a robots.txt file says to one crawler. It takes less memory than a `Robots`, as it keeps no file.
-
-    ``body`` and ``agent`` are those of a `Robots`, and so are the methods and their errors, but that the constructor already raises
-    `OverlongRuleError`. Threads share it without a lock. It can't be pickled: keep the bytes.
-    """
-
-    __slots__ = ("__weakref__", "_opened")
-
-    def __init__(self, body: _Body, agent: str) -> None:
-        file, name = _file(body), _name(agent)
-        self._open(lib.robot_of_file(file, len(file), name, len(name)))
-        if lib.robot_overlong_line(self._opened):
-            _check(lib.ROBOTS_OVERLONG_RULE, self._opened)
-
-    def _open(self, opened: CData) -> Robot:
-        self._opened = _opened(opened, lib.robot_close)
-        return self
-
-    def allowed(self, url: str) -> bool:
-        """Whether the crawler may fetch the URL."""
-        try:
-            text = _encode(url)
-        except TypeError:
-            raise _wrong("url", url) from None
-        result = _query(self._opened, text, len(text))
-        if result >= 0:
-            return True
-        return result <= _LAST_FAILURE and self._fails(result)
-
-    def verdict(self, url: str) -> Verdict:
-        """Whether the crawler may fetch the URL, and the line that decides it."""
-        return _verdict(self._result(url))
-
-    def verdict_within(self, url: str, budget: int) -> Verdict:
-        """The verdict for a URL, for a file that may be hostile: before a rule that might cost more than is left of the budget, it raises
-        `TooCostlyError` (see `Robots.verdict_within`)."""
-        text, result = _encoded(url, "url"), ffi.new("int64_t *")
-        _check(lib.robot_query_within(self._opened, text, len(text), budget, result), self._opened)
-        return _verdict(result[0])
-
-    def cost(self, length: int) -> int:
-        """A budget that suffices for any URL whose path, query and fragment, escaped, have this length."""
-        cost = ffi.new("uint64_t *")
-        _check(lib.robot_cost(self._opened, length, cost), self._opened)
-        return int(cost[0])
-
-    def verdicts(self, urls: Iterable[str]) -> list[Verdict]:
-        """The verdict for each URL, in their order: faster than one by one."""
-        urls = _several(urls, "urls")
-        text = _joined(urls, "urls")
-        if text is None:
-            return [self.verdict(url) for url in urls]
-        results = ffi.new("int64_t[]", len(urls))
-        _check(lib.robot_query_many(self._opened, text, len(text), results, len(urls)), self._opened)
-        numbers = ffi.unpack(results, len(urls))
-        verdicts = {number: _verdict(number) for number in set(numbers)}
-        return [verdicts[number] for number in numbers]
-
-    def decide(self, urls: ReadableBuffer | object, results: WriteableBuffer, ends: ReadableBuffer | None = None) -> None:
-        """Writes a number for each URL of a column to ``results``, such as an ``int64`` array of NumPy: 0 if no line decides, the line that
-        allows the URL, or minus the line that denies it. It copies no URL, and makes no object for one.
-
-        ``urls`` is an array of strings of Arrow (by ``__arrow_c_array__``), or, with ``ends``, a buffer in which the URLs follow one
-        another, in UTF-8: each ends at one of these places, and begins at the end of the one before. Nobody may write to a buffer
-        meanwhile.
-        """
-        room, opened = _numbers(results, "results", "int64_t[]"), self._opened
-        if ends is None:
-            schema, array, _kept = _arrow(urls)
-            count = lib.array_length(schema, array)
-            if count < 0:
-                raise _wrong("column", urls, "urls")
-        else:
-            places = _numbers(ends, "ends", "size_t[]")
-            count = len(places)
-            try:
-                text = ffi.from_buffer(urls)
-            except (TypeError, BufferError):
-                raise _wrong("column", urls, "urls") from None
-        if count > len(room):
-            raise ValueError("results has less room than there are URLs")
-        if ends is None:
-            status = lib.robot_query_array(opened, schema, array, room)
-        else:
-            status = lib.robot_query_batch(opened, text, len(text), places, count, room)
-        if status in _MISFITS:
-            raise ValueError(_MISFITS[status])
-        _check(status, opened)
-
-    @property
-    def delay(self) -> float | None:
-        """How many seconds the crawler waits between two requests, or None: up to 1.8e13, so limit it before you sleep."""
-        microseconds = self.delay_microseconds
-        return None if microseconds is None else microseconds / 1_000_000
-
-    @property
-    def delay_microseconds(self) -> int | None:
-        """The delay in microseconds, exactly, or None."""
-        microseconds = ffi.new("uint64_t *")
-        return _delay(lib.robot_delay(self._opened, microseconds), microseconds)
-
-    @property
-    def size(self) -> int:
-        """How many bytes of memory it takes."""
-        return lib.robot_bytes(self._opened)
-
-    def _result(self, url: str) -> int:
-        """0 or the line that allows the URL, or minus the line that denies it."""
-        try:
-            text = _encode(url)
-        except TypeError:
-            raise _wrong("url", url) from None
-        result = _query(self._opened, text, len(text))
-        if result <= _LAST_FAILURE:
-            self._fails(result)
-        return result
-
-    def _fails(self, result: int) -> bool:
-        _check(_NO_RESULT - result, self._opened)
-        return False
 
 
 class Robots:
     """A robots.txt file. When one crawler is asked about, it is parsed for that one alone, and from a second one on once for all.
 
     ``body`` is the file: preferably its bytes as received, which needn't be UTF-8, in a ``bytes`` or any other buffer, which is copied. A
-    ``str`` is encoded as UTF-8; what ``surrogateescape`` made of other bytes becomes these again. A ``url`` is a whole URL, or a path. An
-    ``agent`` is a product token without a version (see `product_token`).
+    ``str`` is encoded as UTF-8; what ``surrogateescape`` made of other bytes becomes these again. An ``agent`` is a product token without a
+    version (see `product_token`).
+
+    A ``url`` is an absolute URL, or a path with its query. In a URL ``.`` and ``..`` are resolved, as by browsers, but in a path they aren't:
+    a rule for ``/private`` matches ``https://example.com/a/../private``, and not ``/a/../private``.
 
     Threads share it without a lock. It can be pickled, as its bytes and the attributes of a subclass.
 
@@ -262,11 +55,11 @@ class Robots:
     surrogate a ValueError, and a failed allocation a MemoryError.
     """
 
-    def __init__(self, body: _Body) -> None:
-        self._site = _Site(_file(body))
+    def __init__(self, body: Body) -> None:
+        self._site = _Site(file_bytes(body))
 
     @classmethod
-    def parse(cls, body: _Body) -> Self:
+    def parse(cls, body: Body) -> Self:
         """The constructor by Protego's name."""
         return cls(body)
 
@@ -291,11 +84,11 @@ class Robots:
         try:
             text = _encode(url)
         except TypeError:
-            raise _wrong("url", url) from None
+            raise wrong_type("url", url) from None
         result = _query(opened, text, len(text))
         if result >= 0:
             return True
-        return result <= _LAST_FAILURE and self._site.robot(agent)._fails(result)
+        return result <= LAST_FAILURE and self._site.robot(agent)._fails(result)
 
     can_fetch = allowed
     """Protego's name. (The one of urllib.robotparser has the agent first.)"""
@@ -321,17 +114,17 @@ class Robots:
     def matrix(self, urls: Iterable[str], agents: Iterable[str]) -> list[list[Verdict | None]]:
         """The verdicts of many crawlers: for each agent a list with the verdict for each URL, or with None, which doesn't allow either,
         if the file can't be used for the agent. Agents that the file doesn't name cost little."""
-        urls, agents = _several(urls, "urls"), _several(agents, "agents")
-        urls_text, agents_text = _joined(urls, "urls"), _joined(agents, "agents")
+        urls, agents = several(urls, "urls"), several(agents, "agents")
+        urls_text, agents_text = joined(urls, "urls"), joined(agents, "agents")
         for agent in agents if agents_text is None or b"/" in agents_text else ():
-            _name(agent)
+            name_bytes(agent)
         if urls_text is None or agents_text is None:
             return [[self._verdict_or_none(url, agent) for url in urls] for agent in agents]
         width, length = len(urls), len(urls) * len(agents)
         results = ffi.new("int64_t[]", length)
-        _check(lib.site_matrix(self._site.opened, agents_text, len(agents_text), urls_text, len(urls_text), results, length))
+        check(lib.site_matrix(self._site.opened, agents_text, len(agents_text), urls_text, len(urls_text), results, length))
         numbers = ffi.unpack(results, length)
-        verdicts = {number: None if number == _NO_RESULT else _verdict(number) for number in set(numbers)}
+        verdicts = {number: None if number == NO_RESULT else verdict_of(number) for number in set(numbers)}
         return [[verdicts[number] for number in numbers[start : start + width]] for start in range(0, length, width)]
 
     def delay(self, agent: str) -> float | None:
@@ -345,20 +138,20 @@ class Robots:
     def delay_microseconds(self, agent: str) -> int | None:
         """The delay in microseconds, exactly, or None."""
         robot = type(agent) is str and self._site.robots.get(agent)
-        return self._site.delay(_name(agent)) if not robot or lib.robot_overlong_line(robot._opened) else robot.delay_microseconds
+        return self._site.delay(name_bytes(agent)) if not robot or lib.robot_overlong_line(robot._opened) else robot.delay_microseconds
 
     @property
     def sitemaps(self) -> list[str]:
         """The sitemaps, which are the same for every crawler, in the file's order; also empty ones, but none that isn't UTF-8."""
         # for sitemaps the length of the file is always enough room
         site = self._site.read()
-        return _written(lambda *out: lib.site_sitemaps(site, *out), len(self._site.body)).split("\n")[:-1]
+        return written(lambda *out: lib.site_sitemaps(site, *out), len(self._site.body)).split("\n")[:-1]
 
     @property
     def agents(self) -> list[str]:
         """The names in the file's user-agent lines, ``*`` too, in its order; of names that differ only in case the first."""
         site = self._site.read()
-        return _written(lambda *out: lib.site_agents(site, *out), 256).split("\n")[:-1]
+        return written(lambda *out: lib.site_agents(site, *out), 256).split("\n")[:-1]
 
     @property
     def size(self) -> int:
@@ -370,7 +163,7 @@ class Robots:
 
     def is_named(self, agent: str) -> bool:
         """Whether a user-agent line names the crawler. All crawlers that none names have the rules and the delay of ``*``."""
-        return self._site.is_named(_name(agent))
+        return self._site.is_named(name_bytes(agent))
 
     def _verdict_or_none(self, url: str, agent: str) -> Verdict | None:
         try:
@@ -402,7 +195,7 @@ class _Site:
 
     def read(self) -> CData:
         """The file as C reads it for all crawlers."""
-        return self.kept or _opened(lib.site_open(self.body, len(self.body)), lib.site_close)
+        return self.kept or owned(lib.site_open(self.body, len(self.body)), lib.site_close)
 
     @property
     def opened(self) -> CData:
@@ -423,7 +216,7 @@ class _Site:
     def delay(self, name: bytes) -> int | None:
         """The delay in microseconds, even if a rule for this name is too long."""
         site, microseconds = self.read(), ffi.new("uint64_t *")
-        return _delay(lib.site_delay(site, name, len(name), microseconds), microseconds)
+        return delay_of(lib.site_delay(site, name, len(name), microseconds), microseconds)
 
     def open_robot(self, name: bytes) -> Robot:
         """Opens the robot for a name, which isn't kept. The library shares it among all agents that no line names."""
@@ -434,7 +227,7 @@ class _Site:
         return Robot.__new__(Robot)._open(opened)
 
     def _open(self, agent: str) -> Robot:
-        name = _name(agent)
+        name = name_bytes(agent)
         robot = self.open_robot(name)
         if len(self.robots) >= _AGENTS_KEPT:
             self.robots.clear()
@@ -455,10 +248,10 @@ class Matrix:
     __slots__ = ("_agents", "_pairs", "_urls")
 
     def __init__(self, urls: Iterable[str], agents: Iterable[str]) -> None:
-        urls, agents = _several(urls, "urls"), _several(agents, "agents")
+        urls, agents = several(urls, "urls"), several(agents, "agents")
         for agent in agents:
-            _name(agent)
-        urls_text, agents_text = _joined(urls, "urls"), _joined(agents, "agents")
+            name_bytes(agent)
+        urls_text, agents_text = joined(urls, "urls"), joined(agents, "agents")
         if urls_text is None or agents_text is None:
             raise ValueError("there has to be a URL and an agent, and no line feed in one")
         self._urls, self._agents = urls_text, agents_text
@@ -469,139 +262,12 @@ class Matrix:
         the agent: agent by agent, in the order of the constructor's arguments. ``body`` is the file, as received: a ``bytes``, or any
         other buffer, which is copied."""
         if isinstance(body, str):
-            raise _wrong("body", body)
-        file, length = _file(body), len(self._pairs)
+            raise wrong_type("body", body)
+        file, length = file_bytes(body), len(self._pairs)
         results = ffi.new("int64_t[]", length)
-        _check(lib.file_matrix(self._agents, len(self._agents), file, len(file), self._urls, len(self._urls), results, length))
+        check(lib.file_matrix(self._agents, len(self._agents), file, len(file), self._urls, len(self._urls), results, length))
         return [
-            (agent, url, None if result == _NO_RESULT else -result)
+            (agent, url, None if result == NO_RESULT else -result)
             for (agent, url), result in zip(self._pairs, ffi.unpack(results, length))
             if result < 0
         ]
-
-
-# C is given a bytes of just this type, with its len(): no method of another type decides how much is read. `str.encode` and `str.join`
-# make such a bytes and such a str of any str.
-
-
-def _file(body: _Body) -> bytes:
-    """The bytes of a file that count, however they lie in memory; copied, since another thread may write to a buffer."""
-    if isinstance(body, str):
-        body = str.encode(body, "utf-8", "surrogateescape")
-    if type(body) is bytes:
-        return body[:FILE_LIMIT]
-    try:
-        opened = memoryview(body)
-    except TypeError:
-        raise _wrong("body", body) from None
-    with opened as view:
-        return (view[:FILE_LIMIT] if view.ndim == 1 else view).tobytes()[:FILE_LIMIT]
-
-
-def _encoded(text: str, argument: str) -> bytes:
-    try:
-        return str.encode(text)
-    except TypeError:
-        raise _wrong(argument, text) from None
-
-
-def _several(texts: Iterable[str], argument: str) -> list[str]:
-    if isinstance(texts, (str, bytes)):
-        raise _wrong(argument, texts)
-    try:
-        several = iter(texts)
-    except TypeError:
-        raise _wrong(argument, texts) from None
-    return list(several)
-
-
-def _joined(texts: list[str], argument: str) -> bytes | None:
-    """The texts with a line feed between them, or None if one contains a line feed or there is none."""
-    try:
-        text = "\n".join(texts).encode()
-    except TypeError:
-        place = next(place for place, text in enumerate(texts) if not issubclass(type(text), str))
-        raise _wrong(argument[:-1], texts[place], f"{argument}[{place}]") from None
-    return text if texts and text.count(b"\n") == len(texts) - 1 else None
-
-
-def _wrong(argument: str, value: object, name: str = "") -> TypeError:
-    return TypeError(f"{name or argument} has the type {type(value).__name__}: it has to be {_MAY_BE[argument]}")
-
-
-def _name(agent: str) -> bytes:
-    name = _encoded(agent, "agent")
-    if b"/" in name:
-        raise AgentError(f"{agent!r} is no product token: the URL comes first, and product_token() makes one of a User-Agent")
-    return name
-
-
-def _numbers(buffer: ReadableBuffer, argument: str, kind: str) -> CData:
-    """A buffer of 64-bit integers, which can be written to if it is for results."""
-    try:
-        with memoryview(buffer) as view:
-            fits = view.format.strip("@=<") in tuple("lqLQnN") and view.itemsize == 8 and view.c_contiguous
-        if fits:
-            return ffi.from_buffer(kind, buffer, argument == "results")
-    except (TypeError, BufferError):
-        pass
-    raise _wrong(argument, buffer)
-
-
-def _arrow(column: object) -> tuple[CData, CData, object]:
-    """The type and the content of an array of Arrow, and what both belong to."""
-    try:
-        kept = column.__arrow_c_array__()  # type: ignore[attr-defined]
-    except AttributeError:
-        raise _wrong("column", column, "urls") from None
-    from ctypes import c_char_p, c_void_p, py_object, pythonapi
-
-    pointer = pythonapi.PyCapsule_GetPointer
-    pointer.restype, pointer.argtypes = c_void_p, [py_object, c_char_p]
-    schema, array = (pointer(capsule, name) for capsule, name in zip(kept, (b"arrow_schema", b"arrow_array")))
-    return ffi.cast("struct ArrowSchema *", schema), ffi.cast("struct ArrowArray *", array), kept
-
-
-def _verdict(result: int) -> Verdict:
-    return Verdict(result >= 0, abs(result) or None)
-
-
-def _delay(status: int, microseconds: CData) -> int | None:
-    """What a call that returned this status wrote."""
-    if status == lib.ROBOTS_NO_DELAY:
-        return None
-    _check(status)
-    return int(microseconds[0])
-
-
-def _opened(opened: CData, close: Callable[[CData], None]) -> CData:
-    """What a call opened, which is NULL if an allocation failed; closed when nothing refers to it."""
-    if not opened:
-        raise MemoryError
-    return ffi.gc(opened, close)
-
-
-def _written(call: Callable[[CData, int, CData], int], room: int, url: str = "") -> str:
-    """What a call writes, for a URL if it is about one, with this room, or with as much as it then asks for."""
-    length = ffi.new("size_t *")
-    while True:
-        out = ffi.new("char[]", room)
-        status = call(out, room, length)
-        if status != lib.ROBOTS_BUFFER_TOO_SMALL:
-            _check(status, url=url)
-            return str(ffi.unpack(out, length[0]), "utf-8")
-        room = length[0]
-
-
-def _check(status: int, robot: CData | None = None, url: str = "") -> None:
-    if status == lib.ROBOTS_OK:
-        return
-    if status == lib.ROBOTS_OUT_OF_MEMORY:
-        raise MemoryError
-    if status == lib.ROBOTS_NO_ADDRESS:
-        raise UrlError(f"{url!r} is no URL of http or https with a host, so it has no robots.txt file")
-    if status == lib.ROBOTS_TOO_COSTLY:
-        raise TooCostlyError("the verdict is too costly for its budget")
-    if status == lib.ROBOTS_OVERLONG_RULE and robot is not None:
-        raise OverlongRuleError(lib.robot_overlong_line(robot))
-    raise AssertionError(f"robots.h: status {status}")

@@ -2,11 +2,11 @@
 
 from __future__ import annotations
 
-from collections.abc import Sequence
+from collections.abc import Iterable, Sequence
 from typing import Final, NamedTuple, Union
 
 from . import OverlongRuleError, Robots, TooCostlyError, product_token
-from ._robots import Robot
+from ._robot import Robot
 
 COST_LIMIT: Final = 20_000_000
 """A verdict may take so many comparisons. One that could take more is asked for with this budget."""
@@ -19,12 +19,15 @@ _URL_CHARACTERS: Final = _URL_LENGTH // 12
 """A character is at most four bytes, which are twelve when escaped. So the cost for `_URL_LENGTH` bounds that of so many characters."""
 
 _NAMES_KEPT: Final = 1000
+_RULES_BYTES: Final = 800  # of Python's objects for a file, and
+_NAME_BYTES: Final = 230  # for each crawler that was asked about: both measured
 
 
 class Decision(NamedTuple):
     """Whether a crawler may fetch a URL, and the line that decides it. If there is a problem, the URL is denied because of it.
 
-    It is true if the crawler may fetch the URL, and false if not.
+    It is true if the crawler may fetch the URL, and false if not. The problem is ``"unreachable"`` if the file can't be fetched now, ``"the
+    rule in line 2 is too long: .."``, where ``line`` is that line, ``"a verdict may take too long"`` or ``"out of memory"``.
     """
 
     allowed: bool
@@ -83,7 +86,7 @@ class Rules:
         try:
             return ((type(agents) is str and self._known.get(agents)) or self._learned(agents))[2]
         except OverlongRuleError:
-            return self._robots.delay(self._token(_names(agents))) or 0.0
+            return self._robots.delay(self._token(names_of(agents))) or 0.0
 
     @property
     def sitemaps(self) -> list[str]:
@@ -92,8 +95,10 @@ class Rules:
 
     @property
     def size(self) -> int:
-        """How many bytes of memory the file takes. It grows with each crawler that is asked about."""
-        return self._robots.size
+        """How many bytes of memory the file takes, with a sixteenth for what is lost between allocations. It grows with each crawler that is asked
+        about."""
+        size = self._robots.size
+        return size + size // 16 + _RULES_BYTES + len(self._known) * _NAME_BYTES
 
     def _token(self, names: tuple[str, ...]) -> str:
         """The product token that counts."""
@@ -102,7 +107,7 @@ class Rules:
 
     def _learned(self, agents: Agents) -> tuple[Robot, bool, float]:
         """What the file says to a crawler, which is kept; whether a verdict may take too long; and the delay."""
-        names = _names(agents)
+        names = names_of(agents)
         key: str | tuple[str, ...] = names[0] if len(names) == 1 else names
         known = self._known.get(key)
         if not known:
@@ -115,9 +120,9 @@ class Rules:
         return known
 
 
-def _names(agents: Agents) -> tuple[str, ...]:
+def names_of(agents: Agents) -> tuple[str, ...]:
     """The names as plain `str`, whose equality is their text's."""
-    names = (agents,) if isinstance(agents, str) else tuple(agents)
+    names = (agents,) if isinstance(agents, str) else tuple(agents) if isinstance(agents, Iterable) else ()
     if not names or not all(isinstance(name, str) for name in names):
         raise TypeError(f"user_agent is {agents!r}: it has to be a str, such as 'FerrisBot/1.0', or several in order of precedence")
     return tuple(str.__str__(name) for name in names)

@@ -23,10 +23,10 @@ class State(enum.Enum):
 class Action(enum.Enum):
     """What to do for a URL.
 
-    - ``USE``: what is known of its site counts.
-    - ``REFRESH``: it counts, but it is time to make the request of `Look.fetch`.
-    - ``FETCH``: nothing counts before the request of `Look.fetch` is answered.
-    - ``WAIT``: nothing counts before a request is answered that was given out for the site before, here or in another process.
+    - ``USE``: decide by what is known of its site.
+    - ``REFRESH``: decide by that, but it is time to make the request of `Look.fetch`, too.
+    - ``FETCH``: make the request of `Look.fetch`. Nothing can be decided before it is answered.
+    - ``WAIT``: a request for the site was given out before, here or to another process. Nothing can be decided before it is answered.
     """
 
     USE = "use"
@@ -38,10 +38,14 @@ class Action(enum.Enum):
 class Site:
     """What is known of a site.
 
-    ``address`` is that of its robots.txt file, and ``state`` is what is known. Until ``expires`` the file counts, and from ``refresh`` on it
-    is asked for again. ``failing_since`` is when its server failed first, if it has failed ever since, or else 0.0, and ``failures`` how
-    often it has been asked since; as long as it fails, a file that it gave before counts on. All times are seconds since 1970.
+    ``address`` is that of its robots.txt file, and ``state`` is what is known. Until ``expires`` the file is in force, and from ``refresh``
+    on it is fetched again. ``failing_since`` is when its server failed first, if it has failed ever since, or else 0.0, and ``failures`` how
+    often it has failed since then; as long as it fails, a file that it gave before stays in force. All times are seconds since 1970.
     ``was_reached`` is whether there was ever a connection to its server.
+
+    The other attributes are for the cache: ``packed`` is the file, compressed, ``source`` the address that it came from at last, after
+    redirects, and ``etag`` its version there; ``rules`` is the parsed file, as long as there is room for it, and ``size`` how many bytes that
+    takes; ``longest_delay`` is the longest delay of the crawlers that have been asked about. Sitemaps come by the cache's ``found``.
     """
 
     __slots__ = (

@@ -19,7 +19,7 @@ import time
 import zlib
 from collections.abc import Callable, Iterable
 from math import inf
-from typing import Final, Literal
+from typing import Final, Literal, NoReturn
 from urllib.parse import urlsplit
 
 from . import FILE_LIMIT, LIFETIME, Meaning, Robots, meaning, robots_url
@@ -54,26 +54,28 @@ class RobotsCache:
     when a task is cancelled: else the site's URLs wait, until after ``answer_within`` seconds the request counts as failed. `decide` says
     whether a crawler may fetch a URL.
 
-    A file counts for ``lifetime`` seconds (RFC 9309 asks for at most 24 hours), or as many as its server says if they are fewer
-    (Cache-Control: max-age), but at least 300. It is fetched again in the last hour of them, or the last half of a shorter lifetime. If the server fails then, it counts on; if it fails at first, nothing may be fetched. In both cases the file
-    is asked for again after 5 seconds, 10, 20 and so on up to ``retry``, and up to a tenth longer by ``chance``; or when the server said
-    (Retry-After, at most the lifetime), where 0 and times that are over count as 5 seconds. From the third failure in a row on, it is the
-    later of both. When a server has failed for 30 days, ``after_30_days`` says what counts: the ``"last file"`` that it gave, or if there
-    was none nothing may be fetched; ``"no file"``, so everything may be; or ``"closed"``, so nothing may be.
+    A file is in force for ``lifetime`` seconds (RFC 9309 asks for at most 24 hours), or for as many as its server says if they are fewer
+    (Cache-Control: max-age), but for at least 300. It is fetched again in the last hour of them, or in the last half of a shorter lifetime.
+    If the server fails then, the file stays in force; if it fails at first, nothing may be fetched. In both cases the next request for the
+    file is due after 5 seconds, 10, 20 and so on up to ``retry``, and up to a tenth longer by ``chance``; or when the server says
+    (Retry-After, at most the lifetime), where 0 and times in the past count as 5 seconds. From the third failure in a row on, it is the later
+    of both. When a server has failed for 30 days, ``after_30_days`` decides: by the ``"last file"`` that the server gave, or if there was
+    none nothing may be fetched; ``"no file"``, so everything may be; or ``"closed"``, so nothing may be.
 
     It takes about ``budget`` bytes of memory: a quarter for the parsed files that were used last, and the rest for all files, compressed.
     Where that doesn't suffice, the file that wasn't used for the longest time goes, and is fetched again, which the first time is a warning;
     unless ``database`` names a sqlite3 file, in which all of them are kept, also for the next start. A verdict takes at most ``cost_limit``
     comparisons. Of hosts in ``exempt``, such as your own, no file is fetched, and everything may be.
 
-    Several processes of one machine may share a database, but not in a network's file system. One of them then fetches a file, and the
-    others wait for it. A lock of another program is waited for 0.2 seconds, and then not for a second; when the database is opened or closed,
-    it is waited for 10 seconds. A file that is no such database is renamed, and begun anew.
+    Several processes of one machine may share a database, but not in a network's file system. One of them then fetches a file, and the others
+    wait for it. A lock of another program is waited for 0.2 seconds, at most once in a second, and while there is one, files are fetched that it
+    may have; when the database is opened or closed, a lock is waited for 10 seconds. A file that is no such database is renamed, and begun anew.
 
     ``count`` is called with the name of an event: ``parsed`` again from compressed bytes, ``evicted`` from memory, ``read`` from the
-    database, ``stale`` for a file that counts on, ``not_modified``, ``unanswered`` for a request without an answer. ``found`` is called with
-    an address and its sitemaps, once a file has been fetched or read from the database, unless the one before had the same. ``clock``
-    returns the seconds since 1970, and ``chance`` a number from 0 to 1.
+    database, ``stale`` for a file that stays in force while its server fails, ``not_modified``, ``unanswered`` for a request without an
+    answer. ``found`` is called with an address and the sitemaps of its file, which aren't kept anywhere else: when a file has been fetched or
+    read from the database, unless the file before had the same sitemaps. ``clock`` returns the seconds since 1970, and ``chance`` a number
+    from 0 to 1, by default at random.
 
     Any thread may call it, but one call has to end before another begins. A number that isn't more than 0 is a ValueError.
     """
@@ -90,15 +92,15 @@ class RobotsCache:
         cost_limit: int = COST_LIMIT,
         exempt: Iterable[str] = (),
         clock: Callable[[], float] = time.time,
-        chance: Callable[[], float] = random.random,
-        count: Callable[[str], object] = lambda name: None,
-        found: Callable[[str, list[str]], object] = lambda address, sitemaps: None,
+        chance: Callable[[], float] | None = None,
+        count: Callable[[str], object] | None = None,
+        found: Callable[[str, list[str]], object] | None = None,
     ) -> None:
         self._lifetime, self._retry = positive("lifetime", lifetime), positive("retry", retry)
         self._answer_within, self._cost_limit = positive("answer_within", answer_within), positive("cost_limit", cost_limit)
         if after_30_days not in ("last file", "no file", "closed"):
             raise ValueError(f"after_30_days is {after_30_days!r}: it has to be 'last file', 'no file' or 'closed'")
-        self._after_30_days, self._clock, self._chance = after_30_days, clock, chance
+        self._after_30_days, self._clock, self._chance = after_30_days, clock, chance or random.random
         self._count, self._found = count, found
         self._memory = Memory(positive("budget", budget), cost_limit, self._counted)
         self._longest = max(lifetime, 1.1 * retry)  # until a file is asked for again
@@ -195,7 +197,8 @@ class RobotsCache:
             return OUT_OF_MEMORY
 
     def delay(self, site: Site, user_agent: Agents) -> float:
-        """The longest of the delays that the site's file asks for of the crawlers that it was asked about, with this one, in seconds."""
+        """How many seconds a crawler waits between two requests to the site, or 0.0 if its file asks for no delay or it has no file. If several
+        crawlers have been asked about, it is the longest of their delays."""
         if site.state is State.FILE:
             try:
                 site.longest_delay = max(site.longest_delay, self._memory.rules(site).delay(user_agent))
@@ -205,7 +208,10 @@ class RobotsCache:
 
     def next_request(self, site: Site, user_agent: Agents, longest: float = 60) -> float:
         """In how many seconds the next request to the site may go: 0.0 if now, else as long after the one before as the file asks for, but at
-        most ``longest`` seconds. It counts as made then: call this once for each request, before it."""
+        most ``longest`` seconds. The request counts as made at that time, so call this once for each request, before it.
+
+        A turn can't be given back. If a task may be cancelled while it waits, let one task at a time wait for a site, for as long as
+        `until_next_request` says, and call this after that."""
         now, delay = self._clock(), min(self.delay(site, user_agent), longest)
         moment = max(now, self._turns.pop(site.address, 0.0))
         if len(self._turns) >= self._turns_kept:
@@ -214,6 +220,11 @@ class RobotsCache:
         if delay:
             self._turns[site.address] = moment + delay
         return moment - now
+
+    def until_next_request(self, site: Site) -> float:
+        """In how many seconds the next request to the site may go, by the calls of `next_request` for it: 0.0 if now. It uses no turn."""
+        turn = self._turns.get(site.address)
+        return 0.0 if turn is None else max(0.0, turn - self._clock())
 
     def close(self) -> None:
         """Writes what isn't in the database yet, and closes it: nothing is kept there from now on. Without this, the last second may be missing."""
@@ -242,6 +253,9 @@ class RobotsCache:
 
     def __repr__(self) -> str:
         return f"<{type(self).__name__} of {len(self)} sites>"
+
+    def __reduce__(self) -> NoReturn:
+        raise TypeError("a RobotsCache can't be pickled or copied: name a database, which several processes may share")
 
     # ---- requests
 
@@ -370,6 +384,8 @@ class RobotsCache:
 
     def _tell_sitemaps(self, site: Site, before: Site | None) -> None:
         """Tells of the sitemaps of a file, unless those of the file before were the same."""
+        if not self._found:
+            return
         try:
             sitemaps = self._memory.rules(site).sitemaps
             old = before if sitemaps and before and before.state is State.FILE else None
@@ -403,7 +419,8 @@ class RobotsCache:
         return site
 
     def _counted(self, name: str) -> None:
-        self._count(name)
+        if self._count:
+            self._count(name)
         if name == "evicted" and not self._has_evicted and not self._disk:
             self._has_evicted = True
             logger.warning(

@@ -9,10 +9,11 @@ from collections.abc import Iterable
 from urllib.robotparser import RequestRate
 from urllib.robotparser import RobotFileParser as UrllibParser
 
+from ._calls import FILE_LIMIT
 from ._contents import unpacked
 from ._facade import File
 from ._responses import Meaning, meaning
-from ._robots import FILE_LIMIT, Robots
+from ._robots import Robots
 
 __all__ = ["RequestRate", "RobotFileParser"]
 
