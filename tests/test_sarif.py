@@ -143,3 +143,15 @@ def test_several_slashes_are_not_before_a_host(tmp_path, slashes):
     path.write_bytes(ROBOTS)
     (_, _, _, uri, _), *_ = results(log("--agent=Ferris", f"{slashes}{str(path)[1:]}"))
     assert unquote(uri) == str(path)
+
+
+def test_bytes_of_a_file_name_that_need_no_escape_have_none(tmp_path):
+    (tmp_path / "robots_A-0.9~.txt").write_bytes(ROBOTS)
+    assert {it[3] for it in results(log("--agent=Ferris", "robots_A-0.9~.txt", cwd=tmp_path))} == {"robots_A-0.9~.txt"}
+
+
+def test_each_needless_rule_is_a_result():
+    file = b"User-agent: Ferris\nDisallow: /a\nDisallow: /ab\nDisallow: /ac\n"
+    found = [(line, text) for _, name, text, _, line in results(log("--agent=Ferris", "--needless", "-", file=file)) if name == "needless-rule"]
+    assert [line for line, _ in found] == [3, 4]
+    assert all(text.endswith("; only together with lines 3-4") for _, text in found)
