@@ -13,10 +13,12 @@ import pytest
 from support import ALL_WARNINGS, CRATES, DOCUMENTS, PAGES, ROOT, WARNINGS, program, run, shown, spelled, tables
 
 LIBRARY = CRATES / "texting_robots"
+# of comparisons and expectations, by golden cases
 FINDINGS = {
-    name for crate in ("compare/specs/Compare", "expect/specs/Expectations")
-    for name in re.findall(r'codes "([a-z-]+)"', (CRATES / f"audit_{crate}.antt").read_text())
-}  # fmt: skip
+    name for file in ("compare", "formats")
+    for pair in re.findall(r'title=([a-z-]+)::|"name":"([a-z-]+)"', (ROOT / f"tests/golden/robots_audit/{file}.toml").read_text())
+    for name in pair
+} - {"", "denied", *WARNINGS}  # fmt: skip
 README, GUIDE, PROGRAMS, PROOFS = map(DOCUMENTS.get, ["README.md", *(f"docs/{name}.md" for name in ("GUIDE", "PROGRAMS", "PROOFS"))])
 
 

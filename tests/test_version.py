@@ -22,7 +22,6 @@ PLACES = [
     ("bindings/rust/Cargo.toml", rf"^(?:|texting_robots_c-sys = .*)version = {QUOTED}"),
     ("bindings/rust/sys/Cargo.toml", rf"^version = {QUOTED}"),
     ("bindings/rust/sys/src/lib.rs", r"ROBOTS_VERSION: u32 = ([\d_]+)", NUMBER),
-    ("crates/audit_json/specs/Sarif.antt", rf'codes "version"\) \(string \(codes (?!"2\.1\.0"){QUOTED}'),
     ("crates/audit_core/src/version.rt", rf"VERSION\w*: &str = {QUOTED}"),
     ("crates/robots_c/robots.h", r"ROBOTS_VERSION_MAJOR (\d+)", MAJOR),
     ("crates/robots_c/robots.h", r"ROBOTS_VERSION_MINOR (\d+)", MINOR),

@@ -3,8 +3,8 @@ ghost use Rattle.std.specs.Prelude.{◌≡◌, ◌++◌, IfErr, IfOk, map};
 ghost use Rattle.std.specs.List.{AllZip};
 ghost use Rattle.texting_robots.specs.Callers.{lines_read};
 ghost use Rattle.audit_core.specs.Audit.{agents_requested as specified_agents};
-ghost use Rattle.audit_compare.specs.Compare.{IsCompared, IsComparison, differs_nowhere, has_no_directive, keeps_verdicts};
-ghost use Rattle.audit_compare.specs.Compare.{rejects_some, side_of};
+ghost use Rattle.audit_compare.specs.Compare.{IsCompared, IsComparison, differs_nowhere, keeps_verdicts};
+ghost use Rattle.audit_compare.specs.Compare.{rejects_some};
 ghost use Rattle.robots_warnings.specs.Read.{IsRead};
 
 use crate::compared::{Compared, compared_for};
@@ -14,10 +14,8 @@ use crate::sitemaps::sitemaps_only_in;
 use crate::vendor::is_same_at_vendor;
 use audit_core::agents::agents_requested;
 use audit_core::error::Error;
-use robots_warnings::facts::LineKinds;
 use robots_warnings::read::FileRead;
 use std::alloc::{AllocError, Global};
-use std::marker::Model;
 
 /// Bounds how long the rules of all crawlers are compared.
 const BUDGET: usize = 30_000_000;
@@ -35,54 +33,27 @@ pub struct Side<'a> {
     pub has_no_directive: bool,
 }
 
-impl<'a> Model for Side<'a> {
-    ghost use Rattle.audit_compare.specs.Compare.{SideValue};
-
-    ghost Value = { SideValue };
-
-    ghost use Rattle.audit_compare.specs.Internal.Compare.{side_of};
-
-    ghost view = { side_of };
-}
-
 #[derive(Drop)]
 pub struct Comparison<'a> {
     pub older: Side<'a>,
     pub newer: Side<'a>,
     pub crawlers: Vec<Compared<'a>>,
-    /// Those that only the older file lists.
+    /// The sitemaps that only the older file lists.
     pub removed: Vec<&'a [u8]>,
     /// Those that only the newer one lists.
     pub added: Vec<&'a [u8]>,
 }
 
-impl<'a> Model for Comparison<'a> {
-    ghost use Rattle.audit_compare.specs.Compare.{ComparisonValue};
-
-    ghost Value = { ComparisonValue };
-
-    ghost use Rattle.audit_compare.specs.Internal.Compare.{comparison_of};
-
-    ghost view = { comparison_of };
-}
-
-fn has_no_directive(kinds: LineKinds) -> bool
-    ensures { result ≡ has_no_directive kinds }
-{
-    !(kinds.user_agent || kinds.rule || kinds.extra)
-}
-
-fn side_of<'a>(name: &'a str, read: &FileRead<'_>) -> Side<'a>
-    requires { IsRead read.now }
-    ensures { result ≡ side_of name.entry.now read.now.bytes.now }
-{
+fn side_of<'a>(name: &'a str, read: &FileRead<'_>) -> Side<'a> {
+    let kinds = read.facts.kinds;
     Side {
         name,
-        has_no_directive: has_no_directive(read.facts.kinds),
+        has_no_directive: !(kinds.user_agent || kinds.rule || kinds.extra),
     }
 }
 
 /// The given crawlers, or if there are none `*` and each that one of the files names.
+#[tactic(auto, using(crate::proofs::CompareLemmas::both_lines))]
 fn agents_of<'a>(
     alloc: Global,
     agents: &[&'a str],
@@ -133,8 +104,8 @@ fn compared_files<'a>(
 ) -> Result<Comparison<'a>, Error>
     requires older { IsRead old.now }
     requires newer { IsRead new.now }
-    ensures ok { IfOk result (IsComparison (map (λ agent. agent.now) agents.now) (map (λ url. url.now) urls.now)
-        names.entry.0.now old.now.bytes.now names.entry.1.now new.now.bytes.now) }
+    ensures ok { IfOk result (IsComparison (map (λ agent. agent.now) agents.now)
+        (map (λ url. url.now) urls.now) old.now.bytes.now new.now.bytes.now) }
     ensures error { IfErr result (λ error. error ≡ Error.Memory) }
 {
     let agents = agents_of(alloc, agents, old, new)?;
@@ -160,8 +131,8 @@ pub fn compare<'a>(
     older: NamedFile<'a>,
     newer: NamedFile<'a>,
 ) -> Result<Comparison<'a>, Error>
-    ensures ok { IfOk result (IsComparison (map (λ agent. agent.now) agents.now) (map (λ url. url.now) urls.now)
-        older.entry.name.now older.entry.bytes.now newer.entry.name.now newer.entry.bytes.now) }
+    ensures ok { IfOk result (IsComparison (map (λ agent. agent.now) agents.now)
+        (map (λ url. url.now) urls.now) older.entry.bytes.now newer.entry.bytes.now) }
     ensures error { IfErr result (λ error. error ≡ Error.Memory) }
 {
     let old = FileRead::new(alloc, "*", older.bytes)?;

@@ -1,8 +1,7 @@
 //! What two versions of a file mean for a crawler.
-ghost use Rattle.std.specs.Prelude.{◌≡◌, ◌==◌, ◌&&◌, ◌++◌, IfErr, IfOk, OnOk, length, map};
-ghost use Rattle.texting_robots.specs.Callers.{file_lines, lines_read, placed_rules};
-ghost use Rattle.audit_compare.specs.Compare.{IsCompared, change_at, is_in_line_of, is_same_decision, rules_only_in};
-ghost use Rattle.audit_compare.specs.Compare.{url_changes};
+ghost use Rattle.std.specs.Prelude.{◌≡◌, IfErr, IfOk, map};
+ghost use Rattle.texting_robots.specs.Callers.{lines_read, placed_rules};
+ghost use Rattle.audit_compare.specs.Compare.{AreChanges, IsCompared, are_none};
 ghost use Rattle.audit_compare.specs.EveryUrl.{AreVerdicts};
 ghost use Rattle.robots_warnings.specs.Read.{IsRead};
 
@@ -14,8 +13,6 @@ use audit_core::error::Error;
 use robots_same::rule::{Rule, rules_of};
 use robots_warnings::read::FileRead;
 use std::alloc::{AllocError, Global};
-use std::marker::Model;
-use texting_robots::Site;
 use texting_robots::robot::Decision;
 
 #[derive(Drop)]
@@ -25,14 +22,12 @@ pub struct UrlChange<'a> {
     pub newer: Decision,
 }
 
-impl<'a> Model for UrlChange<'a> {
-    ghost use Rattle.audit_compare.specs.Compare.{UrlChangeValue};
-
-    ghost Value = { UrlChangeValue };
-
-    ghost use Rattle.audit_compare.specs.Internal.Compare.{change_of};
-
-    ghost view = { change_of };
+#[derive(Drop)]
+pub struct RuleChanges {
+    /// Those that only the older file has.
+    pub removed: Vec<Rule>,
+    /// Those that only the newer one has.
+    pub added: Vec<Rule>,
 }
 
 /// What each file means for a crawler, and what differs.
@@ -41,45 +36,26 @@ pub struct Compared<'a> {
     pub agent: &'a str,
     pub older: AgentAudit<'a>,
     pub newer: AgentAudit<'a>,
-    /// Those that only the older file has.
-    pub removed: Vec<Rule>,
-    /// Those that only the newer one has.
-    pub added: Vec<Rule>,
+    pub rules: RuleChanges,
     pub changes: Vec<UrlChange<'a>>,
     pub verdicts: Verdicts,
     /// If its vendor applies another group to the crawler, or none, in one of the files.
     pub vendor: Option<VendorChange>,
 }
 
-impl<'a> Model for Compared<'a> {
-    ghost use Rattle.audit_compare.specs.Compare.{ComparedValue};
-
-    ghost Value = { ComparedValue };
-
-    ghost use Rattle.audit_compare.specs.Internal.Compare.{compared_of};
-
-    ghost view = { compared_of };
-}
-
-#[derive(Drop)]
-struct RuleChanges {
-    removed: Vec<Rule>,
-    added: Vec<Rule>,
-}
-
 fn rule_changes(
     alloc: Global,
     agent: &str,
-    older: &Site,
-    newer: &Site,
+    older: &FileRead<'_>,
+    newer: &FileRead<'_>,
 ) -> Result<RuleChanges, AllocError>
-    ensures removed { IfOk result (λ changes. changes.removed.items
-        ≡ rules_only_in (file_lines older.now) (file_lines newer.now) agent.now) }
-    ensures added { IfOk result (λ changes. changes.added.items
-        ≡ rules_only_in (file_lines newer.now) (file_lines older.now) agent.now) }
+    requires older { IsRead older.now }
+    requires newer { IsRead newer.now }
+    ensures { IfOk result (AreChanges (lines_read older.now.bytes.now) (lines_read newer.now.bytes.now)
+        agent.now) }
 {
-    let old_rules = rules_of(alloc, older, agent)?;
-    let new_rules = rules_of(alloc, newer, agent)?;
+    let old_rules = rules_of(alloc, &older.site, agent)?;
+    let new_rules = rules_of(alloc, &newer.site, agent)?;
     let old_set = RuleSet::of(alloc, &old_rules)?;
     let new_set = RuleSet::of(alloc, &new_rules)?;
     let removed = rules_lacked(&new_set, old_rules);
@@ -87,70 +63,42 @@ fn rule_changes(
     Ok(RuleChanges { removed, added })
 }
 
-fn is_in_line_of(rules: &[Rule], line: Option<usize>) -> bool
-    ensures { result ≡ is_in_line_of rules.now line }
-{
+fn is_in_line_of(rules: &[Rule], line: Option<usize>) -> bool {
     rules.iter().any(|rule| line == Some(rule.line))
 }
 
 /// Both allow or both deny, the rule that decided wasn't removed, and the one that decides now wasn't added.
-fn is_same_decision(rules: &RuleChanges, older: &Decision, newer: &Decision) -> bool
-    ensures { result ≡ is_same_decision rules.now.removed.items rules.now.added.items older.now newer.now }
-{
+fn is_same_decision(rules: &RuleChanges, older: &Decision, newer: &Decision) -> bool {
     let is_removed = is_in_line_of(&rules.removed, older.line);
     let is_added = is_in_line_of(&rules.added, newer.line);
     older.allowed == newer.allowed && !(is_removed || is_added)
 }
 
-fn add_change<'a>(
-    found: &mut Vec<UrlChange<'a>>,
-    rules: &RuleChanges,
-    older: &Verdict<'a>,
-    newer: &Verdict<'a>,
-) -> Result<(), AllocError>
-    ensures { OnOk result (found.new.items ≡ found.old.items
-        ++ change_at rules.now.removed.items rules.now.added.items older.now newer.now) }
-{
-    if is_same_decision(rules, &older.decision, &newer.decision) {
-        return Ok(());
-    }
-    Ok(found.push(UrlChange {
-        url: older.url,
-        older: older.decision,
-        newer: newer.decision,
-    })?)
-}
-
+/// The URLs on which decisions differ.
 fn url_changes<'a>(
     alloc: Global,
     rules: &RuleChanges,
     older: &[Verdict<'a>],
     newer: &[Verdict<'a>],
-) -> Result<Vec<UrlChange<'a>>, AllocError>
-    ensures { IfOk result (λ found. found.items
-        ≡ url_changes rules.now.removed.items rules.now.added.items older.now newer.now) }
-{
+) -> Result<Vec<UrlChange<'a>>, AllocError> {
     let mut found = Vec::new(alloc);
     for at in 0..older.len().min(newer.len()) {
-        add_change(&mut found, rules, &older[at], &newer[at])?;
+        let was = &older[at];
+        let is = &newer[at];
+        if is_same_decision(rules, &was.decision, &is.decision) {
+            continue;
+        }
+        found.push(UrlChange {
+            url: was.url,
+            older: was.decision,
+            newer: is.decision,
+        })?;
     }
     Ok(found)
 }
 
-fn changes_between<'a>(
-    alloc: Global,
-    rules: &RuleChanges,
-    older: &AgentAudit<'a>,
-    newer: &AgentAudit<'a>,
-) -> Result<Vec<UrlChange<'a>>, AllocError>
-    ensures { IfOk result (λ found. found.items
-        ≡ url_changes rules.now.removed.items rules.now.added.items older.now.verdicts newer.now.verdicts) }
-{
-    url_changes(alloc, rules, &older.verdicts, &newer.verdicts)
-}
-
-fn are_none(rules: &RuleChanges) -> bool
-    ensures { result ≡ (length rules.now.removed.items == 0 && length rules.now.added.items == 0) }
+pub(crate) fn are_none(rules: &RuleChanges) -> bool
+    ensures { result ≡ are_none rules.now }
 {
     rules.removed.is_empty() && rules.added.is_empty()
 }
@@ -166,10 +114,8 @@ fn verdicts_of(
 ) -> Result<Verdicts, Error>
     requires older { IsRead older.now }
     requires newer { IsRead newer.now }
-    requires removed { rules.now.removed.items
-        ≡ rules_only_in (file_lines older.now.site) (file_lines newer.now.site) agent.now }
-    requires added { rules.now.added.items
-        ≡ rules_only_in (file_lines newer.now.site) (file_lines older.now.site) agent.now }
+    requires rules { AreChanges (lines_read older.now.bytes.now) (lines_read newer.now.bytes.now) agent.now
+        rules.now }
     ensures ok { IfOk result (AreVerdicts (placed_rules agent.now (lines_read older.now.bytes.now))
         (placed_rules agent.now (lines_read newer.now.bytes.now))) }
     ensures error { IfErr result (λ error. error ≡ Error.Memory) }
@@ -198,16 +144,15 @@ pub(crate) fn compared_for<'a>(
 {
     let older_audit = audit_for(alloc, agent, older, urls, budget / 8)?;
     let newer_audit = audit_for(alloc, agent, newer, urls, budget / 8)?;
-    let rules = rule_changes(alloc, agent, &older.site, &newer.site)?;
-    let changes = changes_between(alloc, &rules, &older_audit, &newer_audit)?;
+    let rules = rule_changes(alloc, agent, older, newer)?;
+    let changes = url_changes(alloc, &rules, &older_audit.verdicts, &newer_audit.verdicts)?;
     let verdicts = verdicts_of(alloc, agent, older, newer, &rules, budget)?;
     let vendor = at_vendor(alloc, agent, older, newer, budget)?;
     Ok(Compared {
         agent,
         older: older_audit,
         newer: newer_audit,
-        removed: rules.removed,
-        added: rules.added,
+        rules,
         changes,
         verdicts,
         vendor,

@@ -1,15 +1,10 @@
 //! What differs between two files for a crawler, as findings.
-ghost use Rattle.std.specs.Prelude.{◌≡◌, ◌∷◌, [], OnOk, map};
+ghost use Rattle.std.specs.Prelude.{◌≡◌};
 ghost use Rattle.std.specs.List.{list_all, list_any};
-ghost use Rattle.audit_core.specs.Findings.{Adds};
-ghost use Rattle.audit_compare.specs.Compare.{accepted_changes, change_name, crawler_changes, delay_changes};
-ghost use Rattle.audit_compare.specs.Compare.{group_changes, has_same_rules, is_rejected, is_same_group};
-ghost use Rattle.audit_compare.specs.Compare.{is_unchanged, rejection, rejection_name, rule_change};
-ghost use Rattle.audit_compare.specs.Compare.{change_level, is_home_closed, rule_name, section_changes, url_change};
-ghost use Rattle.audit_compare.specs.Compare.{unchanged_words, vendor_changes, verdict_changes};
+ghost use Rattle.audit_compare.specs.Compare.{is_rejected, is_same_group, is_unchanged, unchanged_words};
 ghost use Rattle.audit_compare.specs.Compare.{without_example};
 
-use crate::compared::{Compared, UrlChange};
+use crate::compared::{Compared, UrlChange, are_none};
 use crate::every_url::{Example, Verdicts, is_same};
 use crate::vendor::is_same_at_vendor;
 use audit_core::audit::AgentAudit;
@@ -62,9 +57,7 @@ fn add_groups(
     agent: &str,
     older: Group,
     newer: Group,
-) -> fmt::Result
-    ensures { OnOk result (Adds found.old.items found.new.items (group_changes older newer)) }
-{
+) -> fmt::Result {
     if is_same_group(older, newer) {
         return Ok(());
     }
@@ -79,9 +72,7 @@ fn add_delays(
     agent: &str,
     older: Option<u64>,
     newer: Option<u64>,
-) -> fmt::Result
-    ensures { OnOk result (Adds found.old.items found.new.items (delay_changes older newer)) }
-{
+) -> fmt::Result {
     if older == newer {
         return Ok(());
     }
@@ -90,66 +81,29 @@ fn add_delays(
     add(alloc, found, Level::Note, None, "delay", message)
 }
 
-fn rule_name(is_added: bool) -> &'static str
-    ensures { result.now ≡ rule_name is_added }
-{
-    if is_added {
-        "rule-added"
-    } else {
-        "rule-removed"
-    }
-}
-
-fn add_rule(
-    alloc: Global,
-    found: &mut Findings,
-    agent: &str,
-    is_added: bool,
-    rule: &Rule,
-) -> fmt::Result
-    ensures { OnOk result (Adds found.old.items found.new.items (rule_change is_added rule.now ∷ [])) }
-{
-    let sign = if is_added { "+" } else { "-" };
-    let kind = if rule.is_allow { "Allow" } else { "Disallow" };
-    let (pattern, number) = (rule.pattern.as_str(), rule.line);
-    let line = if is_added { Some(number) } else { None };
-    let message = message(
-        alloc,
-        format_args!("crawler {agent}: {sign} {kind}: {pattern} (line {number})"),
-    );
-    add(
-        alloc,
-        found,
-        Level::Note,
-        line,
-        rule_name(is_added),
-        message,
-    )
-}
-
 fn add_rules(
     alloc: Global,
     found: &mut Findings,
     agent: &str,
     is_added: bool,
     rules: &[Rule],
-) -> fmt::Result
-    ensures { OnOk result (Adds found.old.items found.new.items (map (rule_change is_added) rules.now)) }
-{
+) -> fmt::Result {
+    let (sign, name) = if is_added {
+        ("+", "rule-added")
+    } else {
+        ("-", "rule-removed")
+    };
     for rule in rules {
-        add_rule(alloc, found, agent, is_added, rule)?;
+        let kind = if rule.is_allow { "Allow" } else { "Disallow" };
+        let (pattern, number) = (rule.pattern.as_str(), rule.line);
+        let line = if is_added { Some(number) } else { None };
+        let message = message(
+            alloc,
+            format_args!("crawler {agent}: {sign} {kind}: {pattern} (line {number})"),
+        );
+        add(alloc, found, Level::Note, line, name, message)?;
     }
     Ok(())
-}
-
-fn change_name(older: bool, newer: bool) -> &'static str
-    ensures { result.now ≡ change_name older newer }
-{
-    match (older, newer) {
-        (true, false) => "closed",
-        (false, true) => "opened",
-        _ => "other-rule",
-    }
 }
 
 /// The verdict, and the line that decides.
@@ -196,54 +150,26 @@ fn add_url(
     found: &mut Findings,
     compared: &Compared<'_>,
     change: &UrlChange<'_>,
-) -> fmt::Result
-    ensures { OnOk result (Adds found.old.items found.new.items (url_change change.now ∷ [])) }
-{
+) -> fmt::Result {
     let (older, newer) = (change.older, change.newer);
-    let name = change_name(older.allowed, newer.allowed);
-    let level = if older.allowed && !newer.allowed {
-        Level::Warning
-    } else {
-        Level::Note
-    };
-    let (comma, effect) = if older.allowed == newer.allowed {
-        ("", "")
-    } else {
-        (", ", name)
+    let (level, name, effect) = match (older.allowed, newer.allowed) {
+        (true, false) => (Level::Warning, "closed", ", closed"),
+        (false, true) => (Level::Note, "opened", ", opened"),
+        _ => (Level::Note, "other-rule", ""),
     };
     let (agent, url, vendors) = (compared.agent, change.url, vendors_of(compared));
     let (old, new) = (Decided(older), Decided(newer));
     let message = message(
         alloc,
-        format_args!("crawler {agent} {url}: {old} -> {new}{comma}{effect}{vendors}"),
+        format_args!("crawler {agent} {url}: {old} -> {new}{effect}{vendors}"),
     );
     add(alloc, found, level, newer.line, name, message)
-}
-
-fn add_urls(
-    alloc: Global,
-    found: &mut Findings,
-    compared: &Compared<'_>,
-    changes: &[UrlChange<'_>],
-) -> fmt::Result
-    ensures { OnOk result (Adds found.old.items found.new.items (map url_change changes.now)) }
-{
-    for change in changes {
-        add_url(alloc, found, compared, change)?;
-    }
-    Ok(())
 }
 
 pub(crate) fn is_rejected(compared: &Compared<'_>) -> bool
     ensures { result ≡ is_rejected compared.now }
 {
     compared.older.rejected.is_some() || compared.newer.rejected.is_some()
-}
-
-fn has_same_rules(compared: &Compared<'_>) -> bool
-    ensures { result ≡ has_same_rules compared.now }
-{
-    compared.removed.is_empty() && compared.added.is_empty()
 }
 
 pub(crate) fn is_unchanged(compared: &Compared<'_>) -> bool
@@ -254,7 +180,13 @@ pub(crate) fn is_unchanged(compared: &Compared<'_>) -> bool
         && is_same_group(older.group, newer.group)
         && older.delay == newer.delay
         && is_same_at_vendor(&compared.vendor)
-        && has_same_rules(compared)
+        && are_none(&compared.rules)
+}
+
+pub(crate) fn all_unchanged(crawlers: &[Compared<'_>]) -> bool
+    ensures { result ≡ list_all is_unchanged crawlers.now }
+{
+    crawlers.iter().all(is_unchanged)
 }
 
 fn has_unchanged(crawlers: &[Compared<'_>]) -> bool
@@ -274,25 +206,11 @@ pub(crate) fn unchanged_words(crawlers: &[Compared<'_>]) -> &'static str
     }
 }
 
-pub(crate) fn all_unchanged(crawlers: &[Compared<'_>]) -> bool
-    ensures { result ≡ list_all is_unchanged crawlers.now }
-{
-    crawlers.iter().all(is_unchanged)
-}
-
-fn is_home_closed(example: &Example) -> bool
-    ensures { result ≡ is_home_closed example.now }
-{
-    example.path.as_str() == "/" && example.older.allowed
-}
-
 /// Of a crawler that loses everything, or the home page.
-fn change_level(newer: Reach, example: &Example) -> Level
-    ensures { result ≡ change_level newer example.now }
-{
+fn change_level(newer: Reach, example: &Example) -> Level {
     match newer {
         Reach::Nothing => Level::Error,
-        _ if is_home_closed(example) => Level::Warning,
+        _ if example.path.as_str() == "/" && example.older.allowed => Level::Warning,
         _ => Level::Note,
     }
 }
@@ -337,9 +255,7 @@ fn add_change(
     newer: Reach,
     verdicts: &Verdicts,
     message: Result<Line, fmt::Error>,
-) -> fmt::Result
-    ensures { OnOk result (Adds found.old.items found.new.items (verdict_changes newer verdicts.now)) }
-{
+) -> fmt::Result {
     let (level, line, name) = match verdicts {
         Verdicts::Other(example) => {
             let level = change_level(newer, example);
@@ -361,9 +277,7 @@ fn name_at_vendor<'a>(audit: &AgentAudit<'a>, name: &'a str) -> &'a str {
 }
 
 /// Adds what becomes of verdicts by the groups that the vendor of a crawler applies to it.
-fn add_at_vendor(alloc: Global, found: &mut Findings, compared: &Compared<'_>) -> fmt::Result
-    ensures { OnOk result (Adds found.old.items found.new.items (vendor_changes compared.now.vendor)) }
-{
+fn add_at_vendor(alloc: Global, found: &mut Findings, compared: &Compared<'_>) -> fmt::Result {
     let Some(vendor) = &compared.vendor else {
         return Ok(());
     };
@@ -382,10 +296,7 @@ fn add_at_vendor(alloc: Global, found: &mut Findings, compared: &Compared<'_>) -
 }
 
 /// Adds what becomes of the verdicts of all URLs, if something differs for the crawler.
-fn add_verdicts(alloc: Global, found: &mut Findings, compared: &Compared<'_>) -> fmt::Result
-    ensures { OnOk result (Adds found.old.items found.new.items
-        (accepted_changes Section.EveryUrl compared.now)) }
-{
+fn add_verdicts(alloc: Global, found: &mut Findings, compared: &Compared<'_>) -> fmt::Result {
     if is_unchanged(compared) {
         return Ok(());
     }
@@ -406,36 +317,24 @@ fn add_verdicts(alloc: Global, found: &mut Findings, compared: &Compared<'_>) ->
     add_at_vendor(alloc, found, compared)
 }
 
-/// The name of the finding that a file is rejected.
-fn rejection_name(is_new: bool) -> &'static str
-    ensures { result.now ≡ rejection_name is_new }
-{
-    if is_new { "rejected" } else { "old-rejected" }
-}
-
 fn add_rejection(
     alloc: Global,
     found: &mut Findings,
     agent: &str,
     is_new: bool,
     rejected: Option<usize>,
-) -> fmt::Result
-    ensures { OnOk result (Adds found.old.items found.new.items (rejection is_new rejected)) }
-{
+) -> fmt::Result {
     let Some(line) = rejected else {
         return Ok(());
     };
-    let (version, reason) = (if is_new { "new" } else { "old" }, Rejected { agent, line });
-    let line = if is_new { rejected } else { None };
+    let (version, name, place) = if is_new {
+        ("new", "rejected", rejected)
+    } else {
+        ("old", "old-rejected", None)
+    };
+    let reason = Rejected { agent, line };
     let message = message(alloc, format_args!("the {version} file is {reason}"));
-    add(
-        alloc,
-        found,
-        Level::Error,
-        line,
-        rejection_name(is_new),
-        message,
-    )
+    add(alloc, found, Level::Error, place, name, message)
 }
 
 /// Adds what a section says of a crawler.
@@ -444,9 +343,7 @@ fn add_section(
     found: &mut Findings,
     section: Section,
     compared: &Compared<'_>,
-) -> fmt::Result
-    ensures { OnOk result (Adds found.old.items found.new.items (section_changes section compared.now)) }
-{
+) -> fmt::Result {
     let (agent, older, newer) = (compared.agent, &compared.older, &compared.newer);
     match section {
         Section::Rejections => {
@@ -459,10 +356,15 @@ fn add_section(
             add_delays(alloc, found, agent, older.delay, newer.delay)
         }
         Section::Rules => {
-            add_rules(alloc, found, agent, false, &compared.removed)?;
-            add_rules(alloc, found, agent, true, &compared.added)
+            add_rules(alloc, found, agent, false, &compared.rules.removed)?;
+            add_rules(alloc, found, agent, true, &compared.rules.added)
         }
-        Section::Urls => add_urls(alloc, found, compared, &compared.changes),
+        Section::Urls => {
+            for change in &compared.changes {
+                add_url(alloc, found, compared, change)?;
+            }
+            Ok(())
+        }
         Section::EveryUrl => add_verdicts(alloc, found, compared),
     }
 }
@@ -473,9 +375,7 @@ pub(crate) fn add_crawler(
     found: &mut Findings,
     sections: &[Section],
     compared: &Compared<'_>,
-) -> fmt::Result
-    ensures { OnOk result (Adds found.old.items found.new.items (crawler_changes sections.now compared.now)) }
-{
+) -> fmt::Result {
     for section in sections {
         add_section(alloc, found, *section, compared)?;
     }

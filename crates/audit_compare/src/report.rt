@@ -1,9 +1,4 @@
 //! The report on a comparison: what differs, as findings, and as text.
-ghost use Rattle.std.specs.Prelude.{◌≡◌, ◌∷◌, [], IfOk, OnOk, flat_map, map};
-ghost use Rattle.audit_core.specs.Findings.{Adds, found_of};
-ghost use Rattle.audit_compare.specs.Compare.{all_differences, crawler_changes, emptied, sitemap_change};
-ghost use Rattle.audit_compare.specs.Compare.{sitemap_changes, sitemap_name};
-
 use crate::compare::{Comparison, Side};
 use crate::compared::Compared;
 use crate::differences::{Section, add_crawler, is_unchanged, unchanged_words};
@@ -20,53 +15,24 @@ fn add_crawlers(
     found: &mut Findings,
     sections: &[Section],
     crawlers: &[Compared<'_>],
-) -> fmt::Result
-    ensures { OnOk result (Adds found.old.items found.new.items
-        (flat_map (crawler_changes sections.now) crawlers.now)) }
-{
+) -> fmt::Result {
     for compared in crawlers {
         add_crawler(alloc, found, sections, compared)?;
     }
     Ok(())
 }
 
-fn sitemap_name(is_added: bool) -> &'static str
-    ensures { result.now ≡ sitemap_name is_added }
-{
-    if is_added {
-        "sitemap-added"
-    } else {
-        "sitemap-removed"
-    }
-}
-
-fn add_sitemap(alloc: Global, found: &mut Findings, is_added: bool, sitemap: &[u8]) -> fmt::Result
-    ensures { OnOk result (Adds found.old.items found.new.items (sitemap_change is_added sitemap.now ∷ [])) }
-{
-    let what = if is_added { "added" } else { "removed" };
-    let sitemap = Untrusted(sitemap);
-    let message = message(alloc, format_args!("sitemap {what}: {sitemap}"));
-    add(
-        alloc,
-        found,
-        Level::Note,
-        None,
-        sitemap_name(is_added),
-        message,
-    )
-}
-
 fn add_sitemaps(
     alloc: Global,
     found: &mut Findings,
-    is_added: bool,
+    what: &str,
+    name: &'static str,
     sitemaps: &[&[u8]],
-) -> fmt::Result
-    ensures { OnOk result (Adds found.old.items found.new.items
-        (map (sitemap_change is_added) (map (λ sitemap. sitemap.now) sitemaps.now))) }
-{
+) -> fmt::Result {
     for sitemap in sitemaps {
-        add_sitemap(alloc, found, is_added, sitemap)?;
+        let sitemap = Untrusted(*sitemap);
+        let message = message(alloc, format_args!("sitemap {what}: {sitemap}"));
+        add(alloc, found, Level::Note, None, name, message)?;
     }
     Ok(())
 }
@@ -76,11 +42,15 @@ fn add_both_sitemaps(
     alloc: Global,
     found: &mut Findings,
     comparison: &Comparison<'_>,
-) -> fmt::Result
-    ensures { OnOk result (Adds found.old.items found.new.items (sitemap_changes comparison.now)) }
-{
-    add_sitemaps(alloc, found, false, &comparison.removed)?;
-    add_sitemaps(alloc, found, true, &comparison.added)
+) -> fmt::Result {
+    add_sitemaps(
+        alloc,
+        found,
+        "removed",
+        "sitemap-removed",
+        &comparison.removed,
+    )?;
+    add_sitemaps(alloc, found, "added", "sitemap-added", &comparison.added)
 }
 
 /// Adds that the new file has no directive, if the old one has some.
@@ -89,9 +59,7 @@ fn add_emptied(
     found: &mut Findings,
     older: &Side<'_>,
     newer: &Side<'_>,
-) -> fmt::Result
-    ensures { OnOk result (Adds found.old.items found.new.items (emptied older.now newer.now)) }
-{
+) -> fmt::Result {
     if older.has_no_directive || !newer.has_no_directive {
         return Ok(());
     }
@@ -100,9 +68,7 @@ fn add_emptied(
 }
 
 /// What formats other than text have.
-fn all_differences(alloc: Global, comparison: &Comparison<'_>) -> Result<Findings, fmt::Error>
-    ensures { IfOk result (λ found. map found_of found.items ≡ all_differences comparison.now) }
-{
+fn all_differences(alloc: Global, comparison: &Comparison<'_>) -> Result<Findings, fmt::Error> {
     let (mut found, crawlers) = (Vec::new(alloc), &comparison.crawlers);
     add_emptied(alloc, &mut found, &comparison.older, &comparison.newer)?;
     add_crawlers(alloc, &mut found, &[Section::Rejections], crawlers)?;
@@ -202,9 +168,7 @@ fn write_report(alloc: Global, out: &mut Report, comparison: &Comparison<'_>) ->
 pub fn reported(
     alloc: Global,
     comparison: &Comparison<'_>,
-) -> Result<(Report, Findings), fmt::Error>
-    ensures { IfOk result (λ reported. map found_of reported.1.items ≡ all_differences comparison.now) }
-{
+) -> Result<(Report, Findings), fmt::Error> {
     let mut out = Report::new(alloc);
     write_report(alloc, &mut out, comparison)?;
     Ok((out, all_differences(alloc, comparison)?))

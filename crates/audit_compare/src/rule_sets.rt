@@ -3,7 +3,7 @@ ghost use Rattle.std.specs.Prelude.{◌≡◌, ℕ, IfOk, List};
 ghost use Rattle.std.specs.BTreeSet.{contains_text};
 ghost use Rattle.texting_robots.specs.Callers.{PlacedRule};
 ghost use Rattle.audit_compare.specs.Compare.{has_rule, rules_lacked};
-ghost use Rattle.audit_compare.specs.Internal.Compare.{HasRules, contains_rule};
+ghost use Rattle.audit_compare.specs.Internal.{HasRules, contains_rule};
 
 use robots_same::rule::Rule;
 use std::alloc::{AllocError, Global};
@@ -56,7 +56,8 @@ impl RuleSet {
 
 /// Those of the rules that the set lacks, in order.
 pub(crate) fn rules_lacked(set: &RuleSet, rules: Vec<Rule>) -> Vec<Rule>
-    ensures { (others : List PlacedRule) → HasRules others set.now → result.items ≡ rules_lacked others rules.items }
+    ensures { (others : List PlacedRule) → HasRules others set.now
+        → result.items ≡ rules_lacked others rules.items }
 {
     let mut rules = rules;
     rules.retain(|rule| !set.contains(rule));

@@ -1,6 +1,6 @@
 //! What becomes of verdicts by the groups that the vendor of a crawler applies to it.
 ghost use Rattle.std.specs.Prelude.{◌≡◌, [], IfErr, IfOk};
-ghost use Rattle.texting_robots.specs.Callers.{file_lines, lines_read};
+ghost use Rattle.texting_robots.specs.Callers.{lines_read};
 ghost use Rattle.robots_warnings.specs.Read.{IsRead};
 ghost use Rattle.audit_compare.specs.EveryUrl.{AreAtVendor, is_here, is_same_at_vendor, name_at_vendor};
 ghost use Rattle.audit_compare.specs.EveryUrl.{lines_of_group};
@@ -10,7 +10,6 @@ use audit_core::error::Error;
 use robots_warnings::crawlers::other_group;
 use robots_warnings::read::FileRead;
 use std::alloc::Global;
-use texting_robots::Site;
 
 /// The group that the vendor of a crawler applies to it in each file, and what becomes of the verdicts.
 #[derive(Drop)]
@@ -22,16 +21,19 @@ pub struct VendorChange {
 }
 
 /// The vendor applies in both files the group that applies here.
-fn is_here(older: &Site, newer: &Site, agent: &str) -> bool
-    ensures { result ≡ is_here (file_lines older.now) (file_lines newer.now) agent.now }
+fn is_here(older: &FileRead<'_>, newer: &FileRead<'_>, agent: &str) -> bool
+    requires older { IsRead older.now }
+    requires newer { IsRead newer.now }
+    ensures { result ≡ is_here (lines_read older.now.bytes.now) (lines_read newer.now.bytes.now) agent.now }
 {
-    other_group(older, agent).is_none() && other_group(newer, agent).is_none()
+    other_group(&older.site, agent).is_none() && other_group(&newer.site, agent).is_none()
 }
 
-fn name_at_vendor<'a>(site: &'a Site, agent: &'a str) -> &'a str
-    ensures { result.now ≡ name_at_vendor (file_lines site.entry.now) agent.entry.now }
+fn name_at_vendor<'a>(read: &'a FileRead<'a>, agent: &'a str) -> &'a str
+    requires { IsRead read.now }
+    ensures { result.now ≡ name_at_vendor (lines_read read.entry.now.bytes.now) agent.entry.now }
 {
-    match other_group(site, agent) {
+    match other_group(&read.site, agent) {
         Some(name) => name,
         None => agent,
     }
@@ -67,12 +69,12 @@ pub(crate) fn at_vendor(
         agent.now) }
     ensures error { IfErr result (λ error. error ≡ Error.Memory) }
 {
-    if is_here(&older.site, &newer.site, agent) {
+    if is_here(older, newer, agent) {
         return Ok(None);
     }
     let empty = FileRead::new(alloc, "*", b"")?;
-    let old_name = name_at_vendor(&older.site, agent);
-    let new_name = name_at_vendor(&newer.site, agent);
+    let old_name = name_at_vendor(older, agent);
+    let new_name = name_at_vendor(newer, agent);
     let old_file = file_of_group(old_name, older, &empty);
     let new_file = file_of_group(new_name, newer, &empty);
     let verdicts = verdicts_for(alloc, (old_name, new_name), old_file, new_file, budget)?;

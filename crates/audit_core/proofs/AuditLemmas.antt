@@ -1,30 +1,24 @@
 -- How an audit is built: crawlers, rows and lists of lines.
 use Rattle.std.proofs.Common.{◌≡◌, ℕ, ◌||◌, Bool, true, false, List, [], ◌∷◌, ◌++◌, ap, bytes_eq, not, refl}
-use Rattle.std.proofs.Common.{if◌then◌else◌, subst, sym, ⊎_elim, ◌∙◌, ◌+◌, ◌<◌, ◌==◌, arith, drop, flat_map}
-use Rattle.std.proofs.Common.{length, map, slice_index_or, zip, append_assoc, None, Option, take}
-use Rattle.std.proofs.Common.{Some, codes}
+use Rattle.std.proofs.Common.{if◌then◌else◌, subst, sym, ⊎_elim, ◌∙◌, ◌+◌, ◌<◌, ◌==◌, arith, drop}
+use Rattle.std.proofs.Common.{length, map, slice_index_or, None, Option, take}
 use Rattle.std.specs.{BTreeSet.BTreeSet, List.AllZip}
 use Rattle.std.specs.Str.{is_utf8, str_to_ascii_lowercase}
 use Rattle.std.proofs.Math.{Bool.or-false}
 use Rattle.std.proofs.lemmas.Bool.{cases_Bool, Decides.Decides-eqb}
 use Rattle.std.proofs.lemmas.{Slice.Eq.bytes_eq-Decides, List.Elements.filter_map-append}
-use Rattle.std.proofs.lemmas.List.{append-nil, drop_more, map-append, take_more, Concat.flat_map-append}
+use Rattle.std.proofs.lemmas.List.{append-nil, drop_more, map-append, take_more}
 use Rattle.texting_robots.specs.Callers.{label_by_value, sitemaps_in, IsDelayFor, placed_rules}
 use Rattle.texting_robots.specs.Callers.{AnswerAlike, IsRobotWithoutSitemaps, PlacedRule, RobotValue}
 use Rattle.texting_robots.specs.Callers.{file_limit}
-use Rattle.texting_robots.specs.Callers.{UserAgent, by_value, HasLines, LineValue, delay_for, lines_read}
-use Rattle.texting_robots.specs.Callers.{IsFirstOverlong, Label}
+use Rattle.texting_robots.specs.Callers.{UserAgent, by_value, HasLines, delay_for, lines_read}
 use Rattle.texting_robots.specs.{Agents.is_among, Executable.sitemap_in}
 use Rattle.texting_robots.specs.declared.labels.{LabeledLine.LabeledLine}
 use Rattle.robots_warnings.specs.Internal.Names.{AddsName, Key}
 use Rattle.audit_core.specs.Internal.Agents.{AddsAgent, HasAgents, has_lowered}
 use Rattle.robots_warnings.proofs.{ClosedLemmas.any_last}
-use Rattle.robots_warnings.specs.{Facts.facts_of, File.labels_for, File.lines_of}
-use Rattle.robots_warnings.specs.{Read.IsRead, declared.read.FileRead.FileRead}
-use Rattle.audit_core.specs.Audit.{AreOfSitemaps, IsRuling, IsVerdictOn, VerdictValue, all_sitemaps}
-use Rattle.audit_core.specs.Audit.{sitemap_at, sitemap_warning, sitemaps_asked}
-use Rattle.audit_core.specs.Internal.{AddsSitemaps, warnings_of}
-use Rattle.robots_warnings.specs.{Message.WarningValue}
+use Rattle.robots_warnings.specs.{File.lines_of}
+use Rattle.audit_core.specs.Audit.{IsRuling, IsVerdictOn, VerdictValue}
 use Rattle.texting_robots.proofs.Shared.{delay_is_computed, answers_computed, lines_are_read, of_lines}
 use Rattle.texting_robots.proofs.Shared.{read_robot}
 use Rattle.audit_core.specs.{Target.asked_target}
@@ -85,50 +79,12 @@ sitemaps_next labels at labeled below =
     ap (λ labels. sitemaps_in (lines_of (map label_by_value labels))) (drop_more labels at labeled below)
     ∙ filter_map-append sitemap_in here later
 
-pub none_added : (rules : List PlacedRule) (found : List WarningValue) → AddsSitemaps rules [] found found
-none_added rules found = record { verdicts = []; are = tt; added = sym (append-nil found) }
-
 zips_joined : {A B : Type 0} (R : A → B → Type 0) (xs : List A) (ys : List B) (more : List A)
     (others : List B) → AllZip R xs ys → AllZip R more others → AllZip R (xs ++ more) (ys ++ others)
 zips_joined R [] [] more others are too = too
 zips_joined R [] (y ∷ ys) more others are too = absurd are
 zips_joined R (x ∷ xs) [] more others are too = absurd are
 zips_joined R (x ∷ xs) (y ∷ ys) more others are too = (are.0, zips_joined R xs ys more others are.1 too)
-
-warnings_joined : (rules : List PlacedRule) (one two : List (ℕ × List ℕ))
-    (verdicts others : List VerdictValue)
-    → AllZip (IsVerdictOn rules) (map (λ sitemap. sitemap.1) one) verdicts
-    → warnings_of (one ++ two) (verdicts ++ others) ≡ warnings_of one verdicts ++ warnings_of two others
-warnings_joined rules [] two [] others are = refl
-warnings_joined rules [] two (verdict ∷ verdicts) others are = absurd are
-warnings_joined rules (sitemap ∷ one) two [] others are = absurd are
-warnings_joined rules (sitemap ∷ one) two (verdict ∷ verdicts) others are =
-    let here = sitemap_warning (sitemap.0, verdict) in
-    ap (λ more. here ++ more) (warnings_joined rules one two verdicts others are.1)
-    ∙ sym (append_assoc here (warnings_of one verdicts) (warnings_of two others))
-
-pub more_added : (rules : List PlacedRule) (one two : List (ℕ × List ℕ)) (old mid new : List WarningValue)
-    → AddsSitemaps rules one old mid → AddsSitemaps rules two mid new
-    → AddsSitemaps rules (one ++ two) old new
-more_added rules one two old mid new first second =
-    let url = λ (sitemap : ℕ × List ℕ). sitemap.1 in
-    let before = warnings_of one first.verdicts in
-    let after = warnings_of two second.verdicts in
-    record {
-      verdicts = first.verdicts ++ second.verdicts;
-      are = rw (map-append url one two) (zips_joined (IsVerdictOn rules) (map url one) first.verdicts
-          (map url two) second.verdicts first.are second.are);
-      added = second.added ∙ ap (λ found. found ++ after) first.added ∙ append_assoc old before after
-          ∙ ap (λ more. old ++ more)
-          (sym (warnings_joined rules one two first.verdicts second.verdicts first.are));
-    }
-
-pub sitemaps_more : (labels : List LabeledLine) (at : ℕ) (labeled : LabeledLine) → at < length labels
-    → all_sitemaps (map label_by_value (take (at + 1) labels))
-    ≡ all_sitemaps (map label_by_value (take at labels))
-    ++ sitemap_at (slice_index_or labels at labeled).number (by_value (slice_index_or labels at labeled).line)
-sitemaps_more labels at labeled below =
-    rw (take_more labels at labeled below) (simp (map-append, flat_map-append, append-nil))
 
 pub none_of : {X : Type 0} (xs : List X) → (length xs == 0) ≡ true → xs ≡ []
 none_of [] is = refl
@@ -171,55 +127,9 @@ ruling_made urls file agent robot verdicts of are =
     let alike = answers_computed agent lines robot.rules is.rules in
     (is.accepted, verdicts_like robot.rules (placed_rules agent lines) alike urls verdicts are)
 
--- if the file is accepted for `*`: the sitemaps are asked about, and these are the warnings
-pub all_asked : (file : List ℕ) (labels : List Label) (robot : RobotValue) (old new : List WarningValue)
-    → IsRobotWithoutSitemaps (codes "*") (take file_limit file) robot
-    → AddsSitemaps robot.rules (sitemaps_asked (lines_read file) labels) old new
-    → (sitemaps : List WarningValue) × AreOfSitemaps (lines_read file) labels sitemaps
-    × (new ≡ old ++ sitemaps)
-all_asked file labels robot old new of is =
-    let asked = sitemaps_asked (lines_read file) labels in (
-      warnings_of asked is.verdicts,
-      record {
-        overlong = None;
-        verdicts = is.verdicts;
-        ruling = ruling_made (map (λ sitemap. sitemap.1) asked) file (codes "*") robot is.verdicts of is.are;
-        found_are = refl;
-      },
-      is.added,
-    )
-
-zip_nil : (numbers : List ℕ) → zip {K = ℕ} {X = VerdictValue} numbers [] ≡ []
-zip_nil [] = refl
-zip_nil (number ∷ numbers) = refl
-
--- if it is rejected, there are none
-pub none_denied : (lines : List LineValue) (labels : List Label) (line : ℕ) (found : List WarningValue)
-    → IsFirstOverlong (placed_rules (codes "*") lines) line
-    → (sitemaps : List WarningValue) × AreOfSitemaps lines labels sitemaps × (found ≡ found ++ sitemaps)
-none_denied lines labels line found is =
-    let numbers = map (λ (sitemap : ℕ × List ℕ). sitemap.0) (sitemaps_asked lines labels) in (
-      [],
-      record {
-        overlong = Some line;
-        verdicts = [];
-        ruling = (is, refl);
-        found_are = ap (flat_map sitemap_warning) (sym (zip_nil numbers));
-      },
-      sym (append-nil found),
-    )
-
 pub delay_read : (agent file : List ℕ) (delay : Option ℕ)
     → HasLines (take file_limit file) (λ lines. IsDelayFor agent lines delay)
     → delay ≡ delay_for agent (lines_read file)
 delay_read agent file delay has =
     (delay_is_computed agent (lines_read file) delay).0
     (of_lines _ (λ lines. IsDelayFor agent lines delay) has (lines_read file) (lines_are_read file))
-
--- the facts of a file that was read
-pub facts_read : (read : FileRead) (agent file : List ℕ) → IsRead read → read.bytes.now ≡ file
-    → map label_by_value read.labels.items ≡ labels_for agent file
-    → read.facts ≡ facts_of file (labels_for agent file)
-facts_read read agent file is bytes labels =
-    is.facts_are ∙ ap (λ bytes. facts_of bytes (map label_by_value read.labels.items)) bytes
-    ∙ ap (facts_of file) labels

@@ -1,4 +1,4 @@
 pub mod AuditLemmas
+pub mod AddedLemmas
 pub mod ReachLemmas
-pub mod JoinedLemmas
 pub mod TogetherLemmas

@@ -1,27 +1,26 @@
 -- The audit of a file: its lines, what applies to each requested crawler, and the warnings.
-use Rattle.std.specs.Prelude.{◌≡◌, ◌⊎◌, ◌==◌, ℕ, Bool, false, true, List, [], ◌∷◌, ◌++◌, Option, Some, None}
-use Rattle.std.specs.Prelude.{bytes_eq, codes, count_by, filter, flat_map, if◌then◌else◌, is_none, is_some}
-use Rattle.std.specs.Prelude.{length, map}
-use Rattle.std.specs.Prelude.{not, option_map, sum_by, take, zip}
+use Rattle.std.specs.Prelude.{◌≡◌, ◌⊎◌, ◌==◌, ℕ, All, Bool, Contains, false, true, List, [], ◌∷◌, ◌++◌}
+use Rattle.std.specs.Prelude.{Option, Some, None, bytes_eq, codes, filter, flat_map, if◌then◌else◌, is_none}
+use Rattle.std.specs.Prelude.{is_some, length, map, take}
 use Rattle.std.specs.{List.AllZip, List.list_all, List.list_any, List.position_from, Str.is_utf8}
-use Rattle.texting_robots.specs.Callers.{IsFirstOverlong, IsRejected, Label, LineValue, PlacedRule, Sitemap}
-use Rattle.texting_robots.specs.Callers.{UserAgent, delay_for, file_limit, group_name, is_agent_named}
-use Rattle.texting_robots.specs.Callers.{is_named, lines_read, placed_rules}
+use Rattle.texting_robots.specs.Callers.{IsFirstOverlong, IsRejected, Label, LineValue, PlacedRule, UserAgent}
+use Rattle.texting_robots.specs.Callers.{delay_for, file_limit, group_name, is_agent_named, is_named}
+use Rattle.texting_robots.specs.Callers.{lines_read}
+use Rattle.texting_robots.specs.Callers.{placed_rules}
 use Rattle.texting_robots.specs.{Agents.is_among, Group.is_agent, Decision.IsDecisionOn}
 use Rattle.texting_robots.specs.{declared.decision.Decision.Decision}
 use Rattle.audit_core.specs.{declared.group.Group.Group, declared.group.AtVendor.AtVendor}
-use Rattle.audit_core.specs.{Request.RequestValue}
-use Rattle.audit_core.specs.{Needless.needless_warnings, Target.asked_target, Chosen.chosen}
+use Rattle.audit_core.specs.{Request.RequestValue, Target.asked_target, Chosen.chosen, Chosen.is_chosen}
+use Rattle.audit_core.specs.Together.{is_needless, needless_line}
 use Rattle.rfc9309.specs.{Conformance.conformance_of, declared.conformance.Conformance.Conformance}
 use Rattle.audit_core.specs.declared.group.AtVendor.TheVariants.{NoGroup, OtherGroup, Same}
 use Rattle.audit_core.specs.declared.group.Group.TheVariants.{Everyone, Named, Nobody, Star}
 use Rattle.robots_needless.specs.{Blocks.AreFoundIn, Needless.NeedlessValue, Needless.nothing}
-use Rattle.robots_warnings.specs.{declared.table.Cause.TheVariants.SitemapDenied, Crawlers.crawlers}
-use Rattle.robots_warnings.specs.Crawlers.{Row, ignores_star, other_group}
+use Rattle.robots_needless.specs.{Needless.numbers_of}
+use Rattle.robots_warnings.specs.Crawlers.{Row, crawlers, ignores_star, other_group}
 use Rattle.audit_core.specs.{Reach.IsReach, declared.reach.Reach.Reach, declared.reach.Reach.TheVariants.Part}
-use Rattle.robots_warnings.specs.{declared.warning.Detail.TheVariants.Line, Closed.line_closing_site}
-use Rattle.robots_warnings.specs.{Facts.facts_of, Facts.is_too_large, File.labels_for}
-use Rattle.robots_warnings.specs.{Urls.is_absolute_url, Warnings.warnings, Message.WarningValue}
+use Rattle.robots_warnings.specs.{Facts.is_too_large, File.labels_for, Means.Means, Means.telling}
+use Rattle.robots_warnings.specs.{Message.WarningValue}
 
 -- a name is appended if it is new and UTF-8, as a crawler's name is a string
 abbrev pub with_name : List (List ℕ) → LineValue → List (List ℕ)
@@ -110,40 +109,6 @@ pub record IsAgentAudit (urls : List (List ℕ)) (lines : List LineValue) (agent
   pub delay_is : value.delay ≡ delay_for agent lines
   pub ruling : IsRuling urls lines agent value.rejected value.verdicts
 
--- the number and the sitemap of this line, if that is an absolute http(s) URL
-abbrev pub sitemap_at : ℕ → LineValue → List (ℕ × List ℕ)
-sitemap_at number (Sitemap url) = if is_absolute_url url then (number, url) ∷ [] else []
-sitemap_at number _ = []
-
-abbrev pub all_sitemaps : List Label → List (ℕ × List ℕ)
-all_sitemaps labels = flat_map (λ label. sitemap_at label.number label.line) labels
-
--- all such sitemaps, or none if the whole site is closed to `*`
-abbrev pub sitemaps_asked : List LineValue → List Label → List (ℕ × List ℕ)
-sitemaps_asked lines labels =
-    if is_some (line_closing_site lines (codes "*")) then [] else all_sitemaps labels
-
--- if this verdict denies the sitemap in this line, a warning, with the line of the rule that does
-abbrev pub sitemap_warning : ℕ × VerdictValue → List WarningValue
-sitemap_warning (number, verdict) =
-    if verdict.decision.allowed then []
-    else record {
-      line = Some number;
-      cause = SitemapDenied;
-      about = None;
-      detail = option_map Line verdict.decision.line;
-    } ∷ []
-
--- the warnings about the sitemaps that the rules for `*` deny
-pub record AreOfSitemaps (lines : List LineValue) (labels : List Label) (found : List WarningValue) : Type 0
-  where
-    pub overlong : Option ℕ
-    pub verdicts : List VerdictValue
-    pub ruling : IsRuling (map (λ sitemap. sitemap.1) (sitemaps_asked lines labels)) lines (codes "*")
-        overlong verdicts
-    pub found_are : found
-        ≡ flat_map sitemap_warning (zip (map (λ sitemap. sitemap.0) (sitemaps_asked lines labels)) verdicts)
-
 pub record AuditValue : Type 0 where
   pub labels : List Label
   pub agents : List AgentValue
@@ -158,58 +123,42 @@ labeling_agent None = codes "*"
 abbrev pub labels_requested : RequestValue → List ℕ → List Label
 labels_requested requested file = labels_for (labeling_agent requested.agent) file
 
--- all warnings about the file and the request, then those about needless rules, and those about sitemaps
-abbrev pub warnings_found : RequestValue → List ℕ → List Label → NeedlessValue → List WarningValue
-    → List WarningValue
-warnings_found requested file labels needless sitemaps =
-    (warnings (is_none requested.agent) (agents_requested requested.agents (lines_read file))
-    requested.urls file (facts_of file labels) labels (lines_read file) ++ needless_warnings needless)
-    ++ sitemaps
-
--- the warnings that the request doesn't exclude
-abbrev pub warnings_requested : RequestValue → List ℕ → List Label → NeedlessValue → List WarningValue
-    → List WarningValue
-warnings_requested requested file labels needless sitemaps =
-    chosen requested.only requested.ignored (warnings_found requested file labels needless sitemaps)
-
 abbrev pub rejects_some : List AgentValue → Bool
 rejects_some agents = list_any (λ (agent : AgentValue). is_some agent.rejected) agents
 
--- Of needless rules, it is only stated that those found are needless together: there may be more. So with
--- `--needless` a file may have several audits. They are those of all groups, whichever crawler the report is
--- about, since deleting only some of them could change a verdict.
+-- of a warning about needless rules, an audit says more: see there
+abbrev pub IsSo : (all_groups : Bool) → (agents : List (List ℕ)) → (file : List ℕ) → List Label
+    → WarningValue → Type 0
+IsSo all_groups agents file labels warning =
+    is_needless warning.cause ≡ false → Means all_groups agents file labels warning
+
+-- the lines of needless rules, unless the request hides these warnings
+abbrev pub needless_shown : RequestValue → NeedlessValue → List ℕ
+needless_shown requested needless =
+    if is_chosen requested.only requested.ignored (codes "needless-rule") then numbers_of needless.rules
+    else []
+
+-- What is true of an audit. Each warning says what is so, where `--explain` prints that as proved; the
+-- warnings about needless rules are in exactly their lines; and none is missing, unless the request hides it,
+-- of those whose absence says something. Which others there are, and in which order, isn't stated.
+-- Of needless rules, it is only stated that those found are needless together: there may be more. They are
+-- those of all groups, whichever crawler the report is about, since deleting only some of them could change a
+-- verdict.
 pub record IsAuditOf (requested : RequestValue) (file : List ℕ) (audit : AuditValue) : Type 0 where
   pub needless : NeedlessValue
   pub needless_are : AreFoundIn (take file_limit file) needless.rules
   pub unrequested : requested.has_needless ≡ false → needless ≡ nothing
   pub too_large : is_too_large file ≡ true → needless ≡ nothing
-  pub sitemaps : List WarningValue
-  pub sitemaps_are : AreOfSitemaps (lines_read file) (labels_requested requested file) sitemaps
   pub labels_are : audit.labels ≡ labels_requested requested file
   pub agents_are : AllZip (IsAgentAudit requested.urls (lines_read file))
       (agents_requested requested.agents (lines_read file)) audit.agents
-  pub warnings_are : audit.warnings ≡ warnings_requested requested file (labels_requested requested file)
-      needless sitemaps
+  pub warnings_are : All (IsSo (is_none requested.agent) (agents_requested requested.agents (lines_read file))
+      file (labels_requested requested file)) audit.warnings
+  pub in_lines : flat_map needless_line audit.warnings ≡ needless_shown requested needless
+  pub told : All (Contains audit.warnings) (chosen requested.only requested.ignored
+      (telling (agents_requested requested.agents (lines_read file)) requested.urls (lines_read file)
+      (labels_requested requested file)))
   pub syntax_is : audit.syntax ≡ conformance_of file
-
-abbrev pub is_allowed : VerdictValue → Bool
-is_allowed verdict = verdict.decision.allowed
-
-abbrev pub is_denied : VerdictValue → Bool
-is_denied verdict = not verdict.decision.allowed
-
--- what the file means for a crawler, with the denied URLs alone
-abbrev pub with_denied : AgentValue → AgentValue
-with_denied agent = record agent { verdicts = filter is_denied agent.verdicts }
-
--- with `--denied`, the audit with the denied URLs alone
-abbrev pub shown : Bool → AuditValue → AuditValue
-shown denied_only audit =
-    if denied_only then record audit { agents = map with_denied audit.agents } else audit
-
--- how many verdicts of all crawlers pass this test
-abbrev pub total : (VerdictValue → Bool) → List AgentValue → ℕ
-total test agents = sum_by (λ (agent : AgentValue). count_by test agent.verdicts) agents
 
 abbrev pub allows_all : List VerdictValue → Bool
 allows_all verdicts = list_all (λ (verdict : VerdictValue). verdict.decision.allowed) verdicts

@@ -1,12 +1,11 @@
--- How a file is read for a crawler.
+-- How a file is read for a crawler, and how warnings are added.
 pub mod Agents
 pub mod Views
-use Rattle.std.specs.Prelude.{◌≡◌, ◌++◌, ℕ, List, flat_map, map, take, zip}
-use Rattle.std.specs.{List.AllZip}
-use Rattle.texting_robots.specs.Callers.{IsFirstOverlong, IsRobotWithoutSitemaps, PlacedRule, file_limit}
+use Rattle.std.specs.Prelude.{◌≡◌, ◌++◌, ◌||◌, ℕ, All, Bool, true, Contains, List, flat_map, take}
+use Rattle.texting_robots.specs.Callers.{IsFirstOverlong, IsRobotWithoutSitemaps, Label, file_limit}
 use Rattle.texting_robots.specs.Callers.{lines_read, placed_rules}
-use Rattle.robots_warnings.specs.{Message.WarningValue}
-use Rattle.audit_core.specs.Audit.{IsVerdictOn, VerdictValue, sitemap_warning}
+use Rattle.robots_warnings.specs.{Means.is_style, Means.telling, Message.WarningValue}
+use Rattle.audit_core.specs.{Audit.IsSo, Together.is_needless, Together.needless_line}
 use Rattle.audit_core.specs.declared.audit.Reading.{Reading, TheVariants.Accepted, TheVariants.Rejected}
 
 -- the crawler's robot for the file, without sitemaps, or the line of the crawler's first overlong rule
@@ -14,13 +13,20 @@ abbrev pub IsReading : List ℕ → List ℕ → Reading → Type 0
 IsReading agent file (Accepted robot) = IsRobotWithoutSitemaps agent (take file_limit file) robot
 IsReading agent file (Rejected line) = IsFirstOverlong (placed_rules agent (lines_read file)) line
 
-abbrev pub warnings_of : List (ℕ × List ℕ) → List VerdictValue → List WarningValue
-warnings_of sitemaps verdicts =
-    flat_map sitemap_warning (zip (map (λ sitemap. sitemap.0) sitemaps) verdicts)
+-- about a needless rule, or about style
+abbrev pub is_plain : WarningValue → Bool
+is_plain warning = is_style warning.cause || is_needless warning.cause
 
--- the warnings about these sitemaps, by verdicts of these rules, are appended
-pub record AddsSitemaps (rules : List PlacedRule) (sitemaps : List (ℕ × List ℕ)) (old new : List WarningValue)
-    : Type 0 where
-  pub verdicts : List VerdictValue
-  pub are : AllZip (IsVerdictOn rules) (map (λ sitemap. sitemap.1) sitemaps) verdicts
-  pub added : new ≡ old ++ warnings_of sitemaps verdicts
+-- such warnings are appended, and those of needless rules are in these lines
+pub record AddsNeedless (lines : List ℕ) (old new : List WarningValue) : Type 0 where
+  pub added : List WarningValue
+  pub appended : new ≡ old ++ added
+  pub in_lines : flat_map needless_line added ≡ lines
+  pub plain : All (λ warning. is_plain warning ≡ true) added
+
+-- all warnings about a file and a request, with those of needless rules in these lines
+pub record AreFoundFor (all_groups : Bool) (agents urls : List (List ℕ)) (file : List ℕ) (labels : List Label)
+    (lines : List ℕ) (found : List WarningValue) : Type 0 where
+  pub are : All (IsSo all_groups agents file labels) found
+  pub in_lines : flat_map needless_line found ≡ lines
+  pub told : All (Contains found) (telling agents urls (lines_read file) labels)

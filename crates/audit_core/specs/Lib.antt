@@ -3,14 +3,8 @@ pub mod Answer
 pub mod Texts
 pub mod Reach
 pub mod Error
-pub mod Rows
 pub mod Target
 pub mod Audit
 pub mod Chosen
-pub mod NotRobots
-pub mod Counts
-pub mod Needless
-pub mod Findings
-pub mod Joined
 pub mod Together
 pub mod Internal

@@ -1,6 +1,6 @@
 -- Needless rules, which can be deleted only all together: their lines as ranges.
-use Rattle.std.specs.Prelude.{ℕ, zero, suc, ◌==◌, ◌&&◌, ◌||◌, Bool, true, false, not, List, [], ◌∷◌, flat_map}
-use Rattle.std.specs.Prelude.{Option, None, Some, if◌then◌else◌, option_to_list}
+use Rattle.std.specs.Prelude.{ℕ, zero, suc, Bool, true, false, List, [], ◌∷◌, flat_map}
+use Rattle.std.specs.Prelude.{if◌then◌else◌, option_to_list}
 use Rattle.robots_warnings.specs.{declared.table.Cause.Cause, Message.WarningValue}
 use Rattle.robots_warnings.specs.declared.table.Cause.TheVariants as causes
 use Rattle.audit_core.specs.declared.together.Range.{Range}
@@ -27,11 +27,3 @@ is_needless cause = false
 -- its line, if the warning is about a needless rule
 abbrev pub needless_line : WarningValue → List ℕ
 needless_line warning = if is_needless warning.cause then option_to_list warning.line else []
-
-abbrev pub is_first : List ℕ → Option ℕ → Bool
-is_first (first ∷ lines) (Some line) = line == first
-is_first lines line = false
-
--- `lines` are those of all needless rules; if `is_one`, there is one message about them, in the first line
-abbrev pub is_shown : (is_one : Bool) (lines : List ℕ) → WarningValue → Bool
-is_shown is_one lines warning = not (is_one && is_needless warning.cause) || is_first lines warning.line

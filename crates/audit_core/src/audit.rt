@@ -1,14 +1,15 @@
 //! The audit of a file: its lines, what applies to each requested crawler, and the warnings.
-ghost use Rattle.std.specs.Prelude.{◌≡◌, ◌⊎◌, ◌++◌, ℕ, IfErr, IfOk, List, codes, is_none, length, map};
-ghost use Rattle.std.specs.Prelude.{option_map};
+ghost use Rattle.std.specs.Prelude.{◌≡◌, ◌⊎◌, IfErr, IfOk, codes, is_none, length, map};
+ghost use Rattle.std.specs.Prelude.{ℕ, List, option_map};
 ghost use Rattle.std.specs.List.{AllZip};
-ghost use Rattle.texting_robots.specs.Callers.{file_lines, label_by_value, lines_read};
-ghost use Rattle.audit_core.specs.Audit.{AreOfSitemaps, IsAgentAudit, IsAuditOf, IsRuling, IsVerdictOn};
-ghost use Rattle.audit_core.specs.Audit.{agents_requested, all_allowed, allows_all, labeling_agent};
+ghost use Rattle.texting_robots.specs.Callers.{label_by_value, lines_read};
+ghost use Rattle.audit_core.specs.Audit.{IsAgentAudit, IsAuditOf, IsRuling, IsVerdictOn};
+ghost use Rattle.audit_core.specs.Audit.{all_allowed, allows_all, labeling_agent};
 ghost use Rattle.audit_core.specs.Audit.{labels_requested, rejects_some};
-ghost use Rattle.audit_core.specs.{Request.requested_by, Needless.needless_warnings, Internal.IsReading};
-ghost use Rattle.audit_core.specs.Reach.{IsReach};
-ghost use Rattle.robots_warnings.specs.{Message.WarningValue, Read.IsRead, Warnings.warnings};
+ghost use Rattle.audit_core.specs.{Request.requested_by, Internal.AreFoundFor, Internal.IsReading};
+ghost use Rattle.audit_core.specs.{Reach.IsReach};
+ghost use Rattle.robots_needless.specs.Needless.{numbers_of};
+ghost use Rattle.robots_warnings.specs.Read.{IsRead};
 
 use crate::agents::agents_requested;
 use crate::chosen::choose;
@@ -288,14 +289,10 @@ fn all_warnings<'a>(
     read: &FileRead<'_>,
     needless: &Needless,
 ) -> Result<Vec<Warning<'a>>, Error>
-    requires read { IsRead read.now }
-    requires star { IsReading (codes "*") read.now.bytes.now star.now }
-    ensures ok { IfOk result (λ found. (sitemaps : List WarningValue)
-        × AreOfSitemaps (lines_read read.now.bytes.now) (map label_by_value read.now.labels.items) sitemaps
-        × (found.items ≡ (warnings (is_none (requested_by request.now).agent)
-        (map (λ agent. agent.now) agents.now) (requested_by request.now).urls read.now.bytes.now read.now.facts
-        (map label_by_value read.now.labels.items) (file_lines read.now.site)
-        ++ needless_warnings needless.now) ++ sitemaps)) }
+    requires { IsRead read.now }
+    ensures ok { IfOk result (λ found. AreFoundFor (is_none (requested_by request.now).agent)
+        (map (λ agent. agent.now) agents.now) (requested_by request.now).urls read.now.bytes.now
+        (map label_by_value read.now.labels.items) (numbers_of needless.now.rules) found.items) }
     ensures error { IfErr result (λ error. error ≡ Error.Memory) }
 {
     let all_groups = request.agent.is_none();

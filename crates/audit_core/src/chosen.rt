@@ -1,6 +1,6 @@
 //! Which warnings are reported, chosen by name.
-ghost use Rattle.std.specs.Prelude.{◌≡◌, IfErr, OnOk, false, map};
-ghost use Rattle.audit_core.specs.Chosen.{IsInBoth, chosen, is_among_names, is_chosen, share_a_name};
+ghost use Rattle.std.specs.Prelude.{◌≡◌, map};
+ghost use Rattle.audit_core.specs.Chosen.{chosen, is_among_names, is_chosen};
 
 use crate::error::{Error, Flaw, argument};
 use robots_warnings::warning::Warning;
@@ -24,11 +24,7 @@ fn is_chosen(only: &[&str], ignored: &[&str], name: &str) -> bool
 }
 
 /// Fails with the first name in `only` that is in the other list, too.
-pub fn are_apart(alloc: Global, only: &[&str], ignored: &[&str]) -> Result<(), Error>
-    ensures ok { OnOk result (share_a_name (map (λ name. name.now) only.now) (map (λ name. name.now) ignored.now)
-        ≡ false) }
-    ensures error { IfErr result (IsInBoth (map (λ name. name.now) only.now) (map (λ name. name.now) ignored.now)) }
-{
+pub fn are_apart(alloc: Global, only: &[&str], ignored: &[&str]) -> Result<(), Error> {
     for name in only {
         if is_among_names(ignored, name) {
             return Err(argument(alloc, name, Flaw::Both));

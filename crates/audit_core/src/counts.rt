@@ -1,14 +1,10 @@
 //! How many warnings there are of each level.
-ghost use Rattle.std.specs.Prelude.{◌≡◌};
-ghost use Rattle.audit_core.specs.Counts.{count_at};
 
 use printable_text::level::Level;
 use robots_warnings::warning::Warning;
 use std::fmt;
 
-fn count_at(level: Level, warnings: &[Warning<'_>]) -> usize
-    ensures { result ≡ count_at level warnings.now }
-{
+fn count_at(level: Level, warnings: &[Warning<'_>]) -> usize {
     warnings
         .iter()
         .filter(|warning| warning.cause.level() as usize == level as usize)
@@ -23,11 +19,7 @@ pub struct Counts {
     pub notes: usize,
 }
 
-pub fn counts_of(warnings: &[Warning<'_>]) -> Counts
-    ensures errors { result.errors ≡ count_at Level.Error warnings.now }
-    ensures warnings { result.warnings ≡ count_at Level.Warning warnings.now }
-    ensures notes { result.notes ≡ count_at Level.Note warnings.now }
-{
+pub fn counts_of(warnings: &[Warning<'_>]) -> Counts {
     Counts {
         errors: count_at(Level::Error, warnings),
         warnings: count_at(Level::Warning, warnings),

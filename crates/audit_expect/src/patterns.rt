@@ -1,8 +1,8 @@
 //! Expectations about all paths that a pattern matches.
-ghost use Rattle.std.specs.Prelude.{◌≡◌, ℕ, All, IfOk, List, length, nat_lt, string_bytes};
+ghost use Rattle.std.specs.Prelude.{◌≡◌, ℕ, All, IfOk, List, false, length, nat_lt, string_bytes, true};
 ghost use Rattle.std.specs.List.{list_all};
 ghost use Rattle.texting_robots.specs.Callers.{IsOverlong, Matches, PlacedRule, escaped};
-ghost use Rattle.audit_expect.specs.Patterns.{IsOnPaths, holds};
+ghost use Rattle.audit_expect.specs.{Patterns.AreDecidedAs, Internal.Expectations.holds};
 
 use crate::other_reading::decision_of;
 use robots_same::compare::{Comparison, compare};
@@ -50,7 +50,7 @@ fn failure_on(
     text: &str,
 ) -> Result<OnPaths, AllocError>
     requires { All (λ (placed : PlacedRule). ¬ IsOverlong placed.rule.0) rules.now }
-    ensures { IfOk result (IsOnPaths allowed pattern.now rules.now) }
+    ensures { IfOk result (λ found. holds found ≡ false) }
 {
     let regex = match MinRegex::new(alloc, pattern) {
         Ok(regex) => regex,
@@ -109,7 +109,7 @@ pub(crate) fn on_paths(
 ) -> Result<OnPaths, AllocError>
     requires rules { All (λ (placed : PlacedRule). ¬ IsOverlong placed.rule.0) rules.now }
     requires copy { copy.items ≡ rules.now }
-    ensures { IfOk result (IsOnPaths allowed (escaped url.now) rules.now) }
+    ensures { IfOk result (λ found. holds found ≡ true → AreDecidedAs (escaped url.now) rules.now allowed) }
 {
     let longer = longer_pattern(alloc, url.as_bytes(), rules)?;
     if !are_shorter(rules, longer.as_bytes().len()) {
@@ -130,5 +130,5 @@ pub(crate) fn on_paths(
         return Ok(OnPaths::Undecided);
     };
     let pattern = escaped_text(alloc, url.as_bytes())?;
-    failure_on(alloc, allowed, &pattern, rules, text)
+    Ok(failure_on(alloc, allowed, &pattern, rules, text)?)
 }

@@ -1,14 +1,13 @@
 //! What it means that expectations hold. The theorem is the contract of an empty function.
 ghost use Rattle.std.specs.Prelude.{◌≡◌, ℕ, List, false};
 ghost use Rattle.robots_warnings.specs.Targets.{normal_target, written_target};
-ghost use Rattle.audit_expect.specs.Expectations.{CheckedValue, IsChecked, fails};
+ghost use Rattle.audit_expect.specs.{Expect.ExpectationValue, Expectations.Holds};
 
 /// For one crawler and one file, no two opposite expectations hold about URLs or paths, which aren't patterns, if
 /// the normal forms of their paths and queries, as they are written, are the same.
 pub fn no_opposite_expectations_hold()
-    ensures { (file : List ℕ) (one other : CheckedValue) → IsChecked file one → IsChecked file other
-        → one.expectation.is_pattern ≡ false → other.expectation.is_pattern ≡ false
-        → one.expectation.agent ≡ other.expectation.agent
-        → normal_target (written_target one.expectation.url) ≡ normal_target (written_target other.expectation.url)
-        → fails one ≡ false → fails other ≡ false → one.expectation.allowed ≡ other.expectation.allowed }
+    ensures { (file : List ℕ) (one other : ExpectationValue) → Holds file one → Holds file other
+        → one.is_pattern ≡ false → other.is_pattern ≡ false → one.agent ≡ other.agent
+        → normal_target (written_target one.url) ≡ normal_target (written_target other.url)
+        → one.allowed ≡ other.allowed }
 {}

@@ -1,1 +1,1 @@
-pub mod JsonLemmas
+pub mod MessageLemmas

@@ -1,3 +1,1 @@
-pub mod Json
 pub mod Sarif
-pub mod Internal

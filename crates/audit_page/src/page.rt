@@ -2,10 +2,8 @@
 ghost use Rattle.std.specs.Prelude.{IfOk};
 ghost use Rattle.html_writer.specs.Page.{IsSomePage};
 
-mod by_line;
 mod elements;
 mod file;
-mod slices;
 mod style;
 mod verdicts;
 mod warnings;
@@ -128,7 +126,7 @@ fn write_body(
     page.element("h1", title);
     write_summary(alloc, page, request, audit, together, &shown)?;
     write_verdict_part(page, request.agent, &request.urls, &audit.agents);
-    write_file_table(alloc, page, request.agent, &audit.labels, together, &shown)?;
+    write_file_table(page, request.agent, &audit.labels, together, &shown);
     page.open("footer");
     put_text!(page, "robots_audit {VERSION}");
     Ok(())

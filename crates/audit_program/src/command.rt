@@ -1,12 +1,4 @@
 //! The command line, and the request that it results in.
-ghost use Rattle.std.specs.Prelude.{◌≡◌, IfErr, IfOk, IsTrue, OnOk, codes, is_some, map, option_map, ◌||◌};
-ghost use Rattle.std.specs.List.{list_all, list_any};
-ghost use Rattle.robots_warnings.specs.Table.{is_name};
-ghost use Rattle.audit_expect.specs.UrlList.{IsUrlError};
-ghost use Rattle.audit_program.specs.Command.{AreAgentsOf, AreGiven, AreNamesOf, IsNoCrawlerOf, AreUrlsOf, Asks, AsksNeedless, HasFile};
-ghost use Rattle.audit_program.specs.Command.{IsWithoutBrackets, LacksUrls, is_needless};
-ghost use Rattle.audit_program.specs.Command.{file_read, IsFileError, IsFormatOf, requested_format, has_urls, is_stdin, IsUnknownIn, known_names};
-ghost use Rattle.audit_program.specs.Command.{level_named, reads_stdin_twice, values_of};
 
 use crate::options::with_options;
 use audit_core::chosen::are_apart;
@@ -18,7 +10,7 @@ use audit_core::version::VERSION_AND_TOOLCHAIN;
 use audit_expect::url_list::are_paths_or_urls;
 use clap::{ArgMatches, Command};
 use printable_text::level::Level;
-use robots_warnings::crawlers::{Crawler, crawlers};
+use robots_warnings::crawlers::crawlers;
 use robots_warnings::table::is_name;
 use std::alloc::{AllocError, Global};
 
@@ -62,27 +54,20 @@ pub fn command<'a>(alloc: Global) -> Result<Command<'a>, AllocError> {
 }
 
 /// `None` for standard input, which `-` means too.
-pub fn file_read<'a>(name: Option<&'a str>) -> Option<&'a str>
-    ensures { option_map (λ name. name.now) result ≡ file_read (option_map (λ name. name.now) name.entry) }
-{
+pub fn file_read<'a>(name: Option<&'a str>) -> Option<&'a str> {
     match name {
         Some(name) if name != "-" => Some(name),
         _ => None,
     }
 }
 
-fn is_stdin(name: Option<&str>) -> bool
-    ensures { result ≡ is_stdin (option_map (λ name. name.now) name.entry) }
-{
-    match name {
-        Some(name) => name == "-",
-        None => false,
-    }
+/// Without a name, no file is read.
+fn is_stdin(name: Option<&str>) -> bool {
+    matches!(name, Some(name) if name == "-")
 }
 
-fn reads_stdin_twice(matches: &ArgMatches<'_>) -> bool
-    ensures { result ≡ reads_stdin_twice matches.now }
-{
+/// The robots.txt file and one of the others, or URLs and an older version.
+fn reads_stdin_twice(matches: &ArgMatches<'_>) -> bool {
     let urls = is_stdin(matches.get_str("urls"));
     let expected = is_stdin(matches.get_str("expect"));
     let older = is_stdin(matches.get_str("compare"));
@@ -90,36 +75,19 @@ fn reads_stdin_twice(matches: &ArgMatches<'_>) -> bool
     has_no_file && (urls || expected || older) || urls && older
 }
 
-fn has_urls(matches: &ArgMatches<'_>) -> bool
-    ensures { result ≡ has_urls matches.now }
-{
-    matches.get_str("url").is_some() || matches.get_str("urls").is_some()
-}
-
-fn lacks_urls(matches: &ArgMatches<'_>) -> bool
-    ensures { LacksUrls matches.now result }
-{
-    let is_denied = matches.get_flag("denied");
-    let has_urls = has_urls(matches);
-    is_denied && !has_urls
-}
-
 /// Fails if FILE is missing, if standard input would be read twice, or if `--denied` has no URL to list.
-pub fn check_files(matches: &ArgMatches<'_>) -> Result<(), Error>
-    ensures ok { OnOk result (HasFile matches.now) }
-    ensures error { IfErr result (IsFileError matches.now) }
-{
+pub fn check_files(matches: &ArgMatches<'_>) -> Result<(), Error> {
+    let has_urls = matches.get_str("url").is_some() || matches.get_str("urls").is_some();
     match matches.get_str("file") {
         None => Err(Error::Usage),
         Some(_) if reads_stdin_twice(matches) => Err(Error::StdinTwice),
-        Some(_) if lacks_urls(matches) => Err(Error::NoUrl),
+        Some(_) if matches.get_flag("denied") && !has_urls => Err(Error::NoUrl),
         Some(_) => Ok(()),
     }
 }
 
-fn level_named(word: &str) -> Level
-    ensures { result ≡ level_named word.now }
-{
+/// `clap` accepts none but the words of the three levels.
+fn level_named(word: &str) -> Level {
     if word == "error" {
         Level::Error
     } else if word == "note" {
@@ -129,51 +97,22 @@ fn level_named(word: &str) -> Level
     }
 }
 
-fn strict_level(word: Option<&str>) -> Option<Level>
-    ensures { result ≡ option_map level_named (option_map (λ word. word.now) word.entry) }
-{
-    match word {
-        Some(word) => Some(level_named(word)),
-        None => None,
-    }
-}
-
-fn requested_format(
-    is_json: bool,
-    is_html: bool,
-    is_github: bool,
-    is_sarif: bool,
-    name: Option<&str>,
-) -> Format
-    ensures { result ≡ requested_format is_json is_html is_github is_sarif
-        (option_map (λ name. name.now) name.entry) }
-{
-    match name {
-        _ if is_json => Format::Json,
-        _ if is_html => Format::Html,
-        _ if is_github => Format::Github,
-        _ if is_sarif => Format::Sarif,
+pub fn format_of(matches: &ArgMatches<'_>) -> Format {
+    match matches.get_str("format") {
+        _ if matches.get_flag("json") => Format::Json,
+        _ if matches.get_flag("html") => Format::Html,
+        _ if matches.get_flag("github") => Format::Github,
+        _ if matches.get_flag("sarif") => Format::Sarif,
         Some(name) => Format::named(name),
         None => Format::Text,
     }
-}
-
-pub fn format_of(matches: &ArgMatches<'_>) -> Format
-    ensures { IsFormatOf matches.now result }
-{
-    let (is_json, is_html) = (matches.get_flag("json"), matches.get_flag("html"));
-    let (is_github, is_sarif) = (matches.get_flag("github"), matches.get_flag("sarif"));
-    let name = matches.get_str("format");
-    requested_format(is_json, is_html, is_github, is_sarif, name)
 }
 
 fn values_of<'a>(
     alloc: Global,
     matches: &ArgMatches<'a>,
     id: &str,
-) -> Result<Vec<&'a str>, AllocError>
-    ensures { IfOk result (λ values. map (λ value. value.now) values.items ≡ values_of matches.now id.now) }
-{
+) -> Result<Vec<&'a str>, AllocError> {
     let mut values = Vec::new(alloc);
     if let Some(given) = matches.get_strs(id) {
         values.extend_from_slice(given)?;
@@ -181,111 +120,56 @@ fn values_of<'a>(
     Ok(values)
 }
 
-/// Fails with the first of these names that no warning has.
-fn known(alloc: Global, names: &[&str]) -> Result<(), Error>
-    ensures ok { OnOk result (IsTrue (list_all is_name (map (λ name. name.now) names.now))) }
-    ensures error { IfErr result (IsUnknownIn (map (λ name. name.now) names.now)) }
-{
-    for name in names {
+/// Fails with the first that isn't the name of a warning.
+fn names_of<'a>(alloc: Global, matches: &ArgMatches<'a>, id: &str) -> Result<Vec<&'a str>, Error> {
+    let names = values_of(alloc, matches, id)?;
+    for name in &names {
         if !is_name(name) {
             return Err(unknown(alloc, name)?);
         }
-    }
-    Ok(())
-}
-
-/// Fails if one of them isn't the name of a warning.
-fn names_of<'a>(alloc: Global, matches: &ArgMatches<'a>, id: &str) -> Result<Vec<&'a str>, Error>
-    ensures ok { IfOk result (λ names. AreNamesOf matches.now id.now (map (λ name. name.now) names.items)) }
-    ensures error { IfErr result (IsUnknownIn (values_of matches.now id.now)) }
-{
-    let names = values_of(alloc, matches, id)?;
-    known(alloc, &names)?;
-    Ok(names)
-}
-
-fn names_in(alloc: Global, rows: &'static [Crawler]) -> Result<Vec<&'static str>, AllocError>
-    ensures { IfOk result (λ names. map (λ name. name.now) names.items ≡ map (λ row. row.0.now) rows.now) }
-{
-    let mut names = Vec::with_capacity(alloc, rows.len())?;
-    for row in rows {
-        names.push(row.0)?;
     }
     Ok(names)
 }
 
 /// The names of the known crawlers, and `*`.
-fn known_names(alloc: Global) -> Result<Vec<&'static str>, AllocError>
-    ensures { IfOk result (λ names. map (λ name. name.now) names.items ≡ known_names) }
-{
-    let names = names_in(alloc, crawlers())?;
+fn known_names(alloc: Global) -> Result<Vec<&'static str>, AllocError> {
+    let mut names = Vec::new(alloc);
+    for row in crawlers() {
+        names.push(row.0)?;
+    }
     Ok(names)
 }
 
-fn agents_given<'a>(alloc: Global, matches: &ArgMatches<'a>) -> Result<Vec<&'a str>, AllocError>
-    ensures { IfOk result (λ agents. AreGiven matches.now (map (λ agent. agent.now) agents.items)) }
-{
-    if matches.get_flag("known") {
-        return known_names(alloc);
-    }
-    values_of(alloc, matches, "agent")
-}
-
 /// Fails with the first name that no crawler has.
-fn agents_of<'a>(alloc: Global, matches: &ArgMatches<'a>) -> Result<Vec<&'a str>, Error>
-    ensures ok { IfOk result (λ agents. AreAgentsOf matches.now (map (λ agent. agent.now) agents.items)) }
-    ensures error { IfErr result (IsNoCrawlerOf matches.now) }
-{
-    let agents = agents_given(alloc, matches)?;
+fn agents_of<'a>(alloc: Global, matches: &ArgMatches<'a>) -> Result<Vec<&'a str>, Error> {
+    let agents = if matches.get_flag("known") {
+        known_names(alloc)?
+    } else {
+        values_of(alloc, matches, "agent")?
+    };
     are_crawlers(alloc, &agents)?;
     Ok(agents)
 }
 
 /// Fails with the first argument that is neither a URL nor a path.
-fn urls_of<'a>(alloc: Global, matches: &ArgMatches<'a>) -> Result<Vec<&'a str>, Error>
-    ensures ok { IfOk result (λ urls. AreUrlsOf matches.now (map (λ url. url.now) urls.items)) }
-    ensures error { IfErr result (IsUrlError (values_of matches.now (codes "url"))) }
-{
+fn urls_of<'a>(alloc: Global, matches: &ArgMatches<'a>) -> Result<Vec<&'a str>, Error> {
     let urls = values_of(alloc, matches, "url")?;
     are_paths_or_urls(alloc, &urls)?;
     Ok(urls)
 }
 
-/// With `--denied` or `--urls`.
-fn has_totals(is_denied_only: bool, urls: Option<&str>) -> bool
-    ensures { result ≡ (is_denied_only || is_some (option_map (λ name. name.now) urls.entry)) }
-{
-    is_denied_only || urls.is_some()
-}
-
-/// Whether one of the names is that of a warning about needless rules.
-fn names_needless(names: &[&str]) -> bool
-    ensures { result ≡ list_any is_needless (map (λ name. name.now) names.now) }
-{
-    for name in names {
-        if name.as_bytes().starts_with(b"needless-") {
-            return true;
-        }
-    }
-    false
-}
-
-fn has_needless(matches: &ArgMatches<'_>, only: &[&str]) -> bool
-    ensures { AsksNeedless matches.now (map (λ name. name.now) only.now) result }
-{
-    let is_given = matches.get_flag("needless");
-    is_given || names_needless(only)
+/// Also if one of the names of `--only` is that of a warning about needless rules.
+fn has_needless(matches: &ArgMatches<'_>, only: &[&str]) -> bool {
+    matches.get_flag("needless")
+        || only
+            .iter()
+            .any(|name| name.as_bytes().starts_with(b"needless-"))
 }
 
 /// A name without the brackets that it has in a report, and any other name as it is.
-pub fn without_brackets(name: &str) -> &str
-    ensures { IsWithoutBrackets name.now result.now }
-{
-    let Some(rest) = name.strip_prefix("[") else {
-        return name;
-    };
-    match rest.strip_suffix("]") {
-        Some(bare) => bare,
+pub fn without_brackets(name: &str) -> &str {
+    match name.strip_prefix("[") {
+        Some(rest) => rest.strip_suffix("]").unwrap_or(name),
         None => name,
     }
 }
@@ -296,9 +180,7 @@ pub fn requested<'a>(
     alloc: Global,
     matches: &ArgMatches<'a>,
     has_colors: bool,
-) -> Result<Request<'a>, Error>
-    ensures { Asks has_colors matches.now result }
-{
+) -> Result<Request<'a>, Error> {
     check_files(matches)?;
     let agents = agents_of(alloc, matches)?;
     let urls = urls_of(alloc, matches)?;
@@ -313,14 +195,14 @@ pub fn requested<'a>(
         format: format_of(matches),
         date: matches.get_str("date"),
         has_colors: requested_colors(matches.get_str("color"), has_colors),
-        strict: strict_level(matches.get_str("strict")),
+        strict: matches.get_str("strict").map(level_named),
         agent: single(&agents),
         agents,
         urls,
         only,
         ignored,
         is_denied_only,
-        has_totals: has_totals(is_denied_only, matches.get_str("urls")),
+        has_totals: is_denied_only || matches.get_str("urls").is_some(),
         has_needless,
     })
 }

@@ -1,12 +1,10 @@
 //! The audit of a file and the report on it, without the command line, input and output.
-ghost use Rattle.std.specs.Prelude.{◌≡◌, ◌⊎◌, IfErr, IfOk, Some, map, option_map, string_bytes};
-ghost use Rattle.audit_program.specs.Answer.{IsAudited, IsCompared, IsExpected, IsFileUnreadable, IsFormatError};
-ghost use Rattle.audit_program.specs.Answer.{IsListed, IsOutput, given_name, has_all_urls, has_passed, is_warned, leaves_out_allowed};
+ghost use Rattle.std.specs.Prelude.{◌≡◌, IfOk, Some, string_bytes};
+ghost use Rattle.audit_program.specs.Answer.{AreAnnotations, IsAudited, IsCompared, IsExpected, IsListed};
+ghost use Rattle.audit_program.specs.Answer.{IsReportIn, has_passed, is_warned};
 ghost use Rattle.printable_text.specs.Text.{IsReport, IsShownReport};
 ghost use Rattle.audit_compare.specs.Compare.{IsComparison};
-ghost use Rattle.audit_core.specs.declared.error.EntryKind.TheVariants.{Expectation};
 ghost use Rattle.audit_core.specs.{Request.requested_by};
-ghost use Rattle.audit_expect.specs.Expect.{IsEntryError, expectations_in};
 
 use audit_compare::compare::{
     Comparison, NamedFile, compare, differs_nowhere, keeps_verdicts, rejects_some as rejects_one,
@@ -15,7 +13,7 @@ use audit_compare::report::reported;
 use audit_core::answer::{Answer, Outcome};
 use audit_core::audit::{Audit, all_allowed, audit_of, rejects_some};
 use audit_core::error::Error;
-use audit_core::findings::{Findings, findings_of};
+use audit_core::findings::{Finding, Findings, findings_of};
 use audit_core::request::{Format, Request};
 use audit_expect::expectations::check;
 use audit_json::json::{findings_text, json_text};
@@ -51,18 +49,6 @@ fn is_warned(strict: Option<Level>, warnings: &[Warning<'_>]) -> bool
     }
 }
 
-fn has_all_urls(format: Format) -> bool
-    ensures { result ≡ has_all_urls format }
-{
-    matches!(format, Format::Html)
-}
-
-fn leaves_out_allowed(request: &Request<'_>) -> bool
-    ensures { result ≡ leaves_out_allowed (requested_by request.now) }
-{
-    request.is_denied_only && !has_all_urls(request.format)
-}
-
 fn text_output(
     alloc: Global,
     request: &Request<'_>,
@@ -79,19 +65,26 @@ fn text_output(
     Ok(out.into_string().into_bytes())
 }
 
+fn annotations(alloc: Global, file: &str, findings: &[Finding]) -> Result<Vec<u8>, AllocError>
+    ensures { IfOk result (λ text. AreAnnotations text.items) }
+{
+    Ok(github_text(alloc, file, findings)?.into_bytes())
+}
+
 fn output(alloc: Global, request: &Request<'_>, audit: Audit<'_>) -> Result<Vec<u8>, Error>
-    ensures ok { IfOk result (λ report. IsOutput request.now.format (requested_by request.now) audit.entry report.items) }
-    ensures error { IfErr result (λ error. error ≡ Error.Memory) }
+    ensures { IfOk result (λ report. IsReportIn request.now.format report.items) }
 {
     let totals = totals_of(&audit.agents);
-    let reported = shown(leaves_out_allowed(request), audit);
+    // A page has all URLs, since its tables have a row or a column for each.
+    let is_page = matches!(request.format, Format::Html);
+    let reported = shown(request.is_denied_only && !is_page, audit);
     match request.format {
         Format::Text => Ok(text_output(alloc, request, totals, &reported)?),
         Format::Json => Ok(json_text(alloc, request.has_rows(), &reported)?.into_bytes()),
         Format::Html => Ok(page_text(alloc, request, &reported)?),
         Format::Github => {
             let found = findings_of(alloc, &reported, true)?;
-            Ok(github_text(alloc, request.shown_name(), &found)?.into_bytes())
+            Ok(annotations(alloc, request.shown_name(), &found)?)
         }
         Format::Sarif => { Ok(sarif_text(alloc, request.shown_name(), &reported)?.into_bytes()) }
     }
@@ -112,8 +105,7 @@ fn message(alloc: Global, request: &Request<'_>, audit: &Audit<'_>) -> Result<St
 /// file that is rejected for a crawler isn't an error: the outcome says so. The error is `Error::Memory`,
 /// also if a URL is too long for `url`.
 pub fn audited<'a>(alloc: Global, request: &Request<'a>, file: &'a [u8]) -> Result<Answer, Error>
-    ensures ok { IfOk result (IsAudited (requested_by request.now) file.now) }
-    ensures error { IfErr result (λ error. error ≡ Error.Memory) }
+    ensures { IfOk result (IsAudited (requested_by request.now) file.now) }
 {
     let audit = audit_of(alloc, request, file)?;
     let outcome = Outcome {
@@ -132,9 +124,8 @@ fn compared_for<'a>(
     older: NamedFile<'a>,
     newer: NamedFile<'a>,
 ) -> Result<Comparison<'a>, Error>
-    ensures ok { IfOk result (IsComparison (requested_by request.now).agents (requested_by request.now).urls
-        older.entry.name.now older.entry.bytes.now newer.entry.name.now newer.entry.bytes.now) }
-    ensures error { IfErr result (λ error. error ≡ Error.Memory) }
+    ensures { IfOk result (IsComparison (requested_by request.now).agents (requested_by request.now).urls
+        older.entry.bytes.now newer.entry.bytes.now) }
 {
     compare(alloc, &request.agents, &request.urls, older, newer)
 }
@@ -150,15 +141,13 @@ fn listed(
     is_rejected: bool,
     has_passed: bool,
 ) -> Result<Answer, Error>
-    ensures ok { IfOk result (IsListed format file.now old.now reported.1.items is_rejected
-        has_passed) }
-    ensures error { IfErr result (IsFormatError format) }
+    ensures { IfOk result (IsListed format is_rejected has_passed) }
 {
     let (text, found) = reported;
     let report = match format {
         Format::Text => text.into_string().into_bytes(),
         Format::Json => findings_text(alloc, file, old, &found)?.into_bytes(),
-        Format::Github => github_text(alloc, file, &found)?.into_bytes(),
+        Format::Github => annotations(alloc, file, &found)?,
         Format::Html | Format::Sarif => return Err(Error::Format),
     };
     let outcome = Outcome {
@@ -194,9 +183,8 @@ pub fn comparison<'a>(
     newer: NamedFile<'a>,
     verdicts_only: bool,
 ) -> Result<Answer, Error>
-    ensures ok { IfOk result (IsCompared verdicts_only (requested_by request.now) older.entry.name.now older.entry.bytes.now
-        newer.entry.name.now newer.entry.bytes.now) }
-    ensures error { IfErr result (IsFormatError request.now.format) }
+    ensures { IfOk result (IsCompared verdicts_only (requested_by request.now) older.entry.bytes.now
+        newer.entry.bytes.now) }
 {
     let compared = compared_for(alloc, request, older, newer)?;
     let (is_rejected, has_passed) = (rejects_one(&compared), has_passed(verdicts_only, &compared));
@@ -214,28 +202,15 @@ pub fn expectations(
     text: &[u8],
     file: &[u8],
 ) -> Result<Answer, Error>
-    ensures ok { IfOk result (IsExpected format name.now text.now file.now) }
-    ensures error { IfErr result (λ error. IsFormatError format error
-        ⊎ IsEntryError name.now Expectation (expectations_in text.now) error) }
+    ensures { IfOk result (IsExpected format text.now file.now) }
 {
     let found = check(alloc, name, text, file)?;
     let has_passed = found.1.is_empty();
     Ok(listed(alloc, format, name, "", found, false, has_passed)?)
 }
 
-pub fn given_name<'a>(file: Option<&'a str>) -> &'a str
-    ensures { result.now ≡ given_name (option_map (λ name. name.now) file.entry) }
-{
-    match file {
-        Some(name) => name,
-        None => "-",
-    }
-}
-
 /// The error for a file that can't be opened or read, for this reason.
-pub fn unread(alloc: Global, name: &str, reason: &'static str) -> Error
-    ensures { IsFileUnreadable name.now result }
-{
+pub fn unread(alloc: Global, name: &str, reason: &'static str) -> Error {
     match String::from_str(alloc, name) {
         Ok(text) => Error::File(text, reason),
         Err(AllocError) => Error::Memory,

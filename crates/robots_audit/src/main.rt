@@ -11,14 +11,11 @@
 //! With `--list-warnings` or `--explain` it writes what warnings there are, or what one means, and reads nothing.
 #![tactic(auto)]
 
-ghost use Rattle.std.specs.Prelude.{◌≡◌, ◌≢◌, [], IfErr, IfOk, IsErr, None, option_map, string_bytes};
+ghost use Rattle.std.specs.Prelude.{◌≡◌, IfOk, string_bytes};
 ghost use Rattle.std.specs.Process.{exit_status};
 ghost use Rattle.printable_text.specs.Text.{IsReport};
 ghost use Rattle.audit_core.specs.Error.{status_after};
-ghost use Rattle.clap.specs.Values.{kind_of};
-ghost use Rattle.audit_core.specs.{NotRobots.content_flaw, Request.requested_by};
-ghost use Rattle.audit_program.specs.Answer.{Answers, AnswersAudit, AnswersComparison, AnswersExpectations};
-ghost use Rattle.audit_program.specs.Answer.{HasUrls, HasWords, IsSafeAnswer};
+ghost use Rattle.audit_program.specs.Answer.{Answers, IsSafeAnswer};
 
 use audit_compare::compare::NamedFile;
 use audit_core::answer::{Answer, Outcome, text_answer, write_answer};
@@ -30,7 +27,7 @@ use audit_expect::url_list::with_urls;
 use audit_program::command::{
     check_files, command, file_read, format_of, requested, without_brackets,
 };
-use audit_program::program::{audited, comparison, expectations, given_name, unread};
+use audit_program::program::{audited, comparison, expectations, unread};
 use audit_text::explain::{explain, list_warnings};
 use clap::ArgMatches;
 use clap::error::ErrorKind as WordsKind;
@@ -74,9 +71,7 @@ fn read_named(rt: &HostRuntime, name: &str) -> Result<Vec<u8>, Error> {
 }
 
 /// Fails if there are none, as after a failed download.
-fn read_stdin(rt: &HostRuntime) -> Result<Vec<u8>, Error>
-    ensures { IfOk result (λ bytes. bytes.items ≢ []) }
-{
+fn read_stdin(rt: &HostRuntime) -> Result<Vec<u8>, Error> {
     let bytes = read_all(rt.alloc(), &mut rt.stdin())?;
     if bytes.is_empty() {
         return Err(Error::NoInput);
@@ -93,9 +88,7 @@ fn read(rt: &HostRuntime, name: Option<&str>) -> Result<Vec<u8>, Error> {
 }
 
 /// The same for `-` or a name. Fails if that can't be a robots.txt file.
-fn read_robots(rt: &HostRuntime, name: &str) -> Result<Vec<u8>, Error>
-    ensures { IfOk result (λ bytes. content_flaw bytes.items ≡ None) }
-{
+fn read_robots(rt: &HostRuntime, name: &str) -> Result<Vec<u8>, Error> {
     let bytes = read(rt, Some(name))?;
     check_content(rt.alloc(), name, &bytes)?;
     Ok(bytes)
@@ -114,10 +107,7 @@ fn extended<'a>(
     request: Request<'a>,
     name: Option<&str>,
     text: &'a [u8],
-) -> Result<Request<'a>, Error>
-    ensures { IfOk result (λ extended. HasUrls (option_map (λ name. name.now) name.entry)
-        (requested_by request.entry) (requested_by extended)) }
-{
+) -> Result<Request<'a>, Error> {
     match name {
         Some(name) => with_urls(alloc, request, name, text),
         None => Ok(request),
@@ -125,8 +115,9 @@ fn extended<'a>(
 }
 
 /// `has_colors` is as for `requested`.
+#[tactic(auto, using(audit_program::proofs::MessageLemmas::audit_answers))]
 fn audit(rt: &HostRuntime, matches: &ArgMatches<'_>, has_colors: bool) -> Result<Answer, Error>
-    ensures { IfOk result (AnswersAudit has_colors matches.now) }
+    ensures { IfOk result Answers }
 {
     let request = requested(rt.alloc(), matches, has_colors)?;
     let text = url_text(rt, matches)?;
@@ -135,23 +126,25 @@ fn audit(rt: &HostRuntime, matches: &ArgMatches<'_>, has_colors: bool) -> Result
 }
 
 /// Checks the expectations in the file `expected` against the file that the arguments name.
+#[tactic(auto, using(audit_program::proofs::MessageLemmas::expectations_answer))]
 fn checked(rt: &HostRuntime, matches: &ArgMatches<'_>, expected: &str) -> Result<Answer, Error>
-    ensures { IfOk result (AnswersExpectations matches.now expected.now) }
+    ensures { IfOk result Answers }
 {
     check_files(matches)?;
     let text = read(rt, Some(expected))?;
-    let file = read_robots(rt, given_name(matches.get_str("file")))?;
+    let file = read_robots(rt, matches.get_str("file").unwrap_or("-"))?;
     expectations(rt.alloc(), format_of(matches), expected, &text, &file)
 }
 
 /// Compares the file `older` with the file that the arguments name.
+#[tactic(auto, using(audit_program::proofs::MessageLemmas::comparison_answers))]
 fn compared(rt: &HostRuntime, matches: &ArgMatches<'_>, older: &str) -> Result<Answer, Error>
-    ensures { IfOk result (AnswersComparison matches.now older.now) }
+    ensures { IfOk result Answers }
 {
     let request = requested(rt.alloc(), matches, false)?;
     let text = url_text(rt, matches)?;
     let whole = extended(rt.alloc(), request, matches.get_str("urls"), &text)?;
-    let name = given_name(whole.file);
+    let name = whole.file.unwrap_or("-");
     let old = read_robots(rt, older)?;
     let new = read_robots(rt, name)?;
     let old_file = NamedFile {
@@ -169,8 +162,9 @@ fn compared(rt: &HostRuntime, matches: &ArgMatches<'_>, older: &str) -> Result<A
 }
 
 /// `has_colors` is as for `requested`.
+#[tactic(auto, using(audit_program::proofs::MessageLemmas::text_answers))]
 fn answered(rt: &HostRuntime, matches: &ArgMatches<'_>, has_colors: bool) -> Result<Answer, Error>
-    ensures { IfOk result (Answers has_colors matches.now) }
+    ensures { IfOk result Answers }
 {
     if matches.get_flag("list-warnings") {
         return list_warnings(rt.alloc());
@@ -190,9 +184,7 @@ fn answered(rt: &HostRuntime, matches: &ArgMatches<'_>, has_colors: bool) -> Res
 /// The answer if the arguments request help or the version; else the error for arguments that `clap` rejects.
 #[tactic(auto, using(audit_program::proofs::MessageLemmas::text_safe))]
 fn reported(rt: &HostRuntime, error: clap::Error) -> Result<Answer, Error>
-    ensures safe { IfOk result IsSafeAnswer }
-    ensures rejected { (kind_of error ≢ WordsKind.DisplayHelp) → (kind_of error ≢ WordsKind.DisplayVersion) → IsErr result }
-    ensures words { IfErr result HasWords }
+    ensures { IfOk result IsSafeAnswer }
 {
     let text = error.to_string(rt.alloc())?;
     if error.use_stderr() {
@@ -206,6 +198,7 @@ fn reported(rt: &HostRuntime, error: clap::Error) -> Result<Answer, Error>
 
 /// The report is safe, and the warnings are printable apart from color codes, whatever the arguments, the
 /// files and their names are.
+#[tactic(auto, using(audit_program::proofs::MessageLemmas::answers_safe))]
 fn answer(rt: &HostRuntime) -> Result<Answer, Error>
     ensures { IfOk result IsSafeAnswer }
 {

@@ -1,6 +1,6 @@
 -- Closed sites, product tokens, and the tables of warnings.
 use Rattle.std.specs.Prelude.{slice_get}
-use Rattle.std.proofs.Common.{◌≡◌, ℕ, ◌+◌, ◌==◌, Bool, false, true, List, [], ◌∷◌, ap, arith, inl, inr, refl}
+use Rattle.std.proofs.Common.{[], ◌≡◌, ℕ, ◌+◌, ◌==◌, Bool, false, true, List, ◌∷◌, ap, arith, inl, inr, refl}
 use Rattle.std.proofs.Common.{subst, suc, sym, ◌∙◌, ◌&&◌, ◌||◌, nat_le, nat_lt, not, ◌++◌, ◌<◌, Bor, Option}
 use Rattle.std.proofs.Common.{append_assoc, cond, drop, filter, if◌then◌else◌, length, map, slice_index_or}
 use Rattle.std.proofs.Common.{bytes_eq, take, zero, Some, get_or}

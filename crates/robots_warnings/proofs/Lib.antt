@@ -2,4 +2,4 @@ pub mod ClosedLemmas
 pub mod RuleLemmas
 pub mod SeenLemmas
 pub mod StepLemmas
-pub mod PlainLemmas
+pub mod TellsLemmas

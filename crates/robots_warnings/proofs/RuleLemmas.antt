@@ -1,27 +1,24 @@
 -- What is found among the rules of a crawler.
 use Rattle.std.specs.Prelude.{is_some}
-use Rattle.std.proofs.Common.{◌≡◌, ℕ, ◌==◌, Bool, false, true, List, [], ◌∷◌, arith, inl, inr, length, refl}
+use Rattle.std.proofs.Common.{[], ◌≡◌, ℕ, ◌==◌, Bool, false, true, List, ◌∷◌, arith, inl, inr, length, refl}
 use Rattle.std.proofs.Common.{subst, sym, ◌∙◌, ◌&&◌, ◌+◌, ◌<◌, Option, Some, None, String, bytes_eq, ap, ap₂}
 use Rattle.std.proofs.Common.{if◌then◌else◌, string_bytes, codes, drop, ◌||◌, ◌⊎◌, cond, map, Bor}
 use Rattle.std.proofs.Common.{slice_index_or}
-use Rattle.std.proofs.lemmas.{Bool.cases_Bool, Bool.not-false, Bool.or_parts, List.drop_more}
+use Rattle.std.proofs.lemmas.{Bool.cases_Bool, List.drop_more}
 use Rattle.std.proofs.lemmas.{Slice.Eq.bytes_eq-Decides}
 use Rattle.std.specs.{HashMap.Updates, HashMap.get_by_text, HashMap.hash_map_len, List.list_any, Str.byte}
 use Rattle.std.specs.{Global.Global, Map.lookup, Option.option_or, String.string_eq, HashSet.contains_text}
-use Rattle.texting_robots.specs.Callers.{escaped, PlacedRule, by_value, label_by_value, LineValue, UserAgent}
+use Rattle.texting_robots.specs.Callers.{escaped, PlacedRule, by_value, label_by_value}
 use Rattle.texting_robots.specs.{Escape.is_escaped, declared.labels.LabeledLine.LabeledLine}
-use Rattle.texting_robots.specs.Group.{is_agent, is_member}
+use Rattle.texting_robots.specs.Group.{is_member}
 use Rattle.texting_robots.proofs.Shared.{option_or_none}
 use Rattle.robots_warnings.proofs.ClosedLemmas.{differs, either}
 use Rattle.robots_warnings.specs.Conflicts.{allow_beside, at_line, compared, first_of}
-use Rattle.std.proofs.Math.Bool.{and-false, or-false, or-true}
+use Rattle.std.proofs.Math.Bool.{or-false, or-true}
 use Rattle.std.proofs.lemmas.Map.Text.{hash_map_updates_text, hash_set_updates_text}
-use Rattle.robots_warnings.specs.Internal.Rules.{HasFirst, Lines, Patterns, is_other_name}
-use Rattle.robots_warnings.specs.{File.lines_of, Positions.preceding_with}
-use Rattle.robots_warnings.specs.Closed.{denies, is_first_name, is_partial, is_replacing, replacing}
-use Rattle.robots_warnings.specs.Closed.{replacing_from, star_rules}
-use Rattle.robots_warnings.specs.declared.positions.Preceding.{Preceding}
-use Rattle.robots_warnings.specs.declared.positions.Preceding.TheVariants.{Agent, Other}
+use Rattle.robots_warnings.specs.Internal.Rules.{HasFirst, Lines, Patterns}
+use Rattle.robots_warnings.specs.{File.lines_of}
+use Rattle.robots_warnings.specs.Closed.{denies}
 use Rattle.std.specs.HashSet as set
 
 or_assoc : {X : Type 0} (a b c : Option X) → option_or (option_or a b) c ≡ option_or a (option_or b c)
@@ -136,35 +133,3 @@ pub groups_among : (labels : List LabeledLine)
     ≡ list_any (λ labeled. is_member (by_value labeled.line)) labels
 groups_among [] = refl
 groups_among (labeled ∷ labels) = rw (groups_among labels) refl
-
--- ---- If all names are `*`, no group replaces that of `*`.
-
-not_first : (preceding : Preceding) (line : LineValue) → is_agent line ≡ false
-    → is_first_name preceding line ≡ false
-not_first Agent line isnt = refl
-not_first preceding line isnt = isnt
-
-not_replacing : (agents : List (List ℕ)) (lines : List LineValue) (preceding : Preceding) (line : LineValue)
-    (later : List LineValue) → is_other_name line ≡ false
-    → is_replacing agents lines preceding line (line ∷ later) ≡ false
-not_replacing agents lines preceding (UserAgent value) later isnt =
-    let star : bytes_eq value (codes "*") ≡ true = not-false _ isnt in rw star (simp and-false refl)
-not_replacing agents lines preceding line later isnt = rw (not_first preceding line refl) refl
-
-none_replacing : (agents : List (List ℕ)) (lines : List LineValue) (preceding : Preceding)
-    (labels : List LabeledLine) → list_any (λ labeled. is_other_name (by_value labeled.line)) labels ≡ false
-    → replacing_from agents lines preceding (map label_by_value labels) ≡ []
-none_replacing agents lines preceding [] none = refl
-none_replacing agents lines preceding (labeled ∷ labels) none =
-    let line = by_value labeled.line in
-    let (here, later) = or_parts (is_other_name line) _ none in
-    rw (not_replacing agents lines preceding line (lines_of (map label_by_value labels)) here)
-    (none_replacing agents lines (preceding_with preceding line) labels later)
-
-pub nothing_replaced : (agents : List (List ℕ)) (lines : List LineValue) (labels : List LabeledLine)
-    → list_any (λ labeled. is_other_name (by_value labeled.line)) labels ≡ false
-    → replacing agents lines (map label_by_value labels) ≡ []
-nothing_replaced agents lines labels none = elim (cases_Bool (list_any is_partial (star_rules lines))) [
-  | inl some ↦ rw some (none_replacing agents lines Other labels none)
-  | inr isnt ↦ rw isnt refl
-]

@@ -1,21 +1,19 @@
 -- How names and the values of rules are remembered, and how lines are found by them.
-use Rattle.std.specs.Prelude.{Err, IfOk, Ok, Result, slice_index}
-use Rattle.std.proofs.Common.{◌≡◌, ℕ, ◌+◌, ◌<◌, Bool, true, false, List, [], ◌∷◌, ◌++◌, ◌∙◌, ◌&&◌, ap, arith}
-use Rattle.std.proofs.Common.{drop, filter, if◌then◌else◌, inl, inr, length, map, refl, slice_index_or, sym}
+use Rattle.std.specs.Prelude.{slice_index}
+use Rattle.std.proofs.Common.{[], ◌≡◌, ℕ, ◌+◌, ◌<◌, Bool, true, false, List, ◌∷◌, ◌++◌, ◌∙◌, ◌&&◌, ap, arith}
+use Rattle.std.proofs.Common.{drop, filter, if◌then◌else◌, length, map, refl, slice_index_or, sym}
 use Rattle.std.proofs.Common.{take, append_assoc, not, bytes_eq}
 use Rattle.std.proofs.lemmas.List.{drop_more, map-append, take_more, length_push}
-use Rattle.std.proofs.lemmas.Bool.{cases_Bool, or_parts}
-use Rattle.std.proofs.{lemmas.Simd.map-map, Math.Seq.take-append_seam}
-use Rattle.std.specs.List.{list_any, onto_first, slice_split, enumerate_from}
-use Rattle.std.specs.{BTreeSet.BTreeSet, Borrow.Bor, Global.Vec}
-use Rattle.texting_robots.specs.{declared.labels.LabeledLine.LabeledLine, Callers.Allow}
-use Rattle.texting_robots.specs.Callers.{Disallow, Label, LineValue, by_value, label_by_value, file_lines}
+use Rattle.std.proofs.{Math.Seq.take-append_seam}
+use Rattle.std.specs.List.{enumerate_from}
+use Rattle.std.specs.{BTreeSet.BTreeSet}
+use Rattle.texting_robots.specs.{declared.labels.LabeledLine.LabeledLine}
+use Rattle.texting_robots.specs.Callers.{Label, LineValue, by_value, label_by_value, file_lines}
 use Rattle.robots_warnings.specs.{File.lines_of, declared.spellings.Spelling.Spelling, Crawlers.is_past_limit}
 use Rattle.robots_warnings.specs.{declared.repeated.Seen.Seen, declared.values.Value.Value}
-use Rattle.robots_warnings.specs.Spellings.{is_agent_line, is_escape, is_unpaired_at, is_unpaired_line}
+use Rattle.robots_warnings.specs.Spellings.{is_escape}
 use Rattle.robots_warnings.specs.Spellings.{spelled, spelled_escape}
 use Rattle.robots_warnings.specs.Internal.Names.{Key, AddsLine, HasNames, IsFoundUpto, past_limit_from}
-use Rattle.robots_warnings.specs.Internal.Values.{has_other_line, has_other_value}
 use Rattle.robots_warnings.proofs.{ClosedLemmas.either, StepLemmas.picked}
 use Rattle.robots_warnings.specs.Repeated.{above_next, is_checked, repeated_from}
 use Rattle.std.specs.HashSet as hash
@@ -44,75 +42,6 @@ pub no_bytes : (spelling : Spelling) (text : List ℕ) → length text ≡ 0 →
 unfolding spelled
 no_bytes spelling [] none = refl
 no_bytes spelling (b ∷ text) none = absurd (omega arith)
-
-pub seen_more : (group : List LabeledLine) (at : ℕ) (labeled : LabeledLine) {old new : Seen} {is : Bool}
-    → at < length group → sets.HasSeen old (lines_of (map label_by_value (take at group)))
-    → sets.AddsRule old new (by_value (slice_index_or group at labeled).line) is
-    → sets.HasSeen new (lines_of (map label_by_value (take (at + 1) group)))
-seen_more group at labeled below has adds =
-    rw (take_more group at labeled below) (simp (map-append, map-append) (adds.has _ has))
-
-pub and_false : (a b : Bool) → b ≡ false → (a && b) ≡ false
-and_false true b is = is
-and_false false b is = refl
-
-plain_is_paired : (spelling : Spelling) (group : List LineValue) (line : LineValue)
-    → has_other_value spelling line ≡ false → is_unpaired_line spelling group line ≡ false
-plain_is_paired spelling group (Allow value) is = rw is refl
-plain_is_paired spelling group (Disallow value) is = rw is refl
-plain_is_paired spelling group line is = refl
-
--- without escapes that call for the spelling there is no such rule
-pub none_unpaired : (spelling : Spelling) (all_groups : Bool) (group : List LineValue)
-    (labels : List LabeledLine)
-    → list_any (λ labeled. has_other_line spelling (label_by_value labeled)) labels ≡ false
-    → filter (is_unpaired_at spelling all_groups group) (map label_by_value labels) ≡ []
-none_unpaired spelling all_groups group [] none = refl
-none_unpaired spelling all_groups group (labeled ∷ labels) none =
-    let (here, later) = or_parts _ _ none in
-    rw (and_false _ _ (plain_is_paired spelling group (by_value labeled.line) here))
-    (none_unpaired spelling all_groups group labels later)
-
-pub unpaired_from : (spelling : Spelling) (all_groups : Bool) (lines : List LineValue)
-    (group : List LabeledLine) (at : ℕ) (labeled : LabeledLine) → at < length group
-    → map (λ (label : Label). label.number) (filter (is_unpaired_at spelling all_groups lines)
-    (map label_by_value (drop at group)))
-    ≡ (if is_unpaired_at spelling all_groups lines (label_by_value (slice_index_or group at labeled))
-    then (slice_index_or group at labeled).number ∷ [] else [])
-    ++ map (λ (label : Label). label.number) (filter (is_unpaired_at spelling all_groups lines)
-    (map label_by_value (drop (at + 1) group)))
-unpaired_from spelling all_groups lines group at labeled below =
-    let item = label_by_value (slice_index_or group at labeled) in
-    rw (drop_more group at labeled below)
-    (picked (λ (label : Label). label.number) (is_unpaired_at spelling all_groups lines item) item
-    (filter (is_unpaired_at spelling all_groups lines) (map label_by_value (drop (at + 1) group))))
-
-onto_first_mapped : {A B : Type 0} (f : A → B) (x : A) (parts : List (List A))
-    → map (map f) (onto_first x parts) ≡ onto_first (f x) (map (map f) parts)
-onto_first_mapped f x [] = refl
-onto_first_mapped f x (part ∷ parts) = refl
-
-pub split_mapped : {A B : Type 0} (f : A → B) (p : B → Bool) (xs : List A)
-    → map (map f) (slice_split (λ x. p (f x)) xs) ≡ slice_split p (map f xs)
-split_mapped f p [] = refl
-split_mapped f p (x ∷ xs) = elim (cases_Bool (p (f x))) [
-  | inl is ↦ rw is (ap (λ (parts : List (List _)). [] ∷ parts) (split_mapped f p xs))
-  | inr isnt ↦
-      rw isnt (onto_first_mapped f x (slice_split (λ x. p (f x)) xs)
-      ∙ ap (onto_first (f x)) (split_mapped f p xs))
-]
-
--- the parts of labeled lines, by value
-pub split_by_value : {E : Type 0} (result : Result (Vec (Bor (List LabeledLine))) E)
-    (labels : List LabeledLine)
-    → IfOk result (λ parts. map (λ part. part.now) parts.items
-    ≡ slice_split (λ labeled. is_agent_line (label_by_value labeled)) labels)
-    → IfOk result (λ parts. map (λ part. map label_by_value part.now) parts.items
-    ≡ slice_split is_agent_line (map label_by_value labels))
-split_by_value (Ok parts) labels are =
-    sym (map-map (map label_by_value) (λ (part : Bor (List LabeledLine)). part.now) parts.items)
-    ∙ ap (map (map label_by_value)) are ∙ split_mapped label_by_value is_agent_line labels
-split_by_value (Err error) labels are = are
 
 not_not : (a b : Bool) → b ≡ not a → not b ≡ a
 not_not true b is = rw is refl

@@ -1,5 +1,5 @@
 -- What is closed to a crawler.
-use Rattle.std.specs.Prelude.{ℕ, ◌==◌, Bool, false, not, ◌||◌, ◌&&◌, List, [], ◌∷◌, ◌++◌, Option, Some, None}
+use Rattle.std.specs.Prelude.{[], ℕ, ◌==◌, Bool, false, not, ◌||◌, ◌&&◌, List, ◌∷◌, ◌++◌, Option, Some, None}
 use Rattle.std.specs.Prelude.{bytes_eq, codes, count_by, drop, filter, if◌then◌else◌, is_none, is_some}
 use Rattle.std.specs.Prelude.{length, nat_eq, nat_le, nat_lt}
 use Rattle.std.specs.List.{before_first, filter_map, list_all, list_any, starts_with}

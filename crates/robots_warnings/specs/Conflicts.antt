@@ -1,6 +1,6 @@
 -- Rules that contradict each other, and empty Disallows.
-use Rattle.std.specs.Prelude.{ℕ, false, filter, slice_get, Contains, bytes_eq, Option, if◌then◌else◌, is_some}
-use Rattle.std.specs.Prelude.{◌≡◌, ◌+◌, ◌==◌, Bool, not, ◌||◌, ◌&&◌, List, [], ◌∷◌, Some, true, None, codes}
+use Rattle.std.specs.Prelude.{[], ℕ, false, filter, slice_get, Contains, bytes_eq, Option, if◌then◌else◌, is_some}
+use Rattle.std.specs.Prelude.{◌≡◌, ◌+◌, ◌==◌, Bool, not, ◌||◌, ◌&&◌, List, ◌∷◌, Some, true, None, codes}
 use Rattle.std.specs.{Str.byte, Option.option_or}
 use Rattle.texting_robots.specs.Callers.{Allow, Label, LineValue, PlacedRule, AreRulesFor, placed_rules}
 use Rattle.texting_robots.specs.{Statement.IsStatement, declared.parser.statement.Kind.TheVariants.Disallow}
@@ -52,22 +52,6 @@ pub record IsConflict (is_empty : ℕ → Bool) (agent : List ℕ) (lines : List
   pub allow : Contains rules (record { rule = (allowed, true); line = other })
   pub stated : is_empty other ≡ false
 
--- the line with this number is an empty Disallow that applies to the crawler, and the other one a Disallow of
--- `/` or `*` that does; each Allow of these that applies to it is an empty Disallow
-pub record IsOverruled (is_empty : ℕ → Bool) (agent : List ℕ) (lines : List LineValue) (number other : ℕ)
-    : Type 0 where
-  pub rules : List PlacedRule
-  pub are : AreRulesFor agent lines rules
-  pub empty : is_empty number ≡ true
-  pub own : List ℕ
-  pub allow : Contains rules (record { rule = (own, true); line = number })
-  pub pattern : List ℕ
-  pub all : compared pattern ≡ codes "/"
-  pub disallow : Contains rules (record { rule = (pattern, false); line = other })
-  pub stated : is_empty other ≡ false
-  pub alone : (allowed : List ℕ) (at : ℕ) → compared allowed ≡ codes "/"
-      → Contains rules (record { rule = (allowed, true); line = at }) → is_empty at ≡ true
-
 abbrev pub first_of : {X : Type 0} → (X → Option ℕ) → List X → Option ℕ
 first_of f [] = None
 first_of f (x ∷ xs) = option_or (f x) (first_of f xs)
@@ -107,9 +91,7 @@ at_line number other placed = if placed.line == number then other placed else No
 abbrev pub conflict_among : (ℕ → Bool) → List PlacedRule → ℕ → Option ℕ
 conflict_among is_empty rules number = first_of (at_line number (allow_beside is_empty rules)) rules
 
--- the same for a crawler; `warning_theorems` proves that this agrees with `IsConflict`, and `overruled_for`
--- with
--- `IsOverruled`
+-- the same for a crawler; if it gives a line, that `IsConflict`, as `warning_theorems` proves
 abbrev pub conflict_for : (ℕ → Bool) → List LineValue → ℕ → List ℕ → Option ℕ
 conflict_for is_empty lines number agent = conflict_among is_empty (placed_rules agent lines) number
 

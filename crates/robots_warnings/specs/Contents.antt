@@ -1,12 +1,11 @@
 -- What the content of a directive has besides its value: white space, a comment, and the text of a delay. Raw
 -- values are those of directives with a colon.
-use Rattle.std.specs.Prelude.{ℕ, ◌==◌, nat_eq, Bool, not, ◌||◌, ◌&&◌, List, bytes_eq, codes, drop, length}
-use Rattle.std.specs.Prelude.{nat_lt, slice_index}
-use Rattle.std.specs.List.{ends_with, list_all, list_any, position_or_len, starts_with}
-use Rattle.std.specs.{Char.is_ascii_alphanumeric, Char.is_ascii_digit, Str.byte, Str.is_utf8}
+use Rattle.std.specs.Prelude.{ℕ, ◌==◌, nat_eq, Bool, not, ◌||◌, ◌&&◌, List, codes, drop, length}
+use Rattle.std.specs.List.{ends_with, position_or_len, starts_with}
+use Rattle.std.specs.{Str.byte}
 use Rattle.robots_warnings.specs.FieldNames.{trim_blanks_end, trim_blanks_start}
-use Rattle.robots_warnings.specs.Rules.{after_byte, before_byte, begins_oddly, has}
-use Rattle.robots_warnings.specs.{Closed.is_whole_site, File.hash, File.tab}
+use Rattle.robots_warnings.specs.Rules.{after_byte, before_byte}
+use Rattle.robots_warnings.specs.{Closed.is_whole_site, File.hash}
 
 -- what is between the first colon and the comment
 abbrev pub tail_of : List ℕ → List ℕ
@@ -20,11 +19,6 @@ comment_of body = drop (position_or_len (λ b. b == hash) body) body
 abbrev pub raw_value : List ℕ → List ℕ
 raw_value tail = trim_blanks_end (trim_blanks_start tail)
 
--- `value` is the raw value without white space of any kind at both ends, or `/` for an empty Disallow; so
--- other white space than spaces and tabs was dropped
-abbrev pub has_odd_space : (value tail : List ℕ) → Bool
-has_odd_space value tail = not (length (raw_value tail) == 0) && not (bytes_eq (raw_value tail) value)
-
 -- a comment directly follows the value, which isn't empty
 abbrev pub is_cut : (value tail comment : List ℕ) → Bool
 is_cut value tail comment =
@@ -36,34 +30,3 @@ abbrev pub is_cut_to_root : (value tail comment : List ℕ) → Bool
 is_cut_to_root value tail comment =
     let is_path = starts_with nat_eq comment (codes "#/") || starts_with nat_eq comment (codes "#!/") in
     (is_cut value tail comment || (is_path && length (raw_value tail) == 0)) && is_whole_site value
-
--- the same if a comment that isn't a path, such as `#top`, is in place of the value
-abbrev pub is_emptied : (value tail comment : List ℕ) → Bool
-is_emptied value tail comment =
-    (length (raw_value tail) == 0 && is_whole_site value) && is_ascii_alphanumeric (slice_index comment 1)
-
--- a rule that is read and matches some paths, but not the whole site, is left
-abbrev pub is_cut_short : (value tail comment : List ℕ) → Bool
-is_cut_short value tail comment =
-    is_cut value tail comment
-    && ((is_utf8 value && not (begins_oddly value)) && not (is_whole_site value))
-
-abbrev pub are_digits : List ℕ → Bool
-are_digits text = not (length text == 0) && list_all is_ascii_digit text
-
-abbrev pub is_plain_number : List ℕ → Bool
-is_plain_number text =
-    are_digits (before_byte (byte ".") text)
-    && (not (has (byte ".") text) || are_digits (after_byte (byte ".") text))
-
--- the delay isn't written as digits, possibly with a point and more digits
-abbrev pub has_odd_delay : List ℕ → Bool
-has_odd_delay tail = not (is_plain_number (raw_value tail))
-
--- a control character of ASCII other than a tab and DEL
-abbrev pub is_control : ℕ → Bool
-is_control b = nat_lt b 32 && not (b == tab)
-
--- the comment contains such a character or isn't UTF-8
-abbrev pub has_odd_comment : List ℕ → Bool
-has_odd_comment comment = list_any is_control comment || not (is_utf8 comment)

@@ -1,19 +1,15 @@
 -- Known crawlers, and names of crawlers.
-use Rattle.std.specs.Prelude.{ℕ, ◌-◌, ◌==◌, nat_eq, Bool, not, ◌||◌, ◌&&◌, List, bytes_eq, codes, length, ◌+◌}
-use Rattle.std.specs.Prelude.{drop, if◌then◌else◌, take, [], ◌∷◌, Option, None, Some, find, is_none, is_some}
+use Rattle.std.specs.Prelude.{[], ℕ, ◌-◌, ◌==◌, nat_eq, Bool, not, ◌||◌, ◌&&◌, List, bytes_eq, codes, length, ◌+◌}
+use Rattle.std.specs.Prelude.{if◌then◌else◌, take, ◌∷◌, Option, None, Some, find, is_none, is_some}
 use Rattle.std.specs.Prelude.{map, nat_le, nat_lt, option_map, slice_index_or, unwrap_or, false, filter, ◌++◌}
-use Rattle.std.specs.Str.{byte, str_eq_ignore_ascii_case, trim, is_utf8, str_to_ascii_lowercase}
-use Rattle.std.specs.List.{ends_with, list_all, before_first, list_any, position_from, enumerate_from}
-use Rattle.std.specs.{Char.is_ascii_alphabetic, Char.is_ascii_digit, Option.option_or}
-use Rattle.robots_warnings.specs.{Rules.somewhere, Urls.begins_in_any_case}
+use Rattle.std.specs.Str.{byte, str_eq_ignore_ascii_case, is_utf8, str_to_ascii_lowercase}
+use Rattle.std.specs.List.{before_first, list_any, position_from, enumerate_from}
+use Rattle.std.specs.{Char.is_ascii_alphabetic, Option.option_or}
 use Rattle.strsim.specs.{Edits.damerau}
 use Rattle.texting_robots.specs.Callers.{LineValue, UserAgent, is_named, file_lines}
 use Rattle.robots_warnings.specs.declared.crawlers.TheConstants.{CRAWLERS, WRONG_NAMES}
 
 -- ---- The name of a crawler, in a request or in a user-agent line.
-
-abbrev pub has_space_around : List ℕ → Bool
-has_space_around text = not (bytes_eq (trim text) text)
 
 -- ASCII letters, `_` and `-`
 abbrev pub is_token_byte : ℕ → Bool
@@ -21,36 +17,6 @@ is_token_byte b = is_ascii_alphabetic b || b == byte "_" || b == byte "-"
 
 abbrev pub ends_token : ℕ → Bool
 ends_token b = not (is_token_byte b)
-
--- the value is a product token, or `*`, which means every crawler
-abbrev pub is_product_token : List ℕ → Bool
-is_product_token value =
-    bytes_eq value (codes "*") || (not (length value == 0) && list_all is_token_byte value)
-
--- also digits, dots and spaces
-abbrev pub is_name_byte : ℕ → Bool
-is_name_byte b = is_token_byte b || (is_ascii_digit b || (b == byte "." || b == byte " "))
-
--- the text starts with a word for a crawler
-abbrev pub begins_crawler_word : List ℕ → Bool
-begins_crawler_word text =
-    begins_in_any_case (codes "bot") text
-    || (begins_in_any_case (codes "crawler") text || begins_in_any_case (codes "spider") text)
-
--- `bot` and a space, and another name: such a word, but not just `bot`
-abbrev pub begins_names : List ℕ → Bool
-begins_names text =
-    begins_in_any_case (codes "bot ") text
-    && (somewhere begins_crawler_word (drop 4 text)
-    && not (str_eq_ignore_ascii_case (drop 4 text) (codes "bot")))
-
--- written as names of real crawlers that aren't product tokens are, such as `MJ12bot`, `Offline Explorer`
--- and, with a star at its end, `Mediapartners-Google*`, and not as several names: `Googlebot Bingbot` is
--- several, but not `Brightbot 1.0` or `Echobot Bot`
-abbrev pub is_usual_name : List ℕ → Bool
-is_usual_name value =
-    let name = if ends_with nat_eq value (codes "*") then take (length value - 1) value else value in
-    (not (length value == 0) && list_all is_name_byte name) && not (somewhere begins_names value)
 
 -- ---- Known crawlers: which group the vendor of each applies to it, and which one a similar name may mean.
 
@@ -63,9 +29,6 @@ crawlers = map (λ row. (row.0.now, row.1.now)) CRAWLERS
 
 abbrev pub row_at : ℕ → Row
 row_at number = slice_index_or crawlers number ([], [])
-
-abbrev pub is_given : List (List ℕ) → List ℕ → Bool
-is_given agents name = list_any (λ agent. str_eq_ignore_ascii_case name agent) agents
 
 unfoldable pub is_known : List ℕ → Bool
 is_known name = list_any (λ (row : Row). str_eq_ignore_ascii_case name row.0) crawlers
@@ -123,9 +86,6 @@ other_group lines agent =
 -- names that no crawler has, each with that of the known crawler that is probably meant
 unfoldable pub wrong_names : List Row
 wrong_names = map (λ row. (row.0.now, row.1.now)) WRONG_NAMES
-
-abbrev pub is_wrong : List ℕ → Bool
-is_wrong name = is_some (name_for name wrong_names)
 
 -- after how many edits a name is still recognized
 abbrev pub most_edits : List ℕ → ℕ

@@ -1,5 +1,5 @@
 -- The lines within the size limit of a file.
-use Rattle.std.specs.Prelude.{ℕ, ◌==◌, Bool, true, ◌||◌, ◌&&◌, List, [], ◌∷◌, if◌then◌else◌, map}
+use Rattle.std.specs.Prelude.{ℕ, Bool, true, List, if◌then◌else◌, map}
 use Rattle.texting_robots.specs.Callers.{LineValue, Label, bodies_read, group_name, is_own, labels_of}
 use Rattle.texting_robots.specs.Callers.{lines_read}
 use Rattle.texting_robots.specs.{declared.labels.Membership.Membership}
@@ -12,11 +12,6 @@ tab = 9
 
 abbrev pub hash : ℕ
 hash = 35
-
--- only spaces and tabs, possibly followed by a comment
-abbrev pub is_blank : List ℕ → Bool
-is_blank [] = true
-is_blank (byte ∷ body) = byte == hash || ((byte == space || byte == tab) && is_blank body)
 
 -- the file's lines, labeled for a crawler
 abbrev pub labels_for : List ℕ → List ℕ → List Label

@@ -4,7 +4,6 @@ pub mod Facts
 pub mod Urls
 pub mod FieldNames
 pub mod Rules
-pub mod SeveralValues
 pub mod Positions
 pub mod Contents
 pub mod Targets
@@ -17,4 +16,5 @@ pub mod Repeated
 pub mod Warnings
 pub mod Message
 pub mod Read
+pub mod Means
 pub mod Internal

@@ -1,12 +1,10 @@
 -- Every warning, as in the table of src/table.rt.
-use Rattle.std.specs.Prelude.{ℕ, Bool, List, [], bytes_eq, map, slice_index_or}
-use Rattle.std.specs.List.{list_any}
-use denote.Enum.Declared.{tag_of}
+use Rattle.std.specs.Prelude.{[], ℕ, List, map, slice_index_or}
 use Rattle.robots_warnings.specs.contracts.table.{Cause.the_type}
 use Rattle.printable_text.specs.declared.level.{Level.Level}
 use Rattle.robots_warnings.specs.declared.table.{TheConstants.WARNINGS, Cause.Cause}
-use Rattle.robots_warnings.specs.declared.texts.TheConstants.{EXAMPLES, MESSAGES}
 use Rattle.printable_text.specs.declared.level.Level.TheVariants as level
+use denote.Enum.Declared.{tag_of}
 
 -- the index of a warning in the table
 abbrev pub number_of : Cause → ℕ
@@ -22,23 +20,8 @@ all_levels = map (λ row. row.1) WARNINGS
 abbrev pub all_names : List (List ℕ)
 all_names = map (λ row. row.2.now) WARNINGS
 
-abbrev pub all_texts : List (List ℕ)
-all_texts = map (λ row. row.1.now) MESSAGES
-
-abbrev pub all_examples : List (List ℕ)
-all_examples = map (λ row. row.1.now) EXAMPLES
-
 unfoldable pub level_of : Cause → Level
 level_of cause = slice_index_or all_levels (number_of cause) level.Warning
 
 unfoldable pub name_of : Cause → List ℕ
 name_of cause = slice_index_or all_names (number_of cause) []
-
-unfoldable pub text_of : Cause → List ℕ
-text_of cause = slice_index_or all_texts (number_of cause) []
-
-unfoldable pub example_of : Cause → List ℕ
-example_of cause = slice_index_or all_examples (number_of cause) []
-
-unfoldable pub is_name : List ℕ → Bool
-is_name name = list_any (λ other. bytes_eq other name) all_names

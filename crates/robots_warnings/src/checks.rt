@@ -1,16 +1,14 @@
 //! The conditions of warnings about a file, a request, a line and its position, grouped by what they inspect.
-ghost use Rattle.std.specs.Prelude.{◌≡◌, IfOk, map, option_map};
-ghost use Rattle.texting_robots.specs.Callers.{label_by_value};
-ghost use Rattle.robots_warnings.specs.FieldNames.{is_without_colon};
-ghost use Rattle.robots_warnings.specs.Checks.{content_checks, field_checks, file_checks, form_checks, is_one_line, plural_checks, position_checks, raw_rule_checks, sitemap_checks, text_checks, url_checks, user_agent_checks};
-ghost use Rattle.robots_warnings.specs.{File.is_in_scope_of, File.lines_of, Rules.is_expression};
+ghost use Rattle.std.specs.Prelude.{◌≡◌, IfOk, IsTrue, Some};
+ghost use Rattle.texting_robots.specs.Callers.{Label, label_by_value};
+ghost use Rattle.robots_warnings.specs.{Checks.url_checks, Contents.comment_of, Contents.tail_of};
+ghost use Rattle.robots_warnings.specs.{File.is_in_scope_of, Means.rule_value, Positions.is_above_agents};
+ghost use Rattle.robots_warnings.specs.Internal.Tells.{are_so_of, are_style};
 
 use crate::contents::{has_odd_comment, has_odd_space, is_cut_short, is_cut_to_root, is_emptied};
 use crate::facts::FileFacts;
 use crate::field_names::{begins_inner_field, is_misspelled};
-use crate::positions::{
-    Preceding, are_joined, is_empty_group, is_ignored, is_other_delay, is_split, name_star,
-};
+use crate::positions::{Preceding, are_joined, is_empty_group, is_ignored, is_split, name_star};
 use crate::rules::{
     has, has_dollar_inside, has_dot_segment, has_more_after_dollar, has_odd_character,
     has_odd_start, has_question_marks, has_quote_at_end, has_wildcard, holds_otherwise, is_quoted,
@@ -29,7 +27,7 @@ use texting_robots::parser::Line;
 pub(crate) type Check = (Cause, bool);
 
 pub(crate) fn file_checks(facts: FileFacts) -> [Check; 9]
-    ensures { result ≡ file_checks facts }
+    ensures { IsTrue (are_style result) }
 {
     let is_empty = !(facts.kinds.text || facts.is_too_large);
     [
@@ -56,8 +54,7 @@ pub(crate) fn url_checks(alloc: Global, url: &str) -> Result<[Check; 1], AllocEr
 
 /// `lacks_colon`: there is no colon after the field name.
 pub(crate) fn field_checks(body: &[u8], lacks_colon: bool) -> [Check; 2]
-    requires { lacks_colon ≡ is_without_colon body.now }
-    ensures { result ≡ field_checks body.now }
+    ensures { IsTrue (are_style result) }
 {
     [
         (Cause::NonstandardField, is_misspelled(body)),
@@ -72,7 +69,8 @@ pub(crate) fn raw_rule_checks(
     tail: &[u8],
     comment: &[u8],
 ) -> [Check; 4]
-    ensures { result ≡ raw_rule_checks is_in_scope value.now tail.now comment.now }
+    ensures { (label : Label) → rule_value label.line ≡ Some value.now → tail.now ≡ tail_of label.body
+        → comment.now ≡ comment_of label.body → IsTrue (are_so_of label result) }
 {
     [
         (Cause::SpaceAroundValue, has_odd_space(value, tail)),
@@ -91,14 +89,12 @@ pub(crate) fn raw_rule_checks(
     ]
 }
 
-fn is_one_line(text: &[u8]) -> bool
-    ensures { result ≡ is_one_line text.now }
-{
+fn is_one_line(text: &[u8]) -> bool {
     has(b':', text) && somewhere(text, begins_inner_field)
 }
 
 pub(crate) fn user_agent_checks(value: &[u8]) -> [Check; 2]
-    ensures { result ≡ user_agent_checks value.now }
+    ensures { IsTrue (are_style result) }
 {
     let is_other = !is_product_token(value);
     let is_usual = is_usual_name(value);
@@ -119,8 +115,7 @@ pub(crate) fn is_in_scope_of(all_groups: bool, membership: Membership) -> bool
 
 /// `is_regex`: the value seems to be a regular expression.
 pub(crate) fn form_checks(value: &[u8], is_regex: bool) -> [Check; 9]
-    requires { is_regex ≡ is_expression value.now }
-    ensures { result ≡ form_checks value.now }
+    ensures { (label : Label) → rule_value label.line ≡ Some value.now → IsTrue (are_so_of label result) }
 {
     let is_odd = has_odd_start(value);
     let has_equals = value.starts_with(b"=");
@@ -143,8 +138,7 @@ pub(crate) fn form_checks(value: &[u8], is_regex: bool) -> [Check; 9]
 }
 
 pub(crate) fn content_checks(value: &[u8], is_regex: bool) -> [Check; 6]
-    requires { is_regex ≡ is_expression value.now }
-    ensures { result ≡ content_checks value.now }
+    ensures { (label : Label) → rule_value label.line ≡ Some value.now → IsTrue (are_so_of label result) }
 {
     let is_odd = has_odd_start(value);
     [
@@ -158,7 +152,7 @@ pub(crate) fn content_checks(value: &[u8], is_regex: bool) -> [Check; 6]
 }
 
 pub(crate) fn plural_checks(value: &[u8]) -> [Check; 2]
-    ensures { result ≡ plural_checks value.now }
+    ensures { IsTrue (are_style result) }
 {
     let (cause, seems_several) = several_values(value);
     let is_other = is_one_line(value) | value.starts_with(b"=");
@@ -169,7 +163,7 @@ pub(crate) fn plural_checks(value: &[u8]) -> [Check; 2]
 }
 
 pub(crate) fn sitemap_checks(alloc: Global, value: &[u8]) -> Result<[Check; 3], AllocError>
-    ensures { IfOk result (λ checks. checks ≡ sitemap_checks value.now) }
+    ensures { IfOk result (λ checks. IsTrue (are_style checks)) }
 {
     let (cause, seems_several) = several_values(value);
     Ok([
@@ -180,7 +174,7 @@ pub(crate) fn sitemap_checks(alloc: Global, value: &[u8]) -> Result<[Check; 3], 
 }
 
 pub(crate) fn text_checks(tail: &[u8], comment: &[u8]) -> [Check; 2]
-    ensures { result ≡ text_checks tail.now comment.now }
+    ensures { IsTrue (are_style result) }
 {
     [
         (Cause::OneLine, is_one_line(tail)),
@@ -188,36 +182,34 @@ pub(crate) fn text_checks(tail: &[u8], comment: &[u8]) -> [Check; 2]
     ]
 }
 
-/// `last` is the number of the last rule or delay, `above` and `delay` are the only name and the first delay
-/// of the group above the line, and `from_here` are the lines from this one on.
+fn is_above_agents(labeled: &LabeledLine<'_>) -> bool
+    ensures { result ≡ is_above_agents (label_by_value labeled.now) }
+{
+    match labeled.line {
+        Line::Allow(_) | Line::Disallow(_) => labeled.membership == Membership::Ungrouped,
+        _ => false,
+    }
+}
+
+/// `last` is the number of the last rule or delay, `above` is the only name of the group above the line, and
+/// `from_here` are the lines from this one on.
 pub(crate) fn position_checks(
-    is_too_large: bool,
     last: Option<usize>,
     preceding: Preceding,
     above: Option<&[u8]>,
-    delay: Option<u64>,
     labeled: &LabeledLine<'_>,
     from_here: &[LabeledLine<'_>],
-) -> [Check; 7]
-    ensures { result ≡ position_checks is_too_large last preceding (option_map (λ name. name.now) above.entry) delay
-        (label_by_value labeled.now) (lines_of (map label_by_value from_here.now)) }
+) -> [Check; 6]
+    ensures { IsTrue (are_so_of (label_by_value labeled.now) result) }
 {
-    let is_rule = matches!(labeled.line, Line::Allow(_) | Line::Disallow(_));
-    let is_above_agents = is_rule && labeled.membership == Membership::Ungrouped;
     let is_split = is_split(preceding, above, labeled, from_here);
     let is_star = is_split && name_star(from_here);
-    let two_delays = if is_too_large {
-        Cause::TwoDelaysPastLimit
-    } else {
-        Cause::TwoDelays
-    };
     [
-        (Cause::RuleBeforeUserAgent, is_above_agents),
+        (Cause::RuleBeforeUserAgent, is_above_agents(labeled)),
         (Cause::EmptyGroup, is_empty_group(last, labeled)),
         (Cause::DelaySplitsGroup, is_split && !is_star),
         (Cause::DelayAboveStar, is_star),
         (Cause::JoinedGroups, are_joined(from_here)),
         (Cause::IgnoredDelay, is_ignored(above, labeled.line)),
-        (two_delays, is_other_delay(delay, labeled)),
     ]
 }

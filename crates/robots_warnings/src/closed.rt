@@ -1,5 +1,5 @@
 //! Rules that leave nothing, or nearly nothing, of a site to a crawler.
-ghost use Rattle.std.specs.Prelude.{◌≡◌, ◌++◌, ◌||◌, ◌∷◌, [], Bool, IfOk, List, OnOk, bytes_eq, codes, false, filter, flat_map, if◌then◌else◌};
+ghost use Rattle.std.specs.Prelude.{[], ◌≡◌, ◌++◌, ◌||◌, ◌∷◌, Bool, IfOk, List, OnOk, bytes_eq, codes, filter, flat_map, if◌then◌else◌};
 ghost use Rattle.std.specs.Prelude.{is_some, length, map, nat_lt, option_map, slice_get, string_bytes, ℕ};
 ghost use Rattle.std.specs.{HashSet.contains_text, List.filter_map, List.list_any, Str.str_eq_ignore_ascii_case};
 ghost use Rattle.texting_robots.specs.Callers.{PlacedRule, file_lines, label_by_value, placed_rules};

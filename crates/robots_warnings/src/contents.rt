@@ -1,10 +1,8 @@
 //! Conditions on what the content of a directive has besides its value: white space, a comment, and the text
 //! of a delay. Those on a raw value are for directives with a colon.
-ghost use Rattle.std.specs.Prelude.{◌≡◌, slice_index};
-ghost use Rattle.std.specs.Char.{is_ascii_alphanumeric, is_ascii_digit};
-ghost use Rattle.std.specs.List.{list_all, list_any};
-ghost use Rattle.robots_warnings.specs.Contents.{are_digits, comment_of, has_odd_comment, has_odd_delay, has_odd_space};
-ghost use Rattle.robots_warnings.specs.Contents.{is_control, is_cut, is_cut_short, is_cut_to_root, is_emptied, raw_value, tail_of};
+ghost use Rattle.std.specs.Prelude.{◌≡◌};
+ghost use Rattle.robots_warnings.specs.Contents.{comment_of};
+ghost use Rattle.robots_warnings.specs.Contents.{is_cut, is_cut_to_root, raw_value, tail_of};
 
 use crate::field_names::{trim_blanks_end, trim_blanks_start};
 use crate::rules::{after_byte, before_byte, begins_oddly, has, is_utf8, place};
@@ -26,9 +24,7 @@ fn raw_value<'a>(tail: &'a [u8]) -> &'a [u8]
     trim_blanks_end(trim_blanks_start(tail))
 }
 
-pub(crate) fn has_odd_space(value: &[u8], tail: &[u8]) -> bool
-    ensures { result ≡ has_odd_space value.now tail.now }
-{
+pub(crate) fn has_odd_space(value: &[u8], tail: &[u8]) -> bool {
     let raw = raw_value(tail);
     !raw.is_empty() && raw != value
 }
@@ -47,54 +43,25 @@ pub(crate) fn is_cut_to_root(value: &[u8], tail: &[u8], comment: &[u8]) -> bool
         && is_whole_site(value)
 }
 
-fn begins_word(comment: &[u8]) -> bool
-    ensures { result ≡ is_ascii_alphanumeric (slice_index comment.now 1) }
-{
-    match comment {
-        [_, letter, ..] => letter.is_ascii_alphanumeric(),
-        _ => false,
-    }
+pub(crate) fn is_emptied(value: &[u8], tail: &[u8], comment: &[u8]) -> bool {
+    raw_value(tail).is_empty()
+        && is_whole_site(value)
+        && matches!(comment, [_, letter, ..] if letter.is_ascii_alphanumeric())
 }
 
-pub(crate) fn is_emptied(value: &[u8], tail: &[u8], comment: &[u8]) -> bool
-    ensures { result ≡ is_emptied value.now tail.now comment.now }
-{
-    raw_value(tail).is_empty() && is_whole_site(value) && begins_word(comment)
-}
-
-pub(crate) fn is_cut_short(value: &[u8], tail: &[u8], comment: &[u8]) -> bool
-    ensures { result ≡ is_cut_short value.now tail.now comment.now }
-{
+pub(crate) fn is_cut_short(value: &[u8], tail: &[u8], comment: &[u8]) -> bool {
     is_cut(value, tail, comment) && is_utf8(value) && !begins_oddly(value) && !is_whole_site(value)
 }
 
-fn are_all_digits(text: &[u8]) -> bool
-    ensures { result ≡ list_all is_ascii_digit text.now }
-{
-    text.iter().all(|byte| byte.is_ascii_digit())
+fn are_digits(text: &[u8]) -> bool {
+    !text.is_empty() && text.iter().all(|byte| byte.is_ascii_digit())
 }
 
-fn are_digits(text: &[u8]) -> bool
-    ensures { result ≡ are_digits text.now }
-{
-    !text.is_empty() && are_all_digits(text)
-}
-
-pub(crate) fn has_odd_delay(tail: &[u8]) -> bool
-    ensures { result ≡ has_odd_delay tail.now }
-{
+pub(crate) fn has_odd_delay(tail: &[u8]) -> bool {
     let raw = raw_value(tail);
     !(are_digits(before_byte(b'.', raw)) && (!has(b'.', raw) || are_digits(after_byte(b'.', raw))))
 }
 
-fn has_control(text: &[u8]) -> bool
-    ensures { result ≡ list_any is_control text.now }
-{
-    text.iter().any(|byte| *byte < b' ' && *byte != b'\t')
-}
-
-pub(crate) fn has_odd_comment(comment: &[u8]) -> bool
-    ensures { result ≡ has_odd_comment comment.now }
-{
-    has_control(comment) || !is_utf8(comment)
+pub(crate) fn has_odd_comment(comment: &[u8]) -> bool {
+    comment.iter().any(|byte| *byte < b' ' && *byte != b'\t') || !is_utf8(comment)
 }

@@ -1,14 +1,12 @@
 //! Known crawlers: which group the vendor of each applies to it, and which one a similar name may mean.
-ghost use Rattle.std.specs.Prelude.{◌≡◌, ◌++◌, [], IfOk, OnOk, map, option_map, slice_index_or};
+ghost use Rattle.std.specs.Prelude.{◌≡◌, IfOk, OnOk, map, option_map};
 ghost use Rattle.std.specs.{List.list_any, List.position_from, Str.str_eq_ignore_ascii_case};
-ghost use Rattle.texting_robots.specs.Callers.{by_value, file_lines, label_by_value};
+ghost use Rattle.texting_robots.specs.Callers.{by_value, file_lines};
 ghost use Rattle.robots_warnings.specs.Crawlers.{crawlers, first_at_vendor, gets_other, group_at_vendor};
-ghost use Rattle.robots_warnings.specs.Crawlers.{is_given, is_known, is_meant, is_near, is_row_of, is_wrong, meant};
-ghost use Rattle.robots_warnings.specs.Crawlers.{ignores_star, most_edits, name_at_vendor, name_for, other_group};
-ghost use Rattle.robots_warnings.specs.Crawlers.{row_at, value_at_vendor, wrong_names};
-ghost use Rattle.robots_warnings.specs.Internal.{Adds, row_value};
-ghost use Rattle.robots_warnings.specs.Warnings.{agent_warning, agent_warnings, name_warnings};
-ghost use Rattle.robots_warnings.specs.Warnings.{line_name_warning, vendor_warning, vendor_warnings, warned_of_name};
+ghost use Rattle.robots_warnings.specs.Crawlers.{ignores_star, is_known, is_meant, is_near, is_row_of, meant};
+ghost use Rattle.robots_warnings.specs.Crawlers.{most_edits, name_at_vendor, name_for, other_group};
+ghost use Rattle.robots_warnings.specs.Crawlers.{value_at_vendor, wrong_names};
+ghost use Rattle.robots_warnings.specs.Internal.{Tells.AddsStyle, row_value};
 
 use crate::file::first;
 use crate::table::Cause;
@@ -132,9 +130,7 @@ pub fn crawlers() -> &'static [Crawler]
     &CRAWLERS
 }
 
-fn row_in(rows: &'static [Crawler], number: usize) -> Crawler
-    ensures { row_value result ≡ slice_index_or (map row_value rows.now) number ([], []) }
-{
+fn row_in(rows: &'static [Crawler], number: usize) -> Crawler {
     match rows.get(number) {
         Some(row) => *row,
         None => ("", ""),
@@ -142,15 +138,11 @@ fn row_in(rows: &'static [Crawler], number: usize) -> Crawler
 }
 
 /// The crawler with this index.
-pub fn row_at(number: usize) -> Crawler
-    ensures { row_value result ≡ row_at number }
-{
+pub fn row_at(number: usize) -> Crawler {
     row_in(crawlers(), number)
 }
 
-pub(crate) fn is_given(agents: &[&str], name: &str) -> bool
-    ensures { result ≡ is_given (map (λ agent. agent.now) agents.now) name.now }
-{
+pub(crate) fn is_given(agents: &[&str], name: &str) -> bool {
     agents.iter().any(|agent| name.eq_ignore_ascii_case(agent))
 }
 
@@ -332,9 +324,7 @@ pub fn meant(alloc: Global, value: &[u8]) -> Result<Option<usize>, AllocError>
 }
 
 /// Whether no crawler has the name, and it is known which one is meant.
-pub fn is_wrong(name: &[u8]) -> bool
-    ensures { result ≡ is_wrong name.now }
-{
+pub fn is_wrong(name: &[u8]) -> bool {
     name_for(wrong_names(), name).is_some()
 }
 
@@ -345,8 +335,7 @@ fn warn_of_name<'a>(
     about: Option<&'a str>,
     name: &[u8],
 ) -> Result<(), AllocError>
-    ensures { OnOk result (Adds found.old.items found.new.items
-        (warned_of_name line (option_map (λ name. name.now) about.entry) name.now)) }
+    ensures { OnOk result (AddsStyle found.old.items found.new.items) }
 {
     let Some(crawler) = meant(alloc, name)? else {
         return Ok(());
@@ -364,62 +353,6 @@ fn warn_of_name<'a>(
     Ok(())
 }
 
-fn warn_of_line_name(
-    alloc: Global,
-    found: &mut Found<'_>,
-    number: usize,
-    line: Line<'_>,
-) -> Result<(), AllocError>
-    ensures { OnOk result (Adds found.old.items found.new.items (line_name_warning number (by_value line.entry))) }
-{
-    match line {
-        Line::UserAgent(name) => warn_of_name(alloc, found, Some(number), None, name),
-        _ => Ok(()),
-    }
-}
-
-fn warn_of_names(
-    alloc: Global,
-    found: &mut Found<'_>,
-    labels: &[LabeledLine<'_>],
-) -> Result<(), AllocError>
-    ensures { OnOk result (Adds found.old.items found.new.items (name_warnings (map label_by_value labels.now))) }
-{
-    for labeled in labels {
-        warn_of_line_name(alloc, found, labeled.number, labeled.line)?;
-    }
-    Ok(())
-}
-
-fn warn_of_agent<'a>(
-    alloc: Global,
-    found: &mut Found<'a>,
-    site: &Site,
-    agent: &'a str,
-) -> Result<(), AllocError>
-    ensures { OnOk result (Adds found.old.items found.new.items (agent_warning (file_lines site.now) agent.now)) }
-{
-    if site.is_named(agent) {
-        return Ok(());
-    }
-    warn_of_name(alloc, found, None, Some(agent), agent.as_bytes())
-}
-
-fn warn_of_agents<'a>(
-    alloc: Global,
-    found: &mut Found<'a>,
-    site: &Site,
-    agents: &[&'a str],
-) -> Result<(), AllocError>
-    ensures { OnOk result (Adds found.old.items found.new.items
-        (agent_warnings (file_lines site.now) (map (λ agent. agent.now) agents.now))) }
-{
-    for agent in agents {
-        warn_of_agent(alloc, found, site, agent)?;
-    }
-    Ok(())
-}
-
 pub(crate) fn warn_of_all_names<'a>(
     alloc: Global,
     found: &mut Found<'a>,
@@ -427,28 +360,32 @@ pub(crate) fn warn_of_all_names<'a>(
     agents: &[&'a str],
     labels: &[LabeledLine<'_>],
 ) -> Result<(), AllocError>
-    ensures { OnOk result (Adds found.old.items found.new.items (name_warnings (map label_by_value labels.now)
-        ++ agent_warnings (file_lines site.now) (map (λ agent. agent.now) agents.now))) }
+    ensures { OnOk result (AddsStyle found.old.items found.new.items) }
 {
-    warn_of_names(alloc, found, labels)?;
-    warn_of_agents(alloc, found, site, agents)
+    for labeled in labels {
+        let Line::UserAgent(name) = labeled.line else {
+            continue;
+        };
+        warn_of_name(alloc, found, Some(labeled.number), None, name)?;
+    }
+    for agent in agents {
+        if site.is_named(agent) {
+            continue;
+        }
+        warn_of_name(alloc, found, None, Some(agent), agent.as_bytes())?;
+    }
+    Ok(())
 }
 
 fn warn_of_vendor(
     found: &mut Found<'_>,
-    all_groups: bool,
-    site: &Site,
-    agents: &[&str],
+    is_named: bool,
     number: usize,
     crawler: &Crawler,
 ) -> Result<(), AllocError>
-    ensures { OnOk result (Adds found.old.items found.new.items
-        (vendor_warning all_groups (map (λ agent. agent.now) agents.now) (file_lines site.now) number (row_value crawler.now))) }
+    ensures { OnOk result (AddsStyle found.old.items found.new.items) }
 {
     let (name, group) = *crawler;
-    if !is_given(agents, name) || !gets_other(site, name, group) {
-        return Ok(());
-    }
     let (cause, detail) = if group.is_empty() {
         (Cause::IgnoresStar, None)
     } else {
@@ -457,12 +394,14 @@ fn warn_of_vendor(
     found.push(Warning {
         line: None,
         cause,
-        about: if all_groups { Some(name) } else { None },
+        about: if is_named { Some(name) } else { None },
         detail,
     })?;
     Ok(())
 }
 
+/// About the crawlers among these to which their vendor applies another group; with their names if there may
+/// be several.
 pub(crate) fn warn_of_vendors(
     found: &mut Found<'_>,
     all_groups: bool,
@@ -470,11 +409,13 @@ pub(crate) fn warn_of_vendors(
     agents: &[&str],
     rows: &[Crawler],
 ) -> Result<(), AllocError>
-    ensures { OnOk result (Adds found.old.items found.new.items
-        (vendor_warnings all_groups (map (λ agent. agent.now) agents.now) (file_lines site.now) 0 (map row_value rows.now))) }
+    ensures { OnOk result (AddsStyle found.old.items found.new.items) }
 {
     for (number, crawler) in rows.iter().enumerate() {
-        warn_of_vendor(found, all_groups, site, agents, number, crawler)?;
+        if !is_given(agents, crawler.0) || !gets_other(site, crawler.0, crawler.1) {
+            continue;
+        }
+        warn_of_vendor(found, all_groups, number, crawler)?;
     }
     Ok(())
 }

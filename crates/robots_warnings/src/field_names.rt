@@ -1,13 +1,9 @@
 //! Field names: which one was probably intended in an ignored line, and what is unusual in a directive.
-ghost use Rattle.std.specs.Prelude.{◌≡◌, ◌≤◌, IfOk, length, map};
-ghost use Rattle.std.specs.List.{list_all, list_any, position_or_len};
-ghost use Rattle.robots_warnings.specs.FieldNames.{after_seam, begins_field, begins_inner_field, begins_with};
-ghost use Rattle.robots_warnings.specs.FieldNames.{directive_in, first_that, first_word, goes_on, has_host};
-ghost use Rattle.robots_warnings.specs.FieldNames.{is_accepted, is_any_accepted, is_either, is_host_byte};
-ghost use Rattle.robots_warnings.specs.FieldNames.{is_misspelled, is_name, is_space_or_tab, is_without_colon};
-ghost use Rattle.robots_warnings.specs.FieldNames.{may_either_mean, may_mean, meant_by, name_in, trim_blanks_end};
-ghost use Rattle.robots_warnings.specs.FieldNames.{trim_blanks_start, name_before};
-ghost use Rattle.robots_warnings.specs.Internal.{name_value};
+ghost use Rattle.std.specs.Prelude.{◌≡◌, ◌≤◌, IfOk, IfSome, IsTrue, length};
+ghost use Rattle.std.specs.List.{list_all, position_or_len};
+ghost use Rattle.robots_warnings.specs.{Means.is_style, FieldNames.is_space_or_tab};
+ghost use Rattle.robots_warnings.specs.FieldNames.{trim_blanks_end};
+ghost use Rattle.robots_warnings.specs.FieldNames.{trim_blanks_start};
 
 use crate::file::first;
 use crate::rules::{after_byte, before_byte, has, somewhere};
@@ -81,15 +77,11 @@ pub(crate) fn trim_blanks_end<'a>(text: &'a [u8]) -> &'a [u8]
     rest
 }
 
-fn name_before<'a>(byte: u8, body: &'a [u8]) -> &'a [u8]
-    ensures { result.now ≡ name_before byte body.now }
-{
+fn name_before<'a>(byte: u8, body: &'a [u8]) -> &'a [u8] {
     trim_blanks_end(trim_blanks_start(before_byte(byte, body)))
 }
 
-fn name_in<'a>(body: &'a [u8]) -> &'a [u8]
-    ensures { result.now ≡ name_in body.now }
-{
+fn name_in<'a>(body: &'a [u8]) -> &'a [u8] {
     name_before(b':', body)
 }
 
@@ -102,29 +94,20 @@ fn word_len(text: &[u8]) -> usize
         .count()
 }
 
-fn first_word<'a>(body: &'a [u8]) -> &'a [u8]
-    ensures { result.now ≡ first_word body.now }
-{
+fn first_word<'a>(body: &'a [u8]) -> &'a [u8] {
     let text = trim_blanks_start(body);
     &text[..word_len(text)]
 }
 
-fn is_name(name: &str, word: &[u8]) -> bool
-    ensures { result ≡ is_name name.now word.now }
-{
+fn is_name(name: &str, word: &[u8]) -> bool {
     word.eq_ignore_ascii_case(name.as_bytes())
 }
 
-#[tactic(auto, unfolding(crate::specs::FieldNames::begins_with))]
-pub(crate) fn begins_with(name: &str, word: &[u8]) -> bool
-    ensures { result ≡ begins_with name.now word.now }
-{
+pub(crate) fn begins_with(name: &str, word: &[u8]) -> bool {
     is_name(name, first(name.len(), word))
 }
 
-fn is_accepted(kind: Kind, word: &[u8]) -> bool
-    ensures { result ≡ is_accepted kind word.now }
-{
+fn is_accepted(kind: Kind, word: &[u8]) -> bool {
     for spelling in field_names(kind) {
         if is_name(spelling, word) {
             return true;
@@ -135,9 +118,7 @@ fn is_accepted(kind: Kind, word: &[u8]) -> bool
 
 /// Whether two or more bytes of a product token follow the name, and the first is a letter, or after `allow`
 /// and `disallow` also `-` or `_`.
-fn goes_on(name: &str, word: &[u8]) -> bool
-    ensures { result ≡ goes_on name.now word.now }
-{
+fn goes_on(name: &str, word: &[u8]) -> bool {
     match word.get(name.len()) {
         Some(byte) => is_token_byte(*byte)
             && matches!(word.get(name.len() + 1), Some(next) if is_token_byte(*next))
@@ -146,9 +127,7 @@ fn goes_on(name: &str, word: &[u8]) -> bool
     }
 }
 
-fn may_mean(alloc: Global, name: &str, word: &[u8]) -> Result<bool, AllocError>
-    ensures { IfOk result (λ answer. answer ≡ may_mean name.now word.now) }
-{
+fn may_mean(alloc: Global, name: &str, word: &[u8]) -> Result<bool, AllocError> {
     if begins_with(name, word) {
         return Ok(!goes_on(name, word));
     }
@@ -159,9 +138,9 @@ fn may_mean(alloc: Global, name: &str, word: &[u8]) -> Result<bool, AllocError>
     Ok(generic_levenshtein(alloc, &lowered, name.as_bytes())? <= 2)
 }
 
-#[tactic(auto, unfolding(crate::specs::FieldNames::is_either))]
 fn first_in(names: &[(&str, Cause)], name: &[u8], word: &[u8]) -> Option<Cause>
-    ensures { result ≡ first_that (is_either name.now word.now) (map name_value names.now) }
+    requires { IsTrue (list_all (λ row. is_style row.1) names.now) }
+    ensures { IfSome result (λ cause. IsTrue (is_style cause)) }
 {
     for (known, cause) in names {
         if is_name(known, name) || is_name(known, word) {
@@ -171,17 +150,25 @@ fn first_in(names: &[(&str, Cause)], name: &[u8], word: &[u8]) -> Option<Cause>
     None
 }
 
-#[tactic(auto, unfolding(crate::specs::FieldNames::may_either_mean))]
-fn may_either_mean(alloc: Global, name: &[u8], word: &[u8], known: &str) -> Result<bool, AllocError>
-    ensures { IfOk result (λ answer. answer ≡ may_either_mean name.now word.now known.now) }
-{
+fn may_either_mean(
+    alloc: Global,
+    name: &[u8],
+    word: &[u8],
+    known: &str,
+) -> Result<bool, AllocError> {
     Ok(may_mean(alloc, known, name)? || may_mean(alloc, known, word)?)
 }
 
-fn directive_in(alloc: Global, name: &[u8], word: &[u8]) -> Result<Option<Cause>, AllocError>
-    ensures { IfOk result (λ cause. cause ≡ directive_in name.now word.now) }
+fn directive_in(
+    alloc: Global,
+    names: &[(&str, Cause)],
+    name: &[u8],
+    word: &[u8],
+) -> Result<Option<Cause>, AllocError>
+    requires { IsTrue (list_all (λ row. is_style row.1) names.now) }
+    ensures { IfOk result (λ found. IfSome found (λ cause. IsTrue (is_style cause))) }
 {
-    for (known, cause) in &DIRECTIVES {
+    for (known, cause) in names {
         if may_either_mean(alloc, name, word, known)? {
             return Ok(Some(*cause));
         }
@@ -189,27 +176,16 @@ fn directive_in(alloc: Global, name: &[u8], word: &[u8]) -> Result<Option<Cause>
     Ok(None)
 }
 
-fn is_host_byte(byte: u8) -> bool
-    ensures { result ≡ is_host_byte byte }
-{
-    byte.is_ascii_alphanumeric() || matches!(byte, b'-' | b'.' | b':')
-}
-
-fn are_host_bytes(text: &[u8]) -> bool
-    ensures { result ≡ list_all is_host_byte text.now }
-{
-    text.iter().all(|byte| is_host_byte(*byte))
-}
-
-fn has_host(body: &[u8]) -> bool
-    ensures { result ≡ has_host body.now }
-{
+fn has_host(body: &[u8]) -> bool {
     let value = trim_blanks_end(trim_blanks_start(after_byte(b':', before_byte(b'#', body))));
-    begins_as_url(value) || (!value.is_empty() && are_host_bytes(value))
+    begins_as_url(value)
+        || (!value.is_empty()
+            && value.iter().all(|byte| byte.is_ascii_alphanumeric()
+                || matches!(*byte, b'-' | b'.' | b':')))
 }
 
 pub(crate) fn meant_by(alloc: Global, body: &[u8]) -> Result<Cause, AllocError>
-    ensures { IfOk result (λ cause. cause ≡ meant_by body.now) }
+    ensures { IfOk result (λ cause. IsTrue (is_style cause)) }
 {
     let (name, word) = (name_in(body), first_word(body));
     if somewhere(before_byte(b':', word), begins_unseen) {
@@ -230,39 +206,22 @@ pub(crate) fn meant_by(alloc: Global, body: &[u8]) -> Result<Cause, AllocError>
     if let Some(cause) = first_in(&OTHER_FORMS, name, name) {
         return Ok(cause);
     }
-    match directive_in(alloc, name, word)? {
+    match directive_in(alloc, &DIRECTIVES, name, word)? {
         Some(cause) => Ok(cause),
         None => Ok(Cause::UnrecognizedLine),
     }
 }
 
-fn begins_with_any(names: &[(&str, Cause)], text: &[u8]) -> bool
-    ensures { result ≡ list_any (λ row. begins_with row.0.now text.now) names.now }
-{
-    names.iter().any(|row| begins_with(row.0, text))
+pub(crate) fn is_misspelled(body: &[u8]) -> bool {
+    let text = trim_blanks_start(body);
+    !DIRECTIVES.iter().any(|row| begins_with(row.0, text))
 }
 
-pub(crate) fn is_misspelled(body: &[u8]) -> bool
-    ensures { result ≡ is_misspelled body.now }
-{
-    !begins_with_any(&DIRECTIVES, trim_blanks_start(body))
-}
-
-fn begins_field(name: &str, text: &[u8]) -> bool
-    ensures { result ≡ begins_field name.now text.now }
-{
+fn begins_field(name: &str, text: &[u8]) -> bool {
     begins_with(name, text) && text.get(name.len()) == Some(&b':')
 }
 
-fn begins_one_field(names: &[(&str, Cause)], text: &[u8]) -> bool
-    ensures { result ≡ list_any (λ row. begins_field row.0.now text.now) names.now }
-{
-    names.iter().any(|row| begins_field(row.0, text))
-}
-
-fn after_seam<'a>(text: &'a [u8]) -> &'a [u8]
-    ensures { result.now ≡ after_seam text.now }
-{
+fn after_seam<'a>(text: &'a [u8]) -> &'a [u8] {
     match text {
         [b' ' | b'\t' | b'*', after @ ..] => after,
         [b'\\', b'n' | b'r', after @ ..] => after,
@@ -273,20 +232,15 @@ fn after_seam<'a>(text: &'a [u8]) -> &'a [u8]
     }
 }
 
-pub(crate) fn begins_inner_field(text: &[u8]) -> bool
-    ensures { result ≡ begins_inner_field text.now }
-{
-    begins_field("user-agent", text) || begins_one_field(&DIRECTIVES, after_seam(text))
+pub(crate) fn begins_inner_field(text: &[u8]) -> bool {
+    let after = after_seam(text);
+    begins_field("user-agent", text) || DIRECTIVES.iter().any(|row| begins_field(row.0, after))
 }
 
-fn is_any_accepted(word: &[u8]) -> bool
-    ensures { result ≡ is_any_accepted word.now }
-{
+fn is_any_accepted(word: &[u8]) -> bool {
     KINDS.iter().any(|kind| is_accepted(*kind, word))
 }
 
-pub(crate) fn is_without_colon(body: &[u8]) -> bool
-    ensures { result ≡ is_without_colon body.now }
-{
+pub(crate) fn is_without_colon(body: &[u8]) -> bool {
     !(body.contains(&b':') && is_any_accepted(name_in(body)))
 }

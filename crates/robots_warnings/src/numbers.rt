@@ -1,5 +1,5 @@
 //! Line numbers, collected from the lines for which a condition holds.
-ghost use Rattle.std.specs.Prelude.{◌≡◌, ◌==◌, ◌&&◌, ◌||◌, ◌++◌, ◌∷◌, [], ℕ, OnOk, if◌then◌else◌};
+ghost use Rattle.std.specs.Prelude.{[], ◌≡◌, ◌==◌, ◌&&◌, ◌||◌, ◌++◌, ◌∷◌, ℕ, OnOk, if◌then◌else◌};
 ghost use Rattle.std.specs.{BTreeSet.contains, Ordering.nat_cmp};
 
 use std::alloc::AllocError;

@@ -1,12 +1,8 @@
 //! Conditions on the position of a line.
-ghost use Rattle.std.specs.Prelude.{◌≡◌, false, map, option_map};
-ghost use Rattle.std.specs.{Str.str_eq_ignore_ascii_case};
-ghost use Rattle.texting_robots.specs.{Callers.by_value, Callers.label_by_value, Line.delay_in};
-ghost use Rattle.robots_warnings.specs.{File.lines_of, Positions.are_joined};
-ghost use Rattle.robots_warnings.specs.Positions.{begin_with_name, begin_with_rules, is_bare, is_empty_group};
-ghost use Rattle.robots_warnings.specs.Positions.{begins_ignoring, is_ignored};
-ghost use Rattle.robots_warnings.specs.Positions.{begin_bare, first_delay, is_other_delay, preceding_with};
-ghost use Rattle.robots_warnings.specs.Positions.{is_split, last_group, name_star, reach_name, sole_name};
+ghost use Rattle.std.specs.Prelude.{◌≡◌, map};
+ghost use Rattle.texting_robots.specs.Callers.{by_value, label_by_value};
+ghost use Rattle.robots_warnings.specs.{File.lines_of, Positions.first_delay, Positions.is_other_delay};
+ghost use Rattle.robots_warnings.specs.Positions.{name_star, preceding_with};
 
 use crate::facts::has_text;
 use crate::field_names::begins_with;
@@ -55,10 +51,7 @@ pub(crate) fn sole_name<'a>(
     preceding: Preceding,
     name: Option<&'a [u8]>,
     line: Line<'a>,
-) -> Option<&'a [u8]>
-    ensures { option_map (λ name. name.now) result
-        ≡ sole_name preceding (option_map (λ name. name.now) name.entry) (by_value line.entry) }
-{
+) -> Option<&'a [u8]> {
     match line {
         Line::UserAgent(value) if preceding == Preceding::Other => Some(value),
         Line::UserAgent(_) => None,
@@ -66,10 +59,7 @@ pub(crate) fn sole_name<'a>(
     }
 }
 
-#[tactic(auto, using(crate::proofs::StepLemmas::last_from))]
-pub(crate) fn last_group(labels: &[LabeledLine<'_>]) -> Option<usize>
-    ensures { result ≡ last_group (map label_by_value labels.now) }
-{
+pub(crate) fn last_group(labels: &[LabeledLine<'_>]) -> Option<usize> {
     let mut last = None;
     for labeled in labels {
         match labeled.line {
@@ -84,25 +74,19 @@ pub(crate) fn last_group(labels: &[LabeledLine<'_>]) -> Option<usize>
 /// doesn't support them, and yandex.com/support/webmaster/robot-workings/crawl-delay.html says so since 2018.
 pub(crate) const IGNORE_DELAYS: [&str; 2] = ["google", "yandex"];
 
-fn begins_ignoring(text: &[u8]) -> bool
-    ensures { result ≡ begins_ignoring text.now }
-{
+fn begins_ignoring(text: &[u8]) -> bool {
     IGNORE_DELAYS.iter().any(|part| begins_with(part, text))
 }
 
 /// `name` is the only name of the group.
-pub fn is_ignored(name: Option<&[u8]>, line: Line<'_>) -> bool
-    ensures { result ≡ is_ignored (option_map (λ name. name.now) name.entry) (delay_in (by_value line.entry)) }
-{
+pub fn is_ignored(name: Option<&[u8]>, line: Line<'_>) -> bool {
     match (name, line) {
         (Some(name), Line::CrawlDelay(Some(_))) => somewhere(name, begins_ignoring),
         _ => false,
     }
 }
 
-pub(crate) fn is_empty_group(last: Option<usize>, labeled: &LabeledLine<'_>) -> bool
-    ensures { result ≡ is_empty_group last (label_by_value labeled.now) }
-{
+pub(crate) fn is_empty_group(last: Option<usize>, labeled: &LabeledLine<'_>) -> bool {
     match labeled.line {
         Line::UserAgent(_) => match last {
             Some(last) => last < labeled.number,
@@ -112,37 +96,25 @@ pub(crate) fn is_empty_group(last: Option<usize>, labeled: &LabeledLine<'_>) -> 
     }
 }
 
-fn begin_with_rules(labels: &[LabeledLine<'_>]) -> bool
-    ensures { result ≡ begin_with_rules false (lines_of (map label_by_value labels.now)) }
-{
-    let (mut begun, mut rest) = (false, labels);
-    while let [labeled, after @ ..] = rest {
+fn begin_with_rules(labels: &[LabeledLine<'_>]) -> bool {
+    let mut begun = false;
+    for labeled in labels {
         match labeled.line {
             Line::UserAgent(_) if begun => return false,
             Line::Allow(_) | Line::Disallow(_) => return true,
             Line::CrawlDelay(_) => begun = true,
             _ => {}
         }
-        rest = after;
     }
     false
 }
 
-fn is_same_name(one: &[u8], other: &[u8]) -> bool
-    ensures { result ≡ str_eq_ignore_ascii_case one.now other.now }
-{
-    one.eq_ignore_ascii_case(other)
-}
-
-fn begin_with_name(name: &[u8], labels: &[LabeledLine<'_>]) -> bool
-    ensures { result ≡ begin_with_name name.now (lines_of (map label_by_value labels.now)) }
-{
-    let mut rest = labels;
-    while let [labeled, after @ ..] = rest {
+fn begin_with_name(name: &[u8], labels: &[LabeledLine<'_>]) -> bool {
+    for labeled in labels {
         match labeled.line {
-            Line::UserAgent(value) if is_same_name(value, name) => return true,
+            Line::UserAgent(value) if value.eq_ignore_ascii_case(name) => return true,
             Line::Allow(_) | Line::Disallow(_) | Line::CrawlDelay(_) => return false,
-            _ => rest = after,
+            _ => {}
         }
     }
     false
@@ -162,44 +134,35 @@ pub(crate) fn name_star(labels: &[LabeledLine<'_>]) -> bool
     false
 }
 
-fn is_bare(line: Line<'_>) -> bool
-    ensures { result ≡ is_bare (by_value line.entry) }
-{
+fn is_bare(line: Line<'_>) -> bool {
     match line {
         Line::Raw(body) => is_blank(body) && !has(b'#', body),
         _ => false,
     }
 }
 
-fn begin_bare(labels: &[LabeledLine<'_>]) -> bool
-    ensures { result ≡ begin_bare (lines_of (map label_by_value labels.now)) }
-{
+fn begin_bare(labels: &[LabeledLine<'_>]) -> bool {
     match labels {
         [labeled, ..] => is_bare(labeled.line),
         [] => false,
     }
 }
 
-fn reach_name(labels: &[LabeledLine<'_>]) -> bool
-    ensures { result ≡ reach_name false false (lines_of (map label_by_value labels.now)) }
-{
-    let (mut other, mut bare, mut rest) = (false, false, labels);
-    while let [labeled, after @ ..] = rest {
+fn reach_name(labels: &[LabeledLine<'_>]) -> bool {
+    let (mut other, mut bare) = (false, false);
+    for (index, labeled) in labels.iter().enumerate() {
         match labeled.line {
-            Line::UserAgent(_) => return other || (bare && !begin_bare(after)),
+            Line::UserAgent(_) => return other || (bare && !begin_bare(&labels[index + 1..])),
             Line::Allow(_) | Line::Disallow(_) | Line::CrawlDelay(_) => return false,
             _ => {}
         }
         other |= has_text(labeled.line);
         bare |= is_bare(labeled.line);
-        rest = after;
     }
     false
 }
 
-pub(crate) fn are_joined(labels: &[LabeledLine<'_>]) -> bool
-    ensures { result ≡ are_joined (lines_of (map label_by_value labels.now)) }
-{
+pub(crate) fn are_joined(labels: &[LabeledLine<'_>]) -> bool {
     match labels {
         [labeled, after @ ..] => matches!(labeled.line, Line::UserAgent(_)) && reach_name(after),
         [] => false,
@@ -212,10 +175,7 @@ pub(crate) fn is_split(
     above: Option<&[u8]>,
     labeled: &LabeledLine<'_>,
     from_here: &[LabeledLine<'_>],
-) -> bool
-    ensures { result ≡ is_split preceding (option_map (λ name. name.now) above.entry) (label_by_value labeled.now)
-        (lines_of (map label_by_value from_here.now)) }
-{
+) -> bool {
     matches!(labeled.line, Line::UserAgent(_))
         && preceding == Preceding::Delay
         && begin_with_rules(from_here)

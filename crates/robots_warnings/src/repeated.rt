@@ -1,5 +1,5 @@
 //! Rules that repeat a rule above them in their group.
-ghost use Rattle.std.specs.Prelude.{◌≡◌, IfOk, [], map};
+ghost use Rattle.std.specs.Prelude.{[], ◌≡◌, IfOk, map};
 ghost use Rattle.texting_robots.specs.Callers.{by_value, label_by_value};
 ghost use Rattle.robots_warnings.specs.Internal.Values.{AddsLine, AddsRule, AddsValue, HasSeen};
 ghost use Rattle.robots_warnings.specs.Repeated.{is_checked, repeated};

@@ -1,5 +1,5 @@
 //! Groups of crawlers that have none of the Disallow rules of `*`.
-ghost use Rattle.std.specs.Prelude.{◌≡◌, ◌||◌, ◌&&◌, Bool, IfOk, List, OnOk, bytes_eq, count_by, map, not, ℕ};
+ghost use Rattle.std.specs.Prelude.{All, Contains, ◌≡◌, ◌||◌, ◌&&◌, Bool, IfOk, List, OnOk, bytes_eq, count_by, map, not, ℕ};
 ghost use Rattle.std.specs.{BTreeSet.contains, HashSet.contains_text, List.list_any};
 ghost use Rattle.std.specs.{Str.str_to_ascii_lowercase};
 ghost use Rattle.texting_robots.specs.Callers.{LineValue, by_value, file_lines, label_by_value};
@@ -8,7 +8,7 @@ ghost use Rattle.robots_warnings.specs.Closed.{denies, is_lacking, is_partial, i
 ghost use Rattle.robots_warnings.specs.Closed.{replacing, star_rules};
 ghost use Rattle.robots_warnings.specs.{File.lines_of, Positions.begin_with_one};
 ghost use Rattle.robots_warnings.specs.Internal.Names.{Key, key_cmp};
-ghost use Rattle.robots_warnings.specs.Internal.Rules.{HasDenied, HasThose, is_kept_in, is_other_name};
+ghost use Rattle.robots_warnings.specs.Internal.Rules.{HasDenied, HasThose, is_kept_in};
 
 use crate::names::{Names, add_name};
 use crate::numbers::push_if;
@@ -180,9 +180,7 @@ fn is_replacing(
     Ok(begin_with_one(alloc, names, from_here)? && !name_star(from_here))
 }
 
-fn is_other_name(labeled: &LabeledLine<'_>) -> bool
-    ensures { result ≡ is_other_name (by_value labeled.now.line) }
-{
+fn is_other_name(labeled: &LabeledLine<'_>) -> bool {
     match labeled.line {
         Line::UserAgent(value) => value != b"*".as_slice(),
         _ => false,
@@ -190,9 +188,7 @@ fn is_other_name(labeled: &LabeledLine<'_>) -> bool
 }
 
 /// Whether a user-agent line has another name than `*`.
-fn has_other_name(labels: &[LabeledLine<'_>]) -> bool
-    ensures { result ≡ list_any (λ labeled. is_other_name (by_value labeled.line)) labels.now }
-{
+fn has_other_name(labels: &[LabeledLine<'_>]) -> bool {
     labels.iter().any(is_other_name)
 }
 
@@ -205,8 +201,8 @@ pub(crate) fn replacing(
     labels: &[LabeledLine<'_>],
 ) -> Result<Vec<usize>, AllocError>
     requires { star.now ≡ star_rules (file_lines site.now) }
-    ensures { IfOk result (λ found. found.items
-        ≡ replacing (map (λ agent. agent.now) agents.now) (file_lines site.now) (map label_by_value labels.now)) }
+    ensures { IfOk result (λ found. All (Contains (replacing (map (λ agent. agent.now) agents.now) (file_lines site.now)
+        (map label_by_value labels.now))) found.items) }
 {
     let mut found = Vec::new(alloc);
     if !has_partial(star) {

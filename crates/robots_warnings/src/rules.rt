@@ -1,13 +1,12 @@
 //! Conditions on the value of an Allow or a Disallow line.
-ghost use Rattle.std.specs.Prelude.{◌≡◌, ◌<◌, ◌≤◌, ◌==◌, ◌&&◌, ◌||◌, ℕ, Bool, List, false, length, not, true};
+ghost use Rattle.std.specs.Prelude.{◌≡◌, ◌<◌, ◌≤◌, ◌==◌, ℕ, Bool, List, length, true};
 ghost use Rattle.std.specs.Char.{digit_value, is_ascii_hexdigit};
-ghost use Rattle.std.specs.{Fn.FnReturnsAt, List.list_all, List.position_or_len, Str.byte, Str.is_utf8};
-ghost use Rattle.robots_warnings.specs.Internal.Plain.{is_plain, is_plain_byte};
-ghost use Rattle.robots_warnings.specs.Rules.{after_byte, before_byte, begins_delimiter, begins_dot_segment, begins_host, begins_quote};
-ghost use Rattle.robots_warnings.specs.Rules.{begins_lone_percent, begins_odd_escape, begins_oddly, begins_sign, begins_wildcard, from_first};
-ghost use Rattle.robots_warnings.specs.Rules.{has, has_any, has_dollar_inside, has_more_after_dollar};
-ghost use Rattle.robots_warnings.specs.Rules.{begins_question_marks, has_odd_character, has_question_marks, has_odd_start, has_quote_at_end, holds_otherwise, is_delimiter};
-ghost use Rattle.robots_warnings.specs.Rules.{is_expression, is_quoted, is_url_in_path, needs_no_escape, somewhere};
+ghost use Rattle.std.specs.{Fn.FnReturnsAt, List.position_or_len, Str.byte, Str.is_utf8};
+ghost use Rattle.robots_warnings.specs.Rules.{after_byte, before_byte};
+ghost use Rattle.robots_warnings.specs.Rules.{begins_lone_percent, begins_oddly, from_first};
+ghost use Rattle.robots_warnings.specs.Rules.{has, has_dollar_inside};
+ghost use Rattle.robots_warnings.specs.Rules.{is_delimiter};
+ghost use Rattle.robots_warnings.specs.Rules.{needs_no_escape, somewhere};
 
 use crate::urls::{as_text, begins_as_url};
 use memchr::memchr;
@@ -80,15 +79,11 @@ pub(crate) fn begins_oddly(value: &[u8]) -> bool
     !matches!(value, [] | [b'/' | b'*', ..])
 }
 
-fn has_any(bytes: &[u8], text: &[u8]) -> bool
-    ensures { result ≡ has_any bytes.now text.now }
-{
+fn has_any(bytes: &[u8], text: &[u8]) -> bool {
     text.iter().any(|byte| has(*byte, bytes))
 }
 
-pub(crate) fn holds_otherwise(value: &[u8]) -> bool
-    ensures { result ≡ holds_otherwise value.now }
-{
+pub(crate) fn holds_otherwise(value: &[u8]) -> bool {
     has_any(b"\t\\^{}", before_byte(b'?', value)) || has_any(b"\t'`", after_byte(b'?', value))
 }
 
@@ -102,87 +97,60 @@ pub(crate) fn begins_lone_percent(text: &[u8]) -> bool
     }
 }
 
-pub(crate) fn has_odd_character(value: &[u8]) -> bool
-    ensures { result ≡ has_odd_character value.now }
-{
+pub(crate) fn has_odd_character(value: &[u8]) -> bool {
     has_any(b"|\"<>`\x7F", value)
         || somewhere(value, begins_lone_percent)
         || has_any(b"\\^{}'", after_byte(b'?', value))
         || has_any(b"\\^{}'", after_byte(b'*', value))
 }
 
-fn begins_quote(text: &[u8]) -> bool
-    ensures { result ≡ begins_quote text.now }
-{
+fn begins_quote(text: &[u8]) -> bool {
     matches!(
         text,
         [0xE2, 0x80, 0x98..=0x9F, ..] | [0xC2, 0xAB | 0xBB, ..]
     )
 }
 
-pub(crate) fn has_quote_at_end(value: &[u8]) -> bool
-    ensures { result ≡ has_quote_at_end value.now }
-{
+pub(crate) fn has_quote_at_end(value: &[u8]) -> bool {
     let rest = from_first(value, begins_quote);
     !begins_quote(value) && begins_quote(rest) && matches!(rest, [0xE2, _, _] | [0xC2, _])
 }
 
-pub(crate) fn is_quoted(value: &[u8]) -> bool
-    ensures { result ≡ is_quoted value.now }
-{
+pub(crate) fn is_quoted(value: &[u8]) -> bool {
     matches!(value, [b'"', .., b'"'] | [b'\'', .., b'\'']) || begins_quote(value)
 }
 
 pub(crate) fn has_odd_start(value: &[u8]) -> bool
-    ensures { result ≡ has_odd_start value.now }
+    ensures { result ≡ true → begins_oddly value.now ≡ true }
 {
     begins_oddly(value) && !(begins_as_url(value) || is_quoted(value))
 }
 
-fn begins_host(text: &[u8]) -> bool
-    ensures { result ≡ begins_host text.now }
-{
+fn begins_host(text: &[u8]) -> bool {
     match text {
         [b'/', name @ ..] => has(b'/', name) && has(b'.', before_byte(b'/', name)),
         _ => false,
     }
 }
 
-pub(crate) fn is_url_in_path(value: &[u8]) -> bool
-    ensures { result ≡ is_url_in_path value.now }
-{
+pub(crate) fn is_url_in_path(value: &[u8]) -> bool {
     match value {
         [b'/', after @ ..] => begins_as_url(after) || begins_host(after),
         _ => false,
     }
 }
 
-fn is_plain_byte(byte: u8) -> bool
-    ensures { result ≡ is_plain_byte byte }
-{
-    byte.is_ascii_alphanumeric() || byte == b'/' || byte == b'-' || byte == b'_'
-}
-
-fn are_plain(text: &[u8]) -> bool
-    ensures { result ≡ list_all is_plain_byte text.now }
-{
-    text.iter().all(|byte| is_plain_byte(*byte))
-}
-
 /// The value is a slash, and then only letters, digits, slashes, `-` and `_`. So none of the warnings about
 /// values of rules is about it.
-pub(crate) fn is_plain(value: &[u8]) -> bool
-    ensures { result ≡ is_plain value.now }
-{
+pub(crate) fn is_plain(value: &[u8]) -> bool {
     match value {
-        [b'/', rest @ ..] => are_plain(rest),
+        [b'/', rest @ ..] => rest.iter().all(|byte| byte.is_ascii_alphanumeric()
+            || matches!(*byte, b'/' | b'-' | b'_')),
         _ => false,
     }
 }
 
-fn begins_sign(text: &[u8]) -> bool
-    ensures { result ≡ begins_sign text.now }
-{
+fn begins_sign(text: &[u8]) -> bool {
     match text {
         [b'[', _, b'-', _, ..] | [b'/' | b'(', b'.', b'*', ..] | [b'.', b'*', b'$', ..] => true,
         [b'(', b'?', ..] => true,
@@ -191,9 +159,7 @@ fn begins_sign(text: &[u8]) -> bool
     }
 }
 
-pub(crate) fn is_expression(value: &[u8]) -> bool
-    ensures { result ≡ is_expression value.now }
-{
+pub(crate) fn is_expression(value: &[u8]) -> bool {
     value.starts_with(b"^")
         || value.starts_with(b".*")
         || has(b')', after_byte(b'|', after_byte(b'(', value)))
@@ -203,15 +169,11 @@ pub(crate) fn is_expression(value: &[u8]) -> bool
         || value.ends_with(b")+")
 }
 
-fn begins_question_marks(text: &[u8]) -> bool
-    ensures { result ≡ begins_question_marks text.now }
-{
+fn begins_question_marks(text: &[u8]) -> bool {
     text.starts_with(b"??")
 }
 
-pub(crate) fn has_question_marks(value: &[u8]) -> bool
-    ensures { result ≡ has_question_marks value.now }
-{
+pub(crate) fn has_question_marks(value: &[u8]) -> bool {
     somewhere(value, begins_question_marks)
 }
 
@@ -223,9 +185,7 @@ pub(crate) fn has_dollar_inside(value: &[u8]) -> bool
         .any(|byte| !(*byte == b'*' || *byte == b'$'))
 }
 
-pub(crate) fn has_more_after_dollar(value: &[u8]) -> bool
-    ensures { result ≡ has_more_after_dollar value.now }
-{
+pub(crate) fn has_more_after_dollar(value: &[u8]) -> bool {
     !after_byte(b'$', value).is_empty() && !has_dollar_inside(value)
 }
 
@@ -253,9 +213,7 @@ pub(crate) fn hex_value(digit: u8) -> u8
     }
 }
 
-pub(crate) fn begins_odd_escape(text: &[u8]) -> bool
-    ensures { result ≡ begins_odd_escape text.now }
-{
+pub(crate) fn begins_odd_escape(text: &[u8]) -> bool {
     match text {
         [b'%', high, low, ..] if high.is_ascii_hexdigit() && low.is_ascii_hexdigit() => {
             high.is_ascii_lowercase()
@@ -266,21 +224,15 @@ pub(crate) fn begins_odd_escape(text: &[u8]) -> bool
     }
 }
 
-fn begins_wildcard(text: &[u8]) -> bool
-    ensures { result ≡ begins_wildcard text.now }
-{
+fn begins_wildcard(text: &[u8]) -> bool {
     text.starts_with(b"%2A") || text.starts_with(b"%2a") || text.starts_with(b"%24")
 }
 
-pub(crate) fn has_wildcard(value: &[u8]) -> bool
-    ensures { result ≡ somewhere begins_wildcard value.now }
-{
+pub(crate) fn has_wildcard(value: &[u8]) -> bool {
     somewhere(value, begins_wildcard)
 }
 
-pub(crate) fn begins_delimiter(text: &[u8]) -> bool
-    ensures { result ≡ begins_delimiter text.now }
-{
+pub(crate) fn begins_delimiter(text: &[u8]) -> bool {
     match text {
         [b'%', high, low, ..] if high.is_ascii_hexdigit() && low.is_ascii_hexdigit() => {
             is_delimiter(hex_value(*high) * 16 + hex_value(*low))
@@ -289,10 +241,7 @@ pub(crate) fn begins_delimiter(text: &[u8]) -> bool
     }
 }
 
-#[tactic(auto, using(crate::proofs::StepLemmas::no_segment))]
-fn begins_dot_segment(text: &[u8]) -> bool
-    ensures { result ≡ begins_dot_segment text.now }
-{
+fn begins_dot_segment(text: &[u8]) -> bool {
     text.starts_with(b"/.")
         && (text.starts_with(b"/./")
             || text.starts_with(b"/../")
@@ -301,8 +250,6 @@ fn begins_dot_segment(text: &[u8]) -> bool
 }
 
 /// In the path.
-pub(crate) fn has_dot_segment(value: &[u8]) -> bool
-    ensures { result ≡ somewhere begins_dot_segment (before_byte (byte "?") value.now) }
-{
+pub(crate) fn has_dot_segment(value: &[u8]) -> bool {
     somewhere(before_byte(b'?', value), begins_dot_segment)
 }

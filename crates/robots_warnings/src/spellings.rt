@@ -1,12 +1,8 @@
 //! Rules with percent escapes that a spelling doesn't have, and that their group lacks in that spelling.
-ghost use Rattle.std.specs.Prelude.{◌≡◌, ◌<◌, ◌++◌, ◌&&◌, Bool, List, IfOk, OnOk, length, map, slice_index, true};
+ghost use Rattle.std.specs.Prelude.{◌≡◌, ◌<◌, ◌++◌, IfOk, OnOk, length, slice_index, true};
 ghost use Rattle.std.specs.Char.{is_ascii_hexdigit};
-ghost use Rattle.std.specs.List.{list_any, slice_split};
-ghost use Rattle.texting_robots.specs.Callers.{LineValue, label_by_value};
-ghost use Rattle.robots_warnings.specs.File.{lines_of};
-ghost use Rattle.robots_warnings.specs.Internal.Values.{HasSeen, HasValues, has_other_line};
-ghost use Rattle.robots_warnings.specs.Spellings.{has_other_escape, is_agent_line, is_escape, is_rule_with, is_unescaped};
-ghost use Rattle.robots_warnings.specs.Spellings.{is_unpaired, is_unpaired_at, spelled, spelled_escape, unpaired, unpaired_in};
+ghost use Rattle.robots_warnings.specs.Spellings.{is_escape, is_unescaped};
+ghost use Rattle.robots_warnings.specs.Spellings.{spelled, spelled_escape};
 
 use crate::checks::is_in_scope_of;
 use crate::numbers::push_if;
@@ -37,9 +33,7 @@ fn is_unescaped(spelling: Spelling, byte: u8) -> bool
     }
 }
 
-fn has_other_escape(spelling: Spelling, value: &[u8]) -> bool
-    ensures { result ≡ has_other_escape spelling value.now }
-{
+fn has_other_escape(spelling: Spelling, value: &[u8]) -> bool {
     match spelling {
         Spelling::Standard => somewhere(value, begins_odd_escape),
         Spelling::Plain => somewhere(value, begins_delimiter),
@@ -92,10 +86,7 @@ pub fn spelled(alloc: Global, spelling: Spelling, value: &[u8]) -> Result<Vec<u8
     Ok(text)
 }
 
-#[tactic(auto, using(crate::proofs::SeenLemmas::seen_more))]
-fn seen_in<'a>(alloc: Global, group: &[LabeledLine<'a>]) -> Result<Seen<'a>, AllocError>
-    ensures { IfOk result (λ seen. HasSeen seen (lines_of (map label_by_value group.now))) }
-{
+fn seen_in<'a>(alloc: Global, group: &[LabeledLine<'a>]) -> Result<Seen<'a>, AllocError> {
     let mut seen = nothing(alloc);
     for labeled in group {
         add_rule(&mut seen, labeled.line)?;
@@ -103,10 +94,7 @@ fn seen_in<'a>(alloc: Global, group: &[LabeledLine<'a>]) -> Result<Seen<'a>, All
     Ok(seen)
 }
 
-fn has_value(values: &Values<'_>, bytes: &[u8]) -> bool
-    ensures { (is_allow : Bool) → (lines : List LineValue) → HasValues values.now is_allow lines
-        → result ≡ list_any (is_rule_with is_allow bytes.now) lines }
-{
+fn has_value(values: &Values<'_>, bytes: &[u8]) -> bool {
     values.contains(&Value { bytes })
 }
 
@@ -115,10 +103,7 @@ fn is_unpaired(
     spelling: Spelling,
     values: &Values<'_>,
     value: &[u8],
-) -> Result<bool, AllocError>
-    ensures { IfOk result (λ is. (is_allow : Bool) (lines : List LineValue) → HasValues values.now is_allow lines
-        → is ≡ is_unpaired spelling lines is_allow value.now) }
-{
+) -> Result<bool, AllocError> {
     if !has_other_escape(spelling, value) {
         return Ok(false);
     }
@@ -132,10 +117,7 @@ fn is_unpaired_at(
     all_groups: bool,
     seen: &Seen<'_>,
     labeled: &LabeledLine<'_>,
-) -> Result<bool, AllocError>
-    ensures { IfOk result (λ is. (lines : List LineValue) → HasSeen seen.now lines
-        → is ≡ is_unpaired_at spelling all_groups lines (label_by_value labeled.now)) }
-{
+) -> Result<bool, AllocError> {
     if !is_in_scope_of(all_groups, labeled.membership) {
         return Ok(false);
     }
@@ -146,21 +128,11 @@ fn is_unpaired_at(
     }
 }
 
-fn has_other_line(spelling: Spelling, labeled: &LabeledLine<'_>) -> bool
-    ensures { result ≡ has_other_line spelling (label_by_value labeled.now) }
-{
+fn has_other_line(spelling: Spelling, labeled: &LabeledLine<'_>) -> bool {
     match labeled.line {
         Line::Allow(value) | Line::Disallow(value) => has_other_escape(spelling, value),
         _ => false,
     }
-}
-
-fn has_other_lines(spelling: Spelling, group: &[LabeledLine<'_>]) -> bool
-    ensures { result ≡ list_any (λ labeled. has_other_line spelling (label_by_value labeled)) group.now }
-{
-    group
-        .iter()
-        .any(|labeled| has_other_line(spelling, labeled))
 }
 
 fn add_unpaired(
@@ -169,10 +141,11 @@ fn add_unpaired(
     spelling: Spelling,
     all_groups: bool,
     group: &[LabeledLine<'_>],
-) -> Result<(), AllocError>
-    ensures { OnOk result (found.new.items ≡ found.old.items ++ unpaired_in spelling all_groups (map label_by_value group.now)) }
-{
-    if !has_other_lines(spelling, group) {
+) -> Result<(), AllocError> {
+    if !group
+        .iter()
+        .any(|labeled| has_other_line(spelling, labeled))
+    {
         return Ok(());
     }
     let seen = seen_in(alloc, group)?;
@@ -183,19 +156,14 @@ fn add_unpaired(
     Ok(())
 }
 
-fn is_agent_line(labeled: &LabeledLine<'_>) -> bool
-    ensures { result ≡ is_agent_line (label_by_value labeled.now) }
-{
+fn is_agent_line(labeled: &LabeledLine<'_>) -> bool {
     matches!(labeled.line, Line::UserAgent(_))
 }
 
 fn groups<'a, 'b>(
     alloc: Global,
     labels: &'a [LabeledLine<'b>],
-) -> Result<Vec<&'a [LabeledLine<'b>]>, AllocError>
-    ensures { IfOk result (λ groups. map (λ group. map label_by_value group.now) groups.items
-        ≡ slice_split is_agent_line (map label_by_value labels.now)) }
-{
+) -> Result<Vec<&'a [LabeledLine<'b>]>, AllocError> {
     labels.split(is_agent_line).collect(alloc)
 }
 
@@ -204,9 +172,7 @@ pub(crate) fn unpaired(
     spelling: Spelling,
     all_groups: bool,
     labels: &[LabeledLine<'_>],
-) -> Result<Vec<usize>, AllocError>
-    ensures { IfOk result (λ found. found.items ≡ unpaired spelling all_groups (map label_by_value labels.now)) }
-{
+) -> Result<Vec<usize>, AllocError> {
     let mut found = Vec::new(alloc);
     for group in &groups(alloc, labels)? {
         add_unpaired(alloc, &mut found, spelling, all_groups, group)?;

@@ -2,11 +2,9 @@
 //! message. The conditions are in `checks` and, of warnings that compare lines or look at all of a crawler's
 //! rules, in the functions that `warnings` calls. Only `robots_audit` gives those about sitemaps that are
 //! denied, and about rules that can be deleted, which `robots_needless` finds.
-ghost use Rattle.std.specs.Prelude.{◌≡◌, ◌<◌, IfOk, bytes_eq, length, map};
-ghost use Rattle.std.specs.List.{list_any};
-ghost use Rattle.robots_warnings.specs.Internal.{IsAt, IsRowAt};
-ghost use Rattle.robots_warnings.specs.Table.{all_causes, all_levels, all_names};
-ghost use Rattle.robots_warnings.specs.Table.{example_of, is_name, level_of, name_of, text_of};
+ghost use Rattle.std.specs.Prelude.{◌≡◌, ◌<◌, length, map};
+ghost use Rattle.robots_warnings.specs.Internal.{IsRowAt};
+ghost use Rattle.robots_warnings.specs.Table.{all_causes, all_levels, all_names, level_of, name_of};
 ghost use Rattle.robots_warnings.specs.declared.table.TheConstants.{WARNINGS};
 
 use crate::rows::{COUNT, every_row};
@@ -159,41 +157,25 @@ fn row_at(rows: &'static [Row], number: usize) -> &'static Row
     &rows[number]
 }
 
-fn text_at(rows: &'static [(Cause, &'static str)], number: usize) -> &'static (Cause, &'static str)
-    requires { number < length rows.now }
-    ensures { IsAt rows.now number result.now }
-{
-    &rows[number]
+fn text_at(rows: &'static [(Cause, &'static str)], number: usize) -> &'static str {
+    match rows.get(number) {
+        Some(row) => row.1,
+        None => "",
+    }
 }
 
-fn has_name(rows: &'static [Row], name: &str) -> bool
-    ensures { result ≡ list_any (λ row. bytes_eq row.2.now name.now) rows.now }
-{
-    rows.iter().any(|row| row.2 == name)
+pub fn is_name(name: &str) -> bool {
+    rows().iter().any(|row| row.2 == name)
 }
 
-pub fn is_name(name: &str) -> bool
-    ensures { result ≡ is_name name.now }
-{
-    has_name(rows(), name)
-}
-
-fn causes_in(alloc: Global, rows: &'static [Row]) -> Result<Vec<Cause>, AllocError>
-    ensures { IfOk result (λ causes. causes.items ≡ map (λ row. row.0) rows.now) }
-{
+/// The reasons for all warnings, in the order of [`WARNINGS`].
+pub fn causes(alloc: Global) -> Result<Vec<Cause>, AllocError> {
+    let rows = rows();
     let mut causes = Vec::with_capacity(alloc, rows.len())?;
     for row in rows {
         causes.push(row.0)?;
     }
     Ok(causes)
-}
-
-/// The reasons for all warnings, in the order of [`WARNINGS`].
-#[tactic(auto, unfolding(crate::specs::Table::all_causes))]
-pub fn causes(alloc: Global) -> Result<Vec<Cause>, AllocError>
-    ensures { IfOk result (λ causes. causes.items ≡ all_causes) }
-{
-    causes_in(alloc, rows())
 }
 
 impl Cause {
@@ -217,29 +199,11 @@ impl Cause {
         self.row().2
     }
 
-    fn message_row(self) -> &'static (Cause, &'static str)
-        ensures own { result.now.0 ≡ self }
-        ensures message { result.now.1.now ≡ text_of self }
-    {
+    pub fn text(self) -> &'static str {
         text_at(messages(), self as usize)
     }
 
-    pub fn text(self) -> &'static str
-        ensures { result.now ≡ text_of self }
-    {
-        self.message_row().1
-    }
-
-    fn example_row(self) -> &'static (Cause, &'static str)
-        ensures own { result.now.0 ≡ self }
-        ensures example { result.now.1.now ≡ example_of self }
-    {
+    pub fn example(self) -> &'static str {
         text_at(examples(), self as usize)
-    }
-
-    pub fn example(self) -> &'static str
-        ensures { result.now ≡ example_of self }
-    {
-        self.example_row().1
     }
 }

@@ -1,6 +1,6 @@
 //! Match targets of URLs and paths, as crawlers ask for them, and their normal form, which RFC 9309 compares.
 ghost use Rattle.std.specs.Prelude.{◌≡◌, IfOk, string_bytes};
-ghost use Rattle.texting_robots.specs.{Address.is_web, Callers.prepared};
+ghost use Rattle.texting_robots.specs.{Address.is_web};
 ghost use Rattle.robots_warnings.specs.Targets.{after_authority, asked_target, begins_dot_segment};
 ghost use Rattle.robots_warnings.specs.Targets.{begins_path_or_query, has_dot_segment, has_odd_target, is_asked_as_written};
 ghost use Rattle.robots_warnings.specs.Targets.{normal_target, normal_text, requested_target, written_target};

@@ -1,8 +1,4 @@
 //! The texts of the warnings, in their order.
-ghost use Rattle.std.specs.Prelude.{◌≡◌, length, map};
-ghost use Rattle.robots_warnings.specs.Table.{all_causes, all_examples, all_texts};
-ghost use Rattle.robots_warnings.specs.declared.table.TheConstants.{WARNINGS};
-
 use crate::rows::{COUNT, every_row};
 use crate::table::Cause;
 
@@ -42,21 +38,11 @@ static CORRECTIONS: [(Cause, &str); COUNT] = every_row!(corrections);
 
 static CONDITIONS: [(Cause, &str); COUNT] = every_row!(conditions);
 
-#[tactic(auto, unfolding(crate::specs::Table::all_causes))]
-pub(crate) fn messages() -> &'static [(Cause, &'static str)]
-    ensures length { length result.now ≡ length WARNINGS }
-    ensures causes { map (λ row. row.0) result.now ≡ all_causes }
-    ensures texts { map (λ row. row.1.now) result.now ≡ all_texts }
-{
+pub(crate) fn messages() -> &'static [(Cause, &'static str)] {
     &MESSAGES
 }
 
-#[tactic(auto, unfolding(crate::specs::Table::all_causes))]
-pub(crate) fn examples() -> &'static [(Cause, &'static str)]
-    ensures length { length result.now ≡ length WARNINGS }
-    ensures causes { map (λ row. row.0) result.now ≡ all_causes }
-    ensures texts { map (λ row. row.1.now) result.now ≡ all_examples }
-{
+pub(crate) fn examples() -> &'static [(Cause, &'static str)] {
     &EXAMPLES
 }
 

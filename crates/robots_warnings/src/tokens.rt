@@ -1,17 +1,14 @@
 //! Conditions on the name of a crawler.
 ghost use Rattle.std.specs.Prelude.{◌≡◌, ◌≤◌, length};
-ghost use Rattle.std.specs.List.{before_first, list_all, position_or_len};
-ghost use Rattle.robots_warnings.specs.Crawlers.{begins_crawler_word, begins_names, ends_token, is_name_byte};
-ghost use Rattle.robots_warnings.specs.Crawlers.{has_space_around, is_product_token, is_token_byte};
-ghost use Rattle.robots_warnings.specs.Crawlers.{is_usual_name};
+ghost use Rattle.std.specs.List.{before_first, position_or_len};
+ghost use Rattle.robots_warnings.specs.Crawlers.{ends_token};
+ghost use Rattle.robots_warnings.specs.Crawlers.{is_token_byte};
 
 use crate::rules::somewhere;
 use crate::urls::begins_in_any_case;
 
 /// White space at the start or the end.
-pub fn has_space_around(text: &str) -> bool
-    ensures { result ≡ has_space_around text.now }
-{
+pub fn has_space_around(text: &str) -> bool {
     text.trim() != text
 }
 
@@ -19,12 +16,6 @@ pub(crate) fn is_token_byte(byte: u8) -> bool
     ensures { result ≡ is_token_byte byte }
 {
     byte.is_ascii_alphabetic() || byte == b'_' || byte == b'-'
-}
-
-fn are_token_bytes(bytes: &[u8]) -> bool
-    ensures { result ≡ list_all is_token_byte bytes.now }
-{
-    bytes.iter().all(|byte| is_token_byte(*byte))
 }
 
 fn token_len(value: &[u8]) -> usize
@@ -43,35 +34,25 @@ pub(crate) fn token_front(value: &[u8]) -> &[u8]
     &value[..token_len(value)]
 }
 
-pub(crate) fn is_product_token(value: &[u8]) -> bool
-    ensures { result ≡ is_product_token value.now }
-{
-    value == b"*".as_slice() || (!value.is_empty() && are_token_bytes(value))
+pub(crate) fn is_product_token(value: &[u8]) -> bool {
+    value == b"*".as_slice() || (!value.is_empty() && value.iter().all(|byte| is_token_byte(*byte)))
 }
 
-fn is_name_byte(byte: u8) -> bool
-    ensures { result ≡ is_name_byte byte }
-{
+fn is_name_byte(byte: u8) -> bool {
     is_token_byte(byte) || byte.is_ascii_digit() || byte == b'.' || byte == b' '
 }
 
-pub fn are_name_bytes(bytes: &[u8]) -> bool
-    ensures { result ≡ list_all is_name_byte bytes.now }
-{
+pub fn are_name_bytes(bytes: &[u8]) -> bool {
     bytes.iter().all(|byte| is_name_byte(*byte))
 }
 
-fn begins_crawler_word(text: &[u8]) -> bool
-    ensures { result ≡ begins_crawler_word text.now }
-{
+fn begins_crawler_word(text: &[u8]) -> bool {
     begins_in_any_case(b"bot", text)
         || begins_in_any_case(b"crawler", text)
         || begins_in_any_case(b"spider", text)
 }
 
-fn begins_names(text: &[u8]) -> bool
-    ensures { result ≡ begins_names text.now }
-{
+fn begins_names(text: &[u8]) -> bool {
     match text {
         [_, _, _, _, rest @ ..] => {
             begins_in_any_case(b"bot ", text)
@@ -82,9 +63,7 @@ fn begins_names(text: &[u8]) -> bool
     }
 }
 
-pub(crate) fn is_usual_name(value: &[u8]) -> bool
-    ensures { result ≡ is_usual_name value.now }
-{
+pub(crate) fn is_usual_name(value: &[u8]) -> bool {
     let name = match value {
         [name @ .., b'*'] => name,
         _ => value,

@@ -1,8 +1,8 @@
 //! Conditions on URLs and paths.
 ghost use Rattle.std.specs.Prelude.{◌≡◌, ◌&&◌, IfOk, MatchOption, false, not, true};
 ghost use Rattle.std.specs.Str.{is_utf8};
-ghost use Rattle.robots_warnings.specs.Urls.{begins_as_url, begins_in_any_case, begins_without_host};
-ghost use Rattle.robots_warnings.specs.Urls.{has_odd_host, is_absolute_url, is_local, is_unparsable};
+ghost use Rattle.robots_warnings.specs.Urls.{begins_as_url, begins_in_any_case};
+ghost use Rattle.robots_warnings.specs.Urls.{is_absolute_url, is_unparsable};
 
 use crate::file::first;
 use std::alloc::{AllocError, Global};
@@ -58,24 +58,18 @@ pub fn is_absolute_url(alloc: Global, value: &[u8]) -> Result<bool, AllocError>
     }
 }
 
-fn begins_without_host(text: &[u8]) -> bool
-    ensures { result ≡ begins_without_host text.now }
-{
+fn begins_without_host(text: &[u8]) -> bool {
     begins_in_any_case(b"http:///", text) || begins_in_any_case(b"https:///", text)
 }
 
-fn is_local(url: &Url) -> bool
-    ensures { result ≡ is_local url.now }
-{
+fn is_local(url: &Url) -> bool {
     match url.domain() {
         Some(name) => name == "localhost" || name == "undefined" || name == "null",
         None => true,
     }
 }
 
-pub(crate) fn has_odd_host(alloc: Global, value: &[u8]) -> Result<bool, AllocError>
-    ensures { IfOk result (λ answer. answer ≡ has_odd_host value.now) }
-{
+pub(crate) fn has_odd_host(alloc: Global, value: &[u8]) -> Result<bool, AllocError> {
     let Some(text) = as_text(value) else {
         return Ok(false);
     };

@@ -1,5 +1,5 @@
 //! Sets of the values of rules.
-ghost use Rattle.std.specs.Prelude.{◌∷◌, [], bytes_eq};
+ghost use Rattle.std.specs.Prelude.{[], ◌∷◌, bytes_eq};
 ghost use Rattle.std.proofs.Common.{rules};
 ghost use Rattle.std.specs.Cmp.Rules.{comparing, hashing};
 

@@ -1,15 +1,12 @@
 //! All warnings about a file and a request.
-ghost use Rattle.std.specs.Prelude.{◌≡◌, ◌++◌, [], IfOk, OnOk, flat_map, if◌then◌else◌, map, option_map};
+ghost use Rattle.std.specs.Prelude.{[], ◌≡◌, ℕ, All, Bool, Contains, IfOk, IsTrue, List, OnOk, Some, flat_map, map, option_map};
 ghost use Rattle.texting_robots.specs.Callers.{by_value, file_lines, label_by_value};
-ghost use Rattle.robots_warnings.specs.{Checks.directive_checks, Contents.comment_of, Contents.tail_of};
-ghost use Rattle.robots_warnings.specs.{Conflicts.is_empty_at, Spellings.unpaired, Warnings.crawler_warnings};
-ghost use Rattle.robots_warnings.specs.Checks.{content_checks, is_directive, plural_checks, raw_checks};
-ghost use Rattle.robots_warnings.specs.{Checks.rule_checks, Checks.value_checks, Rules.is_expression};
+ghost use Rattle.robots_warnings.specs.{Conflicts.is_empty_at, Contents.comment_of, Contents.tail_of};
+ghost use Rattle.robots_warnings.specs.{Facts.is_too_large, Means.Means, Means.rule_value, Means.telling, Read.IsRead};
 ghost use Rattle.robots_warnings.specs.Internal.{Adds, Rules.warnings_at};
-ghost use Rattle.robots_warnings.specs.Warnings.{file_lines_warnings, general_warnings, group_warnings};
-ghost use Rattle.robots_warnings.specs.Warnings.{line_warnings, past_limit_warnings, position_warnings};
-ghost use Rattle.robots_warnings.specs.Warnings.{repeated_warnings, sitemap_warning, url_warnings, warned};
-ghost use Rattle.robots_warnings.specs.Warnings.{warned_at, warned_beside, warnings};
+ghost use Rattle.robots_warnings.specs.Internal.Tells.{AddsStyle, IsOtherDelay, IsSoOf, Tells, are_so_of};
+ghost use Rattle.robots_warnings.specs.Warnings.{crawler_warnings, url_warnings, warned};
+ghost use Rattle.robots_warnings.specs.Warnings.{warned_at, warned_beside};
 
 use crate::checks::{
     Check, content_checks, field_checks, file_checks, form_checks, is_in_scope_of, plural_checks,
@@ -25,7 +22,9 @@ use crate::field_names::{is_without_colon, meant_by};
 use crate::file::is_blank;
 use crate::names_past_limit::names_past_limit;
 use crate::own_rules::own_rules;
-use crate::positions::{Preceding, first_delay, last_group, preceding_with, sole_name};
+use crate::positions::{
+    Preceding, first_delay, is_other_delay, last_group, preceding_with, sole_name,
+};
 use crate::read::FileRead;
 use crate::repeated::repeated;
 use crate::replaced::{disallow_count, replacing};
@@ -96,45 +95,33 @@ fn warn_of_urls<'a>(
     Ok(())
 }
 
-fn warn_in_general<'a>(
-    alloc: Global,
-    found: &mut Found<'a>,
-    agents: &[&'a str],
-    urls: &[&'a str],
-    read: &FileRead<'_>,
-) -> Result<(), AllocError>
-    ensures { OnOk result (Adds found.old.items found.new.items
-        (general_warnings read.now.facts (map (λ agent. agent.now) agents.now) (map (λ url. url.now) urls.now)
-        (file_lines read.now.site) (map label_by_value read.now.labels.items))) }
-{
-    warn(found, None, None, &file_checks(read.facts))?;
-    warn_of_closed(alloc, found, agents, read)?;
-    warn_of_urls(alloc, found, urls)
-}
-
-fn warn_of_content_of_rule(
+/// About one line; what the checks that hold say of it is so.
+fn warn_of(
     found: &mut Found<'_>,
-    line: Option<usize>,
-    value: &[u8],
-    is_regex: bool,
+    labeled: &LabeledLine<'_>,
+    checks: &[Check],
 ) -> Result<(), AllocError>
-    requires { is_regex ≡ is_expression value.now }
-    ensures { OnOk result (Adds found.old.items found.new.items
-        (warned line None (content_checks value.now ++ plural_checks value.now))) }
+    requires { IsTrue (are_so_of (label_by_value labeled.now) checks.now) }
+    ensures { OnOk result (Tells (IsSoOf (label_by_value labeled.now)) [] found.old.items found.new.items) }
 {
-    warn(found, line, None, &content_checks(value, is_regex))?;
-    warn(found, line, None, &plural_checks(value))
+    warn(found, Some(labeled.number), None, checks)
 }
 
-fn warn_of_rule(found: &mut Found<'_>, line: Option<usize>, value: &[u8]) -> Result<(), AllocError>
-    ensures { OnOk result (Adds found.old.items found.new.items (warned line None (rule_checks value.now))) }
+fn warn_of_rule(
+    found: &mut Found<'_>,
+    labeled: &LabeledLine<'_>,
+    value: &[u8],
+) -> Result<(), AllocError>
+    requires { rule_value (by_value labeled.now.line) ≡ Some value.now }
+    ensures { OnOk result (Tells (IsSoOf (label_by_value labeled.now)) [] found.old.items found.new.items) }
 {
     if is_plain(value) {
         return Ok(());
     }
     let is_regex = is_expression(value);
-    warn(found, line, None, &form_checks(value, is_regex))?;
-    warn_of_content_of_rule(found, line, value, is_regex)
+    warn_of(found, labeled, &form_checks(value, is_regex))?;
+    warn_of(found, labeled, &content_checks(value, is_regex))?;
+    warn_of(found, labeled, &plural_checks(value))
 }
 
 /// Rules are only checked if `is_in_scope` is true.
@@ -142,23 +129,21 @@ fn warn_of_value(
     alloc: Global,
     found: &mut Found<'_>,
     is_in_scope: bool,
-    number: usize,
-    line: Line<'_>,
+    labeled: &LabeledLine<'_>,
 ) -> Result<(), AllocError>
-    ensures { OnOk result (Adds found.old.items found.new.items (warned (Some number) None (value_checks is_in_scope (by_value line.entry)))) }
+    ensures { OnOk result (Tells (IsSoOf (label_by_value labeled.now)) [] found.old.items found.new.items) }
 {
-    let at = Some(number);
-    match line {
-        Line::UserAgent(value) => warn(found, at, None, &user_agent_checks(value)),
+    match labeled.line {
+        Line::UserAgent(value) => warn_of(found, labeled, &user_agent_checks(value)),
         Line::Allow(value) | Line::Disallow(value) if is_in_scope => {
-            warn_of_rule(found, at, value)
+            warn_of_rule(found, labeled, value)
         }
         Line::CrawlDelay(Some(micros)) => {
-            warn(found, at, None, &[(Cause::DelayOverADay, micros > DAY)])
+            warn_of(found, labeled, &[(Cause::DelayOverADay, micros > DAY)])
         }
-        Line::Sitemap(value) => warn(found, at, None, &sitemap_checks(alloc, value)?),
+        Line::Sitemap(value) => warn_of(found, labeled, &sitemap_checks(alloc, value)?),
         Line::Raw(body) if !is_blank(body) => {
-            warn(found, at, None, &[(meant_by(alloc, body)?, true)])
+            warn_of(found, labeled, &[(meant_by(alloc, body)?, true)])
         }
         _ => Ok(()),
     }
@@ -168,33 +153,32 @@ fn warn_of_value(
 fn warn_of_raw_value(
     found: &mut Found<'_>,
     is_in_scope: bool,
-    number: usize,
-    line: Line<'_>,
+    labeled: &LabeledLine<'_>,
     parts: (&[u8], &[u8]),
 ) -> Result<(), AllocError>
-    ensures { OnOk result (Adds found.old.items found.new.items
-        (warned (Some number) None (raw_checks is_in_scope (by_value line.entry) parts.entry.0.now parts.entry.1.now))) }
+    requires tail { parts.0.now ≡ tail_of labeled.now.body.now }
+    requires comment { parts.1.now ≡ comment_of labeled.now.body.now }
+    ensures { OnOk result (Tells (IsSoOf (label_by_value labeled.now)) [] found.old.items found.new.items) }
 {
-    let at = Some(number);
-    match line {
+    match labeled.line {
         Line::UserAgent(value) => {
             let is_odd = has_odd_space(value, parts.0);
-            warn(found, at, None, &[(Cause::SpaceAroundValue, is_odd)])
+            warn_of(found, labeled, &[(Cause::SpaceAroundValue, is_odd)])
         }
         Line::Sitemap(value) => {
             let checks = [
                 (Cause::SpaceAroundValue, has_odd_space(value, parts.0)),
                 (Cause::HashCutsSitemap, is_cut(value, parts.0, parts.1)),
             ];
-            warn(found, at, None, &checks)
+            warn_of(found, labeled, &checks)
         }
         Line::Allow(value) | Line::Disallow(value) => {
             let checks = raw_rule_checks(is_in_scope, value, parts.0, parts.1);
-            warn(found, at, None, &checks)
+            warn_of(found, labeled, &checks)
         }
         Line::CrawlDelay(_) => {
             let is_odd = has_odd_delay(parts.0);
-            warn(found, at, None, &[(Cause::DelayNotation, is_odd)])
+            warn_of(found, labeled, &[(Cause::DelayNotation, is_odd)])
         }
         Line::Raw(_) => Ok(()),
     }
@@ -207,27 +191,19 @@ fn warn_of_content(
     labeled: &LabeledLine<'_>,
     parts: (&[u8], &[u8]),
 ) -> Result<(), AllocError>
-    requires text { parts.0.now ≡ tail_of labeled.now.body.now }
+    requires tail { parts.0.now ≡ tail_of labeled.now.body.now }
     requires comment { parts.1.now ≡ comment_of labeled.now.body.now }
-    ensures { OnOk result (Adds found.old.items found.new.items (warned (Some labeled.now.number) None
-        (if is_directive (by_value labeled.now.line)
-        then directive_checks is_in_scope (by_value labeled.now.line) labeled.now.body.now else []))) }
+    ensures { OnOk result (Tells (IsSoOf (label_by_value labeled.now)) [] found.old.items found.new.items) }
 {
-    let number = labeled.number;
     if let Line::Raw(_) = labeled.line {
         return Ok(());
     }
     let lacks_colon = is_without_colon(labeled.body);
-    warn(
-        found,
-        Some(number),
-        None,
-        &field_checks(labeled.body, lacks_colon),
-    )?;
+    warn_of(found, labeled, &field_checks(labeled.body, lacks_colon))?;
     if lacks_colon {
         return Ok(());
     }
-    warn_of_raw_value(found, is_in_scope, number, labeled.line, parts)
+    warn_of_raw_value(found, is_in_scope, labeled, parts)
 }
 
 /// The size limit cuts the line if `is_cut` is true.
@@ -238,78 +214,76 @@ fn warn_of_line(
     all_groups: bool,
     labeled: &LabeledLine<'_>,
 ) -> Result<(), AllocError>
-    ensures { OnOk result (Adds found.old.items found.new.items
-        (line_warnings is_cut all_groups (label_by_value labeled.now))) }
+    ensures { OnOk result (Tells (IsSoOf (label_by_value labeled.now)) [] found.old.items found.new.items) }
 {
     if is_cut {
-        return warn(found, Some(labeled.number), None, &[(Cause::CutLine, true)]);
+        return warn_of(found, labeled, &[(Cause::CutLine, true)]);
     }
     let is_in_scope = is_in_scope_of(all_groups, labeled.membership);
     let (tail, comment) = split_content(labeled.body);
     warn_of_content(found, is_in_scope, labeled, (tail, comment))?;
-    warn_of_value(alloc, found, is_in_scope, labeled.number, labeled.line)?;
-    let checks = text_checks(tail, comment);
-    warn(found, Some(labeled.number), None, &checks)
+    warn_of_value(alloc, found, is_in_scope, labeled)?;
+    warn_of(found, labeled, &text_checks(tail, comment))
 }
 
+/// If `cuts_last`, the size limit cuts the last line.
 fn warn_of_lines(
     alloc: Global,
     found: &mut Found<'_>,
+    cuts_last: bool,
     all_groups: bool,
-    read: &FileRead<'_>,
+    labels: &[LabeledLine<'_>],
 ) -> Result<(), AllocError>
-    ensures { OnOk result (Adds found.old.items found.new.items
-        (file_lines_warnings read.now.facts all_groups (map label_by_value read.now.labels.items))) }
+    ensures { (agents : List (List ℕ)) → (file : List ℕ) → OnOk result
+        (Tells (Means all_groups agents file (map label_by_value labels.now)) [] found.old.items found.new.items) }
 {
-    if suppresses_line_warnings(read.facts) {
-        return Ok(());
-    }
-    let mut rest: &[LabeledLine<'_>] = &read.labels;
-    while let [labeled, after @ ..] = rest {
-        let is_cut = read.facts.has_cut_line && after.is_empty();
+    for (index, labeled) in labels.iter().enumerate() {
+        let is_cut = cuts_last && index + 1 == labels.len();
         warn_of_line(alloc, found, is_cut, all_groups, labeled)?;
-        rest = after;
     }
     Ok(())
 }
 
+/// `first` is the first delay of the group above the line.
+fn warn_of_delay(
+    found: &mut Found<'_>,
+    is_large: bool,
+    first: Option<u64>,
+    labeled: &LabeledLine<'_>,
+) -> Result<(), AllocError>
+    ensures { OnOk result (Tells (IsOtherDelay is_large first (label_by_value labeled.now)) []
+        found.old.items found.new.items) }
+{
+    let (at, is_other) = (Some(labeled.number), is_other_delay(first, labeled));
+    if is_large {
+        warn(found, at, None, &[(Cause::TwoDelaysPastLimit, is_other)])
+    } else {
+        warn(found, at, None, &[(Cause::TwoDelays, is_other)])
+    }
+}
+
 fn warn_of_positions(
     found: &mut Found<'_>,
-    is_too_large: bool,
+    is_large: bool,
     labels: &[LabeledLine<'_>],
 ) -> Result<(), AllocError>
-    ensures { OnOk result (Adds found.old.items found.new.items
-        (position_warnings is_too_large (map label_by_value labels.now))) }
+    ensures { (all_groups : Bool) → (agents : List (List ℕ)) → (file : List ℕ)
+        → is_large ≡ is_too_large file → OnOk result
+        (Tells (Means all_groups agents file (map label_by_value labels.now)) [] found.old.items found.new.items) }
 {
     let last = last_group(labels);
     let mut preceding = Preceding::Other;
     let mut above = None;
     let mut delay = None;
-    let mut rest = labels;
-    while let [labeled, after @ ..] = rest {
-        let checks = position_checks(is_too_large, last, preceding, above, delay, labeled, rest);
-        warn(found, Some(labeled.number), None, &checks)?;
+    for (index, labeled) in labels.iter().enumerate() {
+        let checks = position_checks(last, preceding, above, labeled, &labels[index..]);
+        warn_of(found, labeled, &checks)?;
+        warn_of_delay(found, is_large, delay, labeled)?;
         above = sole_name(preceding, above, labeled.line);
         preceding = preceding_with(preceding, labeled.line);
         delay = first_delay(delay, labeled.line);
-        rest = after;
     }
     Ok(())
-}
-
-fn warn_past_limit(
-    alloc: Global,
-    found: &mut Found<'_>,
-    read: &FileRead<'_>,
-) -> Result<(), AllocError>
-    ensures { OnOk result (Adds found.old.items found.new.items
-        (past_limit_warnings read.now.facts read.now.bytes.now (map label_by_value read.now.labels.items))) }
-{
-    if !read.facts.is_too_large || suppresses_line_warnings(read.facts) {
-        return Ok(());
-    }
-    let numbers = names_past_limit(alloc, read.bytes, &read.labels)?;
-    warn_at(found, Cause::GroupPastSizeLimit, None, &numbers)
 }
 
 fn warn_beside(
@@ -373,14 +347,16 @@ fn warn_of_crawlers(
 fn warn_of_spelling(
     alloc: Global,
     found: &mut Found<'_>,
-    cause: Cause,
     spelling: Spelling,
     all_groups: bool,
     labels: &[LabeledLine<'_>],
 ) -> Result<(), AllocError>
-    ensures { OnOk result (Adds found.old.items found.new.items
-        (warned_at cause None (unpaired spelling all_groups (map label_by_value labels.now)))) }
+    ensures { OnOk result (AddsStyle found.old.items found.new.items) }
 {
+    let cause = match spelling {
+        Spelling::Standard => Cause::NonstandardEscape,
+        Spelling::Plain => Cause::EscapedDelimiter,
+    };
     let numbers = unpaired(alloc, spelling, all_groups, labels)?;
     warn_at(found, cause, None, &numbers)
 }
@@ -390,8 +366,7 @@ fn warn_of_sitemaps(
     found: &mut Found<'_>,
     labels: &[LabeledLine<'_>],
 ) -> Result<(), AllocError>
-    ensures { OnOk result (Adds found.old.items found.new.items
-        (flat_map (sitemap_warning (map label_by_value labels.now)) (map label_by_value labels.now))) }
+    ensures { OnOk result (AddsStyle found.old.items found.new.items) }
 {
     let lines = listings(alloc, labels)?;
     for labeled in labels {
@@ -404,21 +379,78 @@ fn warn_of_sitemaps(
 fn warn_of_repeated(
     alloc: Global,
     found: &mut Found<'_>,
-    is_too_large: bool,
+    is_large: bool,
     all_groups: bool,
     labels: &[LabeledLine<'_>],
 ) -> Result<(), AllocError>
-    ensures { OnOk result (Adds found.old.items found.new.items
-        (repeated_warnings is_too_large all_groups (map label_by_value labels.now))) }
+    ensures { (agents : List (List ℕ)) → (file : List ℕ) → is_large ≡ is_too_large file → OnOk result
+        (Tells (Means all_groups agents file (map label_by_value labels.now)) [] found.old.items found.new.items) }
 {
     let numbers = repeated(alloc, all_groups, labels)?;
-    let cause = if is_too_large {
-        Cause::RepeatedPastLimit
+    if is_large {
+        warn_at(found, Cause::RepeatedPastLimit, None, &numbers)
     } else {
-        Cause::RepeatedRule
-    };
-    warn_at(found, cause, None, &numbers)?;
-    warn_of_sitemaps(alloc, found, labels)
+        warn_at(found, Cause::RepeatedRule, None, &numbers)
+    }
+}
+
+fn warn_past_limit(
+    alloc: Global,
+    found: &mut Found<'_>,
+    read: &FileRead<'_>,
+) -> Result<(), AllocError>
+    ensures { (all_groups : Bool) → (agents : List (List ℕ)) → OnOk result
+        (Tells (Means all_groups agents read.now.bytes.now (map label_by_value read.now.labels.items)) []
+        found.old.items found.new.items) }
+{
+    if !read.facts.is_too_large {
+        return Ok(());
+    }
+    let numbers = names_past_limit(alloc, read.bytes, &read.labels)?;
+    warn_at(found, Cause::GroupPastSizeLimit, None, &numbers)
+}
+
+fn warn_of_replaced(
+    alloc: Global,
+    found: &mut Found<'_>,
+    agents: &[&str],
+    read: &FileRead<'_>,
+) -> Result<(), AllocError>
+    requires { IsRead read.now }
+    ensures { (all_groups : Bool) → (file : List ℕ) → OnOk result
+        (Tells (Means all_groups (map (λ agent. agent.now) agents.now) file (map label_by_value read.now.labels.items))
+        [] found.old.items found.new.items) }
+{
+    let star = own_rules(alloc, &read.site, "*")?;
+    let numbers = replacing(alloc, &read.site, &star, agents, &read.labels)?;
+    let detail = Some(Detail::Rules(disallow_count(&star)));
+    warn_at(found, Cause::ReplacesStar, detail, &numbers)
+}
+
+/// About each line by itself, and its position.
+fn warn_of_each_line(
+    alloc: Global,
+    found: &mut Found<'_>,
+    all_groups: bool,
+    read: &FileRead<'_>,
+) -> Result<(), AllocError>
+    requires { IsRead read.now }
+    ensures { (agents : List (List ℕ)) → OnOk result
+        (Tells (Means all_groups agents read.now.bytes.now (map label_by_value read.now.labels.items)) []
+        found.old.items found.new.items) }
+{
+    if suppresses_line_warnings(read.facts) {
+        return warn_of_positions(found, read.facts.is_too_large, &read.labels);
+    }
+    warn_of_lines(
+        alloc,
+        found,
+        read.facts.has_cut_line,
+        all_groups,
+        &read.labels,
+    )?;
+    warn_of_positions(found, read.facts.is_too_large, &read.labels)?;
+    warn_past_limit(alloc, found, read)
 }
 
 fn warn_of_groups<'a>(
@@ -428,23 +460,27 @@ fn warn_of_groups<'a>(
     agents: &[&'a str],
     read: &FileRead<'_>,
 ) -> Result<(), AllocError>
-    ensures { OnOk result (Adds found.old.items found.new.items (group_warnings read.now.facts.is_too_large
-        all_groups (map (λ agent. agent.now) agents.now) (file_lines read.now.site)
-        (map label_by_value read.now.labels.items))) }
+    requires { IsRead read.now }
+    ensures { OnOk result (Tells (Means all_groups (map (λ agent. agent.now) agents.now) read.now.bytes.now
+        (map label_by_value read.now.labels.items))
+        (crawler_warnings (is_empty_at (map label_by_value read.now.labels.items))
+        (map (λ agent. agent.now) agents.now) (file_lines read.now.site) (map label_by_value read.now.labels.items))
+        found.old.items found.new.items) }
 {
-    let site = &read.site;
-    let labels: &[LabeledLine<'_>] = &read.labels;
-    let (escape, delimiter) = (Cause::NonstandardEscape, Cause::EscapedDelimiter);
-    warn_of_spelling(alloc, found, escape, Spelling::Standard, all_groups, labels)?;
-    warn_of_spelling(alloc, found, delimiter, Spelling::Plain, all_groups, labels)?;
+    warn_of_spelling(alloc, found, Spelling::Standard, all_groups, &read.labels)?;
+    warn_of_spelling(alloc, found, Spelling::Plain, all_groups, &read.labels)?;
     warn_of_crawlers(alloc, found, agents, read)?;
-    let star = own_rules(alloc, site, "*")?;
-    let replacing = replacing(alloc, site, &star, agents, labels)?;
-    let detail = Some(Detail::Rules(disallow_count(&star)));
-    warn_at(found, Cause::ReplacesStar, detail, &replacing)?;
-    warn_of_repeated(alloc, found, read.facts.is_too_large, all_groups, labels)?;
-    warn_of_all_names(alloc, found, site, agents, labels)?;
-    warn_of_vendors(found, all_groups, site, agents, crawlers())
+    warn_of_replaced(alloc, found, agents, read)?;
+    warn_of_repeated(
+        alloc,
+        found,
+        read.facts.is_too_large,
+        all_groups,
+        &read.labels,
+    )?;
+    warn_of_sitemaps(alloc, found, &read.labels)?;
+    warn_of_all_names(alloc, found, &read.site, agents, &read.labels)?;
+    warn_of_vendors(found, all_groups, &read.site, agents, crawlers())
 }
 
 /// All warnings about a file and a request, in the order of output. `all_groups` is false for a report on a single
@@ -456,15 +492,17 @@ pub fn warnings<'a>(
     urls: &[&'a str],
     read: &FileRead<'_>,
 ) -> Result<Vec<Warning<'a>>, AllocError>
-    ensures { IfOk result (λ found. found.items
-        ≡ warnings all_groups (map (λ agent. agent.now) agents.now) (map (λ url. url.now) urls.now)
-        read.now.bytes.now read.now.facts (map label_by_value read.now.labels.items) (file_lines read.now.site)) }
+    requires { IsRead read.now }
+    ensures so { IfOk result (λ found. All (Means all_groups (map (λ agent. agent.now) agents.now) read.now.bytes.now
+        (map label_by_value read.now.labels.items)) found.items) }
+    ensures given { IfOk result (λ found. All (Contains found.items) (telling (map (λ agent. agent.now) agents.now)
+        (map (λ url. url.now) urls.now) (file_lines read.now.site) (map label_by_value read.now.labels.items))) }
 {
     let mut found = Vec::new(alloc);
-    warn_in_general(alloc, &mut found, agents, urls, read)?;
-    warn_of_lines(alloc, &mut found, all_groups, read)?;
-    warn_of_positions(&mut found, read.facts.is_too_large, &read.labels)?;
-    warn_past_limit(alloc, &mut found, read)?;
+    warn(&mut found, None, None, &file_checks(read.facts))?;
+    warn_of_closed(alloc, &mut found, agents, read)?;
+    warn_of_urls(alloc, &mut found, urls)?;
+    warn_of_each_line(alloc, &mut found, all_groups, read)?;
     warn_of_groups(alloc, &mut found, all_groups, agents, read)?;
     Ok(found)
 }

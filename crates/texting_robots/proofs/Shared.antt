@@ -14,8 +14,7 @@ pub use Rattle.texting_robots.proofs.CapturedLemmas.{delays_are, given_captured,
 pub use Rattle.texting_robots.proofs.CapturedLemmas.{occurs_first, occurs_next, only_agents, rules_are}
 pub use Rattle.texting_robots.proofs.CapturedLemmas.{some_passes, taken_decides}
 pub use Rattle.texting_robots.proofs.RulesLemmas.{any_unplaced, before_agent, before_agents, first_more}
-pub use Rattle.texting_robots.proofs.RulesLemmas.{none_unplaced, option_or_none}
-pub use Rattle.texting_robots.proofs.RulesLemmas.{some_overlong}
+pub use Rattle.texting_robots.proofs.RulesLemmas.{option_or_none}
 pub use Rattle.texting_robots.proofs.SiteOwnLemmas.{same_robot}
 pub use Rattle.texting_robots.proofs.SegmentLemmas.{in_front, only_wildcards_match, plain_wildcards}
 pub use Rattle.texting_robots.proofs.SegmentLemmas.{suffix_trans}
@@ -30,7 +29,6 @@ pub use Rattle.texting_robots.proofs.BestLemmas.{Either, allowed_by, answered, d
 pub use Rattle.texting_robots.proofs.BestLemmas.{each_text_answered, matches, matches_decides, none_denies}
 pub use Rattle.texting_robots.proofs.BestLemmas.{placed_of, verdict_by}
 pub use Rattle.texting_robots.proofs.ExampleLemmas.{any_overlong_decides, matching, not_matching}
-pub use Rattle.texting_robots.proofs.ExampleLemmas.{overlong_decides}
 pub use Rattle.texting_robots.proofs.{CutFromFront.bodies_nil, CountLemmas.lines_within}
 pub use Rattle.texting_robots.proofs.{LabelLemmas.labels_hold, LaneLemmas.found_or_end}
 pub use Rattle.texting_robots.proofs.{TheoremLemmas.raw_changes_nothing, NormalizedLemmas.plain_stays}

@@ -6,12 +6,11 @@ use Rattle.std.proofs.Common.{rules, Some, bytes_eq, if◌then◌else◌, ◌∙
 use Rattle.std.proofs.Common.{Bool, true, false, List, ◌∷◌, Contains, append-nil, ap, arith, inl, inr, length}
 use Rattle.std.proofs.Common.{not, refl, subst, suc, sym, ◌⊎◌, Any, None, Option, ◌≢◌, ◌<◌, ◌++◌, All, nat_eq}
 use Rattle.std.proofs.Common.{nat_le}
-use Rattle.std.proofs.lemmas.Bool.{and_parts, not-true, eqb-true, or_cases, eq-eqb, false≢true}
-use Rattle.std.specs.{List.list_all, List.list_any, Str.byte, Option.option_or, List.starts_with}
-use Rattle.std.proofs.lemmas.List.Folds.{list_any-from_Any, Any-from_list_any, list_all_at, list_any_at}
+use Rattle.std.proofs.lemmas.Bool.{and_parts, not-true, or_cases, eq-eqb, false≢true}
+use Rattle.std.specs.{List.list_any, Str.byte, Option.option_or, List.starts_with}
+use Rattle.std.proofs.lemmas.List.Folds.{list_any-from_Any, Any-from_list_any, list_any_at}
 use Rattle.texting_robots.specs.Callers.{AreRulesFor, LineValue, Matches, PlacedRule, Rule, escaped, IsDenied}
 use Rattle.texting_robots.specs.Callers.{placed_rules, HoldsRule, IsDecidingLine, robots_file, unplaced}
-use Rattle.texting_robots.specs.{Pattern.MatchesWith}
 use Rattle.robots_warnings.specs.Closed.{closes, is_exempt, is_literally, is_star_or_dollar}
 use Rattle.robots_warnings.specs.Closed.{is_whole_site}
 use Rattle.robots_warnings.specs.Closed.{is_rival, line_closing_site, matches_no_path, opened_paths}
@@ -112,17 +111,6 @@ conflict_is is_empty lines number other agent holds =
       allow = listed rules allow true other has permits line;
       stated = stated;
     }
-
-pub conflict_holds : (is_empty : ℕ → Bool) (lines : List LineValue) (number other : ℕ) (agent : List ℕ)
-    → IsConflict is_empty agent lines number other → is_some (conflict_for is_empty lines number agent) ≡ true
-conflict_holds is_empty lines number other agent is =
-    let rules = placed_rules agent lines in
-    let own = computed_are agent lines in
-    let allowed = like_holds is_empty rules true (compared is.pattern) other is.allowed is.same is.stated
-    (also_listed is.are own _ is.allow) in
-    first_some (at_line number (allow_beside is_empty rules)) rules
-    (record { rule = (is.pattern, false); line = number })
-    (also_listed is.are own _ is.disallow) (rw (eq-eqb number number refl) allowed)
 
 -- the second pattern matches what the first one matches, and is as long
 pub Wins : (pattern other text : List ℕ) → Type 0

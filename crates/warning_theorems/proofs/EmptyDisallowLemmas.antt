@@ -1,6 +1,6 @@
 -- Which lines are empty Disallows, what `empty-disallow` says of rules, and what it means if no line has it.
 use Rattle.std.specs.Prelude.{is_some}
-use Rattle.std.proofs.lemmas.Bool.{and_parts, cases_lt, false≢true, cases_Bool, eq-eqb}
+use Rattle.std.proofs.lemmas.Bool.{and_parts, cases_lt, false≢true, cases_Bool}
 use Rattle.std.proofs.lemmas.Bool.{eqb-true, or_cases}
 use Rattle.std.proofs.Common.{rules, ◌≡◌, ◌↔◌, ◌==◌, ◌&&◌, ℕ, Bool, true, false, List, [], ◌∷◌, None}
 use Rattle.std.proofs.Common.{Some, ap, arith, codes, inl, inr, map, refl, slice_get, subst}
@@ -15,14 +15,14 @@ use Rattle.texting_robots.specs.Internal.Statement.{kind_by, skip_blanks, statem
 use Rattle.texting_robots.proofs.Shared.{one_statement, statement_found, computed_are, lines_of_file_bodies}
 use Rattle.texting_robots.proofs.Shared.{placed_of}
 use Rattle.robots_warnings.specs.Conflicts.{IsEmptyDisallow, begins_with_d, is_empty_at, is_empty_disallow}
-use Rattle.robots_warnings.specs.Conflicts.{stated_rules, IsOverruled, at_line, compared, first_line, is_like}
+use Rattle.robots_warnings.specs.Conflicts.{stated_rules, at_line, compared, first_line, is_like}
 use Rattle.robots_warnings.specs.Conflicts.{overruled_by, overruled_for}
 use Rattle.robots_warnings.specs.{FieldNames.trim_blanks_start}
 use Rattle.warning_theorems.proofs.{WarningLemmas.is_stated}
 use Rattle.texting_robots.specs.{Pattern.MatchesWith, Statement.IsStatement}
 use Rattle.robots_needless.proofs.TogetherLemmas.{in_filter, to_filter, unplaced_of}
-use Rattle.warning_theorems.proofs.ConflictLemmas.{first_found, first_some, like_found, like_holds, listed}
-use Rattle.warning_theorems.proofs.ConflictLemmas.{also_listed, if_found, path_wins, unless_found}
+use Rattle.warning_theorems.proofs.ConflictLemmas.{first_some, like_found, like_holds, listed}
+use Rattle.warning_theorems.proofs.ConflictLemmas.{also_listed, path_wins}
 use Rattle.std.specs.{Option.IsSomeAnd, List.AllZip}
 use Rattle.texting_robots.specs.declared.parser.statement.{Kind.Kind}
 use Rattle.texting_robots.specs.declared.parser.statement.Kind.TheVariants as kind
@@ -150,61 +150,8 @@ empty_disallows name file labels number are hold = (
 abbrev pub root : List ℕ
 root = codes "/"
 
-pub overruled_is : (is_empty : ℕ → Bool) (lines : List LineValue) (number other : ℕ) (agent : List ℕ)
-    → overruled_for is_empty lines number agent ≡ Some other → IsOverruled is_empty agent lines number other
-overruled_is is_empty lines number other agent holds =
-    let rules = placed_rules agent lines in
-    let (k, placed, below, at, gives) =
-    first_found (at_line number (overruled_by is_empty rules)) rules other holds in
-    let (here, by) = if_found (placed.line == number) _ other gives in
-    let (both_hold, found) = if_found (placed.rule.1 && is_empty placed.line) _ other by in
-    let (allows, empty) = and_parts _ _ both_hold in
-    let (no_allow, first) =
-    unless_found (is_some (first_line (is_like is_empty true root) rules)) _ other found in
-    let (one, has, denies, same, stated, line) = like_found is_empty rules false root other first in
-    let number_is = eqb-true placed.line number here in
-    record {
-      rules = rules;
-      are = computed_are agent lines;
-      empty = subst (λ n. is_empty n ≡ true) number_is empty;
-      own = placed.rule.0;
-      allow = listed rules placed true number (k, below, at) allows number_is;
-      pattern = one.rule.0;
-      all = same;
-      disallow = listed rules one false other has denies line;
-      stated = stated;
-      alone = λ allowed there alike listed. elim (cases_Bool (is_empty there)) [
-        | inl is ↦ is
-        | inr isnt ↦
-            absurd (false≢true (cc (like_holds is_empty rules true root there allowed alike isnt listed)))
-      ];
-    }
-
 some_or_none : (a : Option ℕ) → is_some a ≡ true → (n : ℕ) × (a ≡ Some n)
 some_or_none a h = grind arith
-
-pub overruled_holds : (is_empty : ℕ → Bool) (lines : List LineValue) (number other : ℕ) (agent : List ℕ)
-    → IsOverruled is_empty agent lines number other
-    → is_some (overruled_for is_empty lines number agent) ≡ true
-overruled_holds is_empty lines number other agent is =
-    let rules = placed_rules agent lines in
-    let own = computed_are agent lines in
-    let first = first_line (is_like is_empty true root) rules in
-    let denied = like_holds is_empty rules false root other is.pattern is.all is.stated
-    (also_listed is.are own _ is.disallow) in
-    elim (cases_Bool (is_some first)) [
-      | inl some ↦
-          let (n, found) = some_or_none first some in
-          let (one, has, allows, same, stated, line) = like_found is_empty rules true root n found in
-          let allow = listed rules one true n has allows line in
-          let empty = is.alone one.rule.0 n same (also_listed own is.are _ allow) in
-          grind arith
-      | inr none ↦
-          first_some (at_line number (overruled_by is_empty rules)) rules
-          (record { rule = (is.own, true); line = number })
-          (also_listed is.are own _ is.allow)
-          (rw (eq-eqb number number refl, is.empty, none) denied)
-    ]
 
 one_byte : (pattern text : List ℕ) → length pattern ≡ 1 → Matches pattern text → Matches root text
     → compared pattern ≡ root

@@ -6,7 +6,7 @@ use Rattle.std.proofs.Common.{◌∙◌, suc, zero, Bool, true, false, not, List
 use Rattle.std.proofs.Common.{Option, None, Some, filter, slice_get, take, ap, arith, length}
 use Rattle.std.specs.List.{enumerate_from, fold, list_any, count_by}
 use Rattle.std.proofs.lemmas.Bool.{and_parts, cases_Bool, false≢true, cases_lt, not-true, or_cases, or_right}
-use Rattle.std.proofs.lemmas.List.{get_or-map, length-map, Elements.Contains-append_cases}
+use Rattle.std.proofs.lemmas.List.{Elements.Contains-append_cases}
 use Rattle.std.proofs.lemmas.List.{Sorted.sum_by-IsPermutation}
 use Rattle.texting_robots.specs.Callers.{AreLabelsOf, Label, LineValue, UserAgent, delay_for}
 use Rattle.texting_robots.specs.Callers.{file_bodies, file_limit, lines_read}
@@ -16,10 +16,8 @@ use Rattle.texting_robots.specs.Group.{is_agent, passes_at, is_member}
 use Rattle.texting_robots.specs.Internal.Group.{if_captured, start_of, step}
 use Rattle.texting_robots.proofs.Shared.{delays_are, given_captured, taken_decides, before_agent}
 use Rattle.texting_robots.proofs.Shared.{before_agents, first_more, computed_are, one_list}
-use Rattle.robots_warnings.specs.Checks.{Check, position_checks}
-use Rattle.robots_warnings.specs.Positions.{are_different, first_delay, is_other_delay, last_group, sole_name}
-use Rattle.robots_warnings.specs.Positions.{preceding_with, begin_with_one}
-use Rattle.robots_warnings.specs.Warnings.{position_warnings, positions_from, warned, warned_at}
+use Rattle.robots_warnings.specs.Positions.{are_different, begin_with_one, first_delay, is_other_delay}
+use Rattle.robots_warnings.specs.Positions.{later_delays, later_delays_from, preceding_with}
 use Rattle.warning_theorems.proofs.RepeatedLemmas.{holds_among, AreFrom, IsFrom, all_labels, here}
 use Rattle.warning_theorems.proofs.RepeatedLemmas.{first_or_later, labels_next, same_left}
 use Rattle.warning_theorems.proofs.{WarningLemmas.below_agent}
@@ -33,12 +31,7 @@ use Rattle.std.proofs.lemmas.Slice.{Eq.bytes_eq-Decides}
 use Rattle.texting_robots.specs.declared.groups.{GroupTracker.GroupTracker}
 use Rattle.robots_needless.specs.{Blocks.IsLeftOf, Blocks.begin_with_mark, Needless.lines_without}
 use Rattle.robots_needless.proofs.{BlockLemmas.among}
-use Rattle.robots_warnings.specs.{declared.positions.Preceding.Preceding, File.lines_of, Message.WarningValue}
-use Rattle.robots_warnings.specs.declared.table.Cause.{TheVariants.TwoDelays}
-use Rattle.robots_warnings.specs.declared.positions.Preceding.TheVariants as preceding
-
-abbrev two_delays_at : ℕ → WarningValue
-two_delays_at number = record { line = Some number; cause = TwoDelays; about = None; detail = None }
+use Rattle.robots_warnings.specs.{declared.positions.Preceding.Preceding, File.lines_of}
 
 -- `first` is the first delay of the group above these lines
 abbrev first_after : Option ℕ → List Label → Option ℕ
@@ -50,42 +43,28 @@ record IsOther (first : Option ℕ) (labels : List Label) (place : ℕ) : Type 0
   at : slice_get labels place ≡ Some label
   other : is_other_delay (first_after first (take place labels)) label ≡ true
 
-condition_holds : (line : Option ℕ) (about : Option (List ℕ)) (checks : List Check) (warning : WarningValue)
-    → Contains (warned line about checks) warning
-    → (warning.line ≡ line) × Contains checks (warning.cause, true)
-condition_holds line about [] warning (k, below, at) = absurd (omega arith)
-condition_holds line about ((cause, true) ∷ checks) warning (zero, below, at) = grind arith
-condition_holds line about ((cause, true) ∷ checks) warning (suc k, below, at) =
-    let (same, has) = condition_holds line about checks warning (k, omega arith, at) in
-    (same, (suc has.0, omega arith, has.2))
-condition_holds line about ((cause, false) ∷ checks) warning has =
-    let (same, later) = condition_holds line about checks warning has in
-    (same, (suc later.0, omega arith, later.2))
-
--- of the checks of a position, only the last one gives this warning
-other_here : (last : Option ℕ) (preceding : Preceding) (above : Option (List ℕ)) (first : Option ℕ)
-    (label : Label) (lines : List LineValue)
-    → Contains (position_checks false last preceding above first label lines) (TwoDelays, true)
-    → is_other_delay first label ≡ true
-other_here last preceding above first label lines has = grind arith
-
-is_other : (last : Option ℕ) (preceding : Preceding) (above : Option (List ℕ)) (first : Option ℕ)
-    (labels : List Label) (number : ℕ)
-    → Contains (positions_from false last preceding above first labels) (two_delays_at number)
+is_other : (first : Option ℕ) (labels : List Label) (number : ℕ)
+    → Contains (later_delays_from first labels) number
     → (place : ℕ) × (is : IsOther first labels place) × (is.label.number ≡ number)
-is_other last preceding above first [] number (k, below, at) = absurd (omega arith)
-is_other last preceding above first (label ∷ labels) number has =
-    let checks = position_checks false last preceding above first label (lines_of (label ∷ labels)) in
-    elim (Contains-append_cases (warned (Some label.number) None checks) _ _ has) [
-      | inl here ↦
-          let (same, check) = condition_holds (Some label.number) None checks _ here in
-          let other = other_here last preceding above first label (lines_of (label ∷ labels)) check in
-          (0, grind arith, cc)
-      | inr later ↦
-          let (place, is, number_is) = is_other last (preceding_with preceding label.line)
-          (sole_name preceding above label.line) (first_delay first label.line) labels number later in
-          (suc place, grind arith, number_is)
-    ]
+is_other first [] number (k, below, at) = absurd (omega arith)
+is_other first (label ∷ labels) number has = elim (cases_Bool (is_other_delay first label)) [
+  | inl is ↦ elim (Contains-append_cases (label.number ∷ []) _ number (rw is at has)) [
+    | inl (k, below, at) ↦
+        let none : k ≡ 0 = omega arith in
+        (0, record { label = label; at = refl; other = is }, rw none at at)
+    | inr later ↦ later_one (is_other (first_delay first label.line) labels number later)
+  ]
+  | inr isnt ↦ later_one (is_other (first_delay first label.line) labels number (rw isnt at has))
+]
+  where
+    later_one : ((place : ℕ) × (is : IsOther (first_delay first label.line) labels place)
+        × (is.label.number ≡ number))
+        → (place : ℕ) × (is : IsOther first (label ∷ labels) place) × (is.label.number ≡ number)
+    later_one (place, is, number_is) = (
+      suc place,
+      record { label = is.label; at = is.at; other = is.other },
+      number_is,
+    )
 
 abbrev left_from : (ℕ → Bool) → ℕ → List LineValue → List LineValue
 left_from gone position lines =
@@ -184,26 +163,17 @@ early_left : (gone : ℕ → Bool) (lines : List LineValue)
 early_left gone lines same below = search (rules, before_agents, before_left)
 
 module _ {name : List ℕ} {labels : List Label} (labeled : AreLabelsOf name (lines_of labels) labels)
-    (numbers : List ℕ)
-    (all : All (Contains (position_warnings false labels)) (warned_at TwoDelays None numbers)) where
+    (numbers : List ℕ) (all : All (Contains (later_delays labels)) numbers) where
   abbrev gone : ℕ → Bool
   gone = among numbers
 
   abbrev all_lines : List LineValue
   all_lines = lines_of labels
 
-  abbrev IsWarned : ℕ → Type 0
-  IsWarned number = Contains (position_warnings false labels) (two_delays_at number)
-
   other_at : (place : ℕ) → gone (0 + place + 1) ≡ true → IsOther None labels place
   other_at place goes =
-      let each : All IsWarned numbers =
-      λ k number below.
-      subst (Contains (position_warnings false labels))
-      (grind (arith, get_or-map))
-      (all k (two_delays_at number) (rw (length-map numbers two_delays_at) below)) in
-      let (found, is, number_is) = is_other (last_group labels) preceding.Other None None labels _
-      (holds_among IsWarned numbers each _ goes) in
+      let (found, is, number_is) = is_other None labels _
+      (holds_among (Contains (later_delays labels)) numbers all _ goes) in
       grind arith
 
   others : AreOthers gone 0 None labels
@@ -240,7 +210,7 @@ module _ {name : List ℕ} {labels : List Label} (labeled : AreLabelsOf name (li
 
 delay_as_before : (name agent : List ℕ) (lines : List LineValue) (labels : List Label)
     (numbers : List ℕ) → AreLabelsOf name lines labels
-    → All (Contains (position_warnings false labels)) (warned_at TwoDelays None numbers)
+    → All (Contains (later_delays labels)) numbers
     → delay_for agent (lines_without numbers lines) ≡ delay_for agent lines
 delay_as_before name agent lines labels numbers labeled all =
     let same = labeled.lines_are in
@@ -249,7 +219,7 @@ delay_as_before name agent lines labels numbers labeled all =
 
 pub two_delays_can_be_deleted : (name agent file left : List ℕ) (labels : List Label) (numbers : List ℕ)
     → length file ≤ file_limit → AreLabelsOf name (lines_read file) labels
-    → All (Contains (position_warnings false labels)) (warned_at TwoDelays None numbers)
+    → All (Contains (later_delays labels)) numbers
     → IsLeftOf numbers file left → begin_with_mark (lines_without numbers (file_bodies file)) ≡ false
     → delay_for agent (lines_read left) ≡ delay_for agent (lines_read file)
 two_delays_can_be_deleted name agent file left labels numbers short labeled all is front =

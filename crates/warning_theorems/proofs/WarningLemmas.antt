@@ -3,13 +3,13 @@ use Rattle.std.proofs.{lemmas.List.Folds.list_any-append}
 use Rattle.std.proofs.{lemmas.List.Elements.Contains-append_cases}
 use Rattle.std.proofs.Common.{◌||◌, ◌==◌, arith, if◌then◌else◌, inl, inr, suc, ◌≡◌, ◌≢◌, ◌⊎◌}
 use Rattle.std.proofs.Common.{◌<◌, ℕ, Bool, true, false, List, [], ◌∷◌, ◌++◌, Contains, codes, filter, map}
-use Rattle.std.proofs.Common.{not, Option, slice_get, Some, subst, sym, ◌+◌, ◌∙◌}
+use Rattle.std.proofs.Common.{not, slice_get, Some, subst, sym, ◌+◌, ◌∙◌}
 use Rattle.std.proofs.lemmas.Bool.{cases_Bool, eqb-true, false≢true}
 use Rattle.std.specs.{List.enumerate_from, List.list_all, List.list_any, Str.byte}
-use Rattle.std.specs.{Str.is_utf8, Option.option_map_or}
+use Rattle.std.specs.{Str.is_utf8}
 use Rattle.texting_robots.specs.Callers.{Allow, AreLabelsOf, CrawlDelay, Disallow, HoldsRule, IsLineOf, Label}
 use Rattle.texting_robots.specs.Callers.{LineValue, Matches, Raw, Rule, Sitemap, HasMembership, UserAgent}
-use Rattle.texting_robots.specs.Callers.{escaped, file_lines, is_agent_named, is_named}
+use Rattle.texting_robots.specs.Callers.{escaped, file_lines, is_named}
 use Rattle.texting_robots.specs.{Group.is_agent, Group.passes_at}
 use Rattle.texting_robots.specs.{Pattern.MatchesWith, Pattern.dollar, Pattern.star, Statement.IsStatement}
 use Rattle.texting_robots.specs.{declared.labels.Membership.Membership, Internal.Segments.is_wildcard}
@@ -18,10 +18,6 @@ use Rattle.robots_warnings.specs.Crawlers.{has_new_name, is_past_limit, names_pa
 use Rattle.robots_warnings.specs.Positions.{is_above_agents, is_outside}
 use Rattle.texting_robots.proofs.Shared.{some_passes, only_wildcards_match}
 use Rattle.texting_robots.specs.declared.parser.statement.Kind.TheVariants as kind
-
-pub named_agent : (name : List ℕ) (line : Option LineValue)
-    → option_map_or (is_agent_named name) line false ≡ true → option_map_or is_agent line false ≡ true
-named_agent name line is = grind arith
 
 abbrev pub IsStated : LineValue → List ℕ → Type 0
 IsStated (UserAgent value) body = IsStatement kind.UserAgent value body

@@ -1,4 +1,3 @@
-pub mod Audit
 pub mod Syntax
 pub mod Verdict
 pub mod Examples

@@ -1,10 +1,10 @@
 //! Theorems about the specification, each written as the contract of an empty function.
 ghost use Rattle.std.specs.Prelude.{◌&&◌, ◌||◌, [], All, Any, Bool, codes, Contains, false, if◌then◌else◌, ℕ};
-ghost use Rattle.std.specs.Prelude.{IfOk, IsSome, IsTrue, List, nat_eq, not, slice_get, Some, take, true};
+ghost use Rattle.std.specs.Prelude.{IfOk, IsTrue, List, nat_eq, not, slice_get, Some, take, true};
 ghost use Rattle.std.specs.Prelude.{◌+◌, ◌↔◌, ◌∷◌, ◌≡◌, ◌≢◌, ◌≤◌, length};
 ghost use Rattle.std.specs.List.{count_by, list_any, starts_with};
 ghost use Rattle.std.specs.Str.{byte, is_utf8, IsUtf8, str_to_ascii_lowercase};
-ghost use Rattle.texting_robots.specs.{Callers.Allow, Labels.IsInOwnGroup, Verdict.robots_file};
+ghost use Rattle.texting_robots.specs.{Callers.Allow, Labels.IsInOwnGroup};
 ghost use Rattle.texting_robots.specs.Callers.{AreLabelsOf, AreRulesFor, Disallow, escaped, HoldsRule, Label};
 ghost use Rattle.texting_robots.specs.Callers.{file_limit, file_lines, is_named, IsDecidingLine, IsDenied};
 ghost use Rattle.texting_robots.specs.Callers.{IsFileRejected, IsRobotOfFile, IsVerdict, LineValue, Matches};
@@ -14,16 +14,17 @@ ghost use Rattle.robots_needless.specs.Blocks.{HaveSameRobot, IsLeftOf, begin_wi
 ghost use Rattle.robots_needless.specs.Needless.{lines_without, numbers_of};
 ghost use Rattle.rfc9309.specs.Rfc9309.{Group, IsFile, IsProductToken};
 ghost use Rattle.rfc9309.specs.Matching.{all_stay, normal_uri};
-ghost use Rattle.warning_theorems.specs.{Audit.without_reach, Syntax.IsRobotStated, Verdict.IsStandardVerdict};
-ghost use Rattle.robots_warnings.specs.Conflicts.{IsConflict, IsOverruled, conflict, overruled, is_empty_at};
+ghost use Rattle.warning_theorems.specs.{Syntax.IsRobotStated, Verdict.IsStandardVerdict};
+ghost use Rattle.robots_warnings.specs.Conflicts.{IsConflict, conflict, is_empty_at};
 ghost use Rattle.robots_warnings.specs.Conflicts.{overruled_for, IsEmptyDisallow, stated_rules};
 ghost use Rattle.robots_warnings.specs.Closed.{line_closing_site, opened_paths, opens_little};
 ghost use Rattle.robots_warnings.specs.Closed.{replacing, star_count};
 ghost use Rattle.robots_warnings.specs.{Contents.is_cut_to_root, Crawlers.names_past_limit};
-ghost use Rattle.robots_warnings.specs.{Positions.is_above_agents, Repeated.repeated, Targets.has_odd_target};
+ghost use Rattle.robots_warnings.specs.Positions.{is_above_agents, later_delays};
+ghost use Rattle.robots_warnings.specs.{Repeated.repeated, Targets.has_odd_target};
 ghost use Rattle.robots_warnings.specs.{Targets.written_target, Urls.is_unparsable, Urls.begins_as_url};
-ghost use Rattle.robots_warnings.specs.{Warnings.position_warnings, Warnings.warned_at, Rules.begins_oddly};
-ghost use Rattle.robots_warnings.specs.{declared.table.Cause.TheVariants.TwoDelays, Rules.has_dollar_inside};
+ghost use Rattle.robots_warnings.specs.{Rules.begins_oddly};
+ghost use Rattle.robots_warnings.specs.{Rules.has_dollar_inside};
 ghost use Rattle.audit_core.specs.Audit.{AuditValue, IsAuditOf};
 ghost use Rattle.audit_core.specs.{Target.asked_target, Request.RequestValue};
 ghost use Rattle.rfc9309.specs.Conformance.{conformance_of, has_syntax, has_verdicts};
@@ -31,24 +32,6 @@ ghost use Rattle.warning_theorems.specs.Examples as example;
 
 use std::alloc::Global;
 use texting_robots::{Error, Robot};
-
-/// Without `--needless`, a request and a file have at most one audit; with it, one for each list of needless
-/// rules. Only what a crawler may fetch can be said or not, as it isn't always decided.
-pub fn each_file_has_one_audit()
-    ensures one { (requested : RequestValue) (file : List ℕ) (audit other : AuditValue)
-        → requested.has_needless ≡ false
-        → IsAuditOf requested file audit → IsAuditOf requested file other
-        → without_reach audit ≡ without_reach other }
-    ensures same { (requested : RequestValue) (file : List ℕ) (audit other : AuditValue)
-        → (is : IsAuditOf requested file audit) → (too : IsAuditOf requested file other)
-        → is.needless ≡ too.needless → without_reach audit ≡ without_reach other }
-{}
-
-/// Every request and file have an audit.
-pub fn each_file_has_an_audit()
-    ensures { (requested : RequestValue) (file : List ℕ) → (audit : AuditValue)
-        × IsAuditOf requested file audit }
-{}
 
 /// The lines that an audit with `--needless` warns of as needless can be deleted together: if exactly these
 /// are deleted, every verdict is the same, on any text, for each crawler.
@@ -130,21 +113,14 @@ pub fn examples_of_syntax()
     ensures { example.syntax }
 {}
 
-/// `allowed-and-disallowed` is given for a line exactly if it has a Disallow that applies to one of the
-/// crawlers reported on, and an Allow with the same pattern, other than an empty Disallow, applies to that
-/// crawler too, where `/` and `*` are the same. Its message names the line of such an Allow.
-pub fn allowed_and_disallowed()
+/// A line with `allowed-and-disallowed` has a Disallow that applies to one of the crawlers reported on, and an
+/// Allow with the same pattern applies to that crawler too, where `/` and `*` are the same (`given`). That
+/// Disallow decides no verdict for the crawler: none at all if the patterns are equal (`same`), and none on a
+/// path if they are `/` and `*` (`path`).
+pub fn allowed_and_disallowed_never_decides()
     ensures given { (is_empty : ℕ → Bool) (agents : List (List ℕ)) (lines : List LineValue) (number other : ℕ)
         → conflict is_empty agents lines number ≡ Some other
         → Any (λ agent. IsConflict is_empty agent lines number other) agents }
-    ensures found { (is_empty : ℕ → Bool) (agents : List (List ℕ)) (lines : List LineValue) (agent : List ℕ)
-        (number other : ℕ) → Contains agents agent → IsConflict is_empty agent lines number other
-        → IsSome (conflict is_empty agents lines number) }
-{}
-
-/// That Disallow decides no verdict for the crawler: none at all if the patterns are equal, and none on a
-/// path if they are `/` and `*`.
-pub fn allowed_and_disallowed_never_decides()
     ensures same { (is_empty : ℕ → Bool) (agent : List ℕ) (lines : List LineValue) (rules : List PlacedRule)
         (number other : ℕ) (text : List ℕ) → (is : IsConflict is_empty agent lines number other)
         → is.allowed ≡ is.pattern → AreRulesFor agent lines rules
@@ -160,18 +136,6 @@ pub fn empty_disallows()
         → AreLabelsOf name (lines_read file) labels
         → bodies_in labels ≡ bodies_read file
         → IsTrue (is_empty_at labels number) ↔ IsEmptyDisallow (bodies_read file) number }
-{}
-
-/// `empty-disallow` is given for a line exactly if it is an empty Disallow that applies to one of the
-/// crawlers reported on, a Disallow of `/` or `*` applies to that crawler too, and each Allow of these that
-/// applies to it is an empty Disallow. Its message names the line of such a Disallow.
-pub fn empty_disallow()
-    ensures given { (is_empty : ℕ → Bool) (agents : List (List ℕ)) (lines : List LineValue) (number other : ℕ)
-        → overruled is_empty agents lines number ≡ Some other
-        → Any (λ agent. IsOverruled is_empty agent lines number other) agents }
-    ensures found { (is_empty : ℕ → Bool) (agents : List (List ℕ)) (lines : List LineValue) (agent : List ℕ)
-        (number other : ℕ) → Contains agents agent → IsOverruled is_empty agent lines number other
-        → IsSome (overruled is_empty agents lines number) }
 {}
 
 /// If no line has `empty-disallow` because of the rules of a crawler, every verdict is the same for it where
@@ -240,11 +204,13 @@ pub fn replaces_star()
         → star_count lines ≡ count_by (λ (placed : PlacedRule). not placed.rule.1) rules }
 {}
 
-/// The same of lines with `two-delays` and the delay of every crawler.
+/// If lines with `two-delays` are deleted from a file of at most 512,000 bytes, one or several or all, with
+/// their line ends, the delay of every crawler stays the same, unless the first line that stays begins with a
+/// byte of the byte order mark.
 pub fn two_delays()
     ensures { (name agent file left : List ℕ) (labels : List Label) (numbers : List ℕ)
         → length file ≤ file_limit → AreLabelsOf name (lines_read file) labels
-        → All (Contains (position_warnings false labels)) (warned_at TwoDelays None numbers)
+        → All (Contains (later_delays labels)) numbers
         → IsLeftOf numbers file left → begin_with_mark (lines_without numbers (file_bodies file)) ≡ false
         → delay_for agent (lines_read left) ≡ delay_for agent (lines_read file) }
 {}

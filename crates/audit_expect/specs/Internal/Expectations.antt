@@ -1,59 +1,57 @@
 -- Expectations as the code finds and handles them.
-use Rattle.std.specs.Prelude.{◌≡◌, ◌==◌, ℕ, ◌<◌, true, false, Err, List, Ok, length, option_map, slice_index}
-use Rattle.std.specs.Prelude.{string_bytes, map, ◌⊎◌, Bool, ◌∷◌, Option, Some, None, Contains, slice_index_or}
-use Rattle.audit_core.specs.{declared.error.EntryKind.EntryKind, declared.error.Error.Error}
-use Rattle.audit_core.specs.{Error.MalformedLine}
+use Rattle.std.specs.Prelude.{◌≡◌, ℕ, true, false, List, map, ◌⊎◌, Bool, ◌∷◌, Option, Some, None, Contains}
+use Rattle.std.specs.Prelude.{◌||◌, if◌then◌else◌, not, slice_index_or}
 use Rattle.audit_core.specs.{Internal.IsReading}
-use Rattle.audit_core.specs.declared.error.Error.TheVariants.{Empty, Malformed, Memory}
 use Rattle.audit_expect.specs.{declared.expect.Expectation.Expectation, declared.checks.Checked.Checked}
 use Rattle.audit_expect.specs.{declared.expectations.AgentReading.AgentReading}
-use Rattle.audit_expect.specs.Expect.{ExpectationValue, LineOf, is_in}
-use Rattle.audit_expect.specs.Expectations.{CheckedValue}
+use Rattle.audit_expect.specs.Expect.{ExpectationValue}
+use Rattle.audit_expect.specs.Expectations.{HoldsFor}
+use Rattle.audit_expect.specs.declared.checks.{AtVendor.AtVendor, Judgment.Judgment}
+use Rattle.audit_expect.specs.declared.checks.Judgment.TheVariants.{Decided, Everywhere}
+use Rattle.audit_expect.specs.declared.checks.AtVendor.TheVariants.{Group, Nobody, Same}
+use Rattle.audit_expect.specs.declared.patterns.{OnPaths.OnPaths, OnPaths.TheVariants.Hold}
 use Rattle.texting_robots.specs.Callers.{IsBetter, IsDecidingRule, Label, Matches, PlacedRule}
 use Rattle.texting_robots.specs.{declared.decision.Decision.Decision, Internal.Line.line_of}
 use Rattle.robots_warnings.specs.Conflicts.{is_empty_disallow, stated_rules}
 
 abbrev pub expectation_value : Expectation → ExpectationValue
 expectation_value expectation = record {
-  number = expectation.number;
   allowed = expectation.allowed;
   agent = expectation.agent.now;
   url = expectation.url.now;
   is_pattern = expectation.is_pattern;
 }
 
--- by value
-abbrev pub line_by : {X Y : Type 0} → (X → Y) → LineOf X → LineOf Y
-line_by value (Ok entry) = Ok (option_map value entry)
-line_by value (Err malformed) = Err malformed
+-- what lines with these expectations expect
+abbrev pub expected_by : List Expectation → List (Option ExpectationValue)
+expected_by found = map Some (map expectation_value found)
 
--- the error names these malformed lines, of which there are some, or an allocation failed
-abbrev pub AreMalformed : List ℕ → List MalformedLine → Error → Type 0
-AreMalformed name malformed (Malformed file lines) =
-    (string_bytes file ≡ name) × (lines.items ≡ malformed) × ((length malformed == 0) ≡ false)
-AreMalformed name malformed error = error ≡ Memory
+abbrev pub holds : OnPaths → Bool
+holds Hold = true
+holds found = false
 
--- the first `end` bytes of the text contain no separator
-abbrev pub HasNone : List ℕ → List ℕ → ℕ → Type 0
-HasNone separators text end = (k : ℕ) → k < end → is_in separators (slice_index text k) ≡ false
+abbrev pub is_unexpected : Bool → Decision → Bool
+is_unexpected allowed decision = if allowed then not decision.allowed else decision.allowed
 
--- this is the index of the text's first separator
-pub record IsFirstSeparator (separators text : List ℕ) (place : ℕ) : Type 0 where
-  pub within : place < length text
-  pub here : is_in separators (slice_index text place) ≡ true
-  pub before : HasNone separators text place
+abbrev pub fails_at : Bool → Judgment → Bool
+fails_at allowed (Decided decision other normal) =
+    is_unexpected allowed decision || (is_unexpected allowed other || is_unexpected allowed normal)
+fails_at allowed (Everywhere found) = not (holds found)
+fails_at allowed judgment = true
 
--- the error names this file, which has no such entries, or an allocation failed
-abbrev pub IsWithoutEntries : List ℕ → EntryKind → Error → Type 0
-IsWithoutEntries name entry (Empty file other) = (string_bytes file ≡ name) × (other ≡ entry)
-IsWithoutEntries name entry error = error ≡ Memory
+abbrev pub fails_at_vendor : Bool → AtVendor → Bool
+fails_at_vendor allowed Same = false
+fails_at_vendor allowed (Group name judgment) = fails_at allowed judgment
+fails_at_vendor allowed Nobody = not allowed
 
-abbrev pub checked_value : Checked → CheckedValue
-checked_value checked = record {
-  expectation = expectation_value checked.expectation;
-  judgment = checked.judgment;
-  vendor = checked.vendor;
-}
+abbrev pub fails : Checked → Bool
+fails checked =
+    fails_at checked.expectation.allowed checked.judgment
+    || fails_at_vendor checked.expectation.allowed checked.vendor
+
+-- by this judgment the expectation fails, or it holds
+abbrev pub IsJudgmentOn : List ℕ → List ℕ → ExpectationValue → Judgment → Type 0
+IsJudgmentOn file agent one judgment = fails_at one.allowed judgment ≡ false → HoldsFor file agent one
 
 -- how the file is read for this crawler
 pub record IsReadFor (agent file : List ℕ) (found : AgentReading) : Type 0 where

@@ -1,14 +1,11 @@
 //! The file of a page, with its warnings, and its sitemaps.
-use crate::page::by_line::by_line;
 use crate::page::elements::{Page, put_text};
-use crate::page::slices::{after, first};
 use crate::page::warnings::write_warning_row;
 use audit_core::audit::labeling_agent;
 use audit_core::rows::{Shown, comment_of, membership_word, shown_kind};
 use audit_core::together::Together;
 use printable_text::report::Untrusted;
 use robots_warnings::warning::Warning;
-use std::alloc::{AllocError, Global};
 use std::fmt::Write;
 use texting_robots::labels::LabeledLine;
 use texting_robots::parser::Line;
@@ -59,18 +56,22 @@ fn write_line_row(page: &mut Page, label: &LabeledLine<'_>) {
     page.close();
 }
 
+/// `shown` are in the order of their lines.
 fn write_line_rows(
     page: &mut Page,
     together: Together<'_>,
-    lists: &[Vec<Warning<'_>>],
+    shown: &[Warning<'_>],
     labels: &[LabeledLine<'_>],
 ) {
     for label in labels {
         write_line_row(page, label);
-        if let Some(list) = lists.get(label.number) {
-            for warning in list {
-                write_warning_row(page, together, warning);
+        let line = Some(label.number);
+        let start = shown.partition_point(|warning| warning.line < line);
+        for warning in &shown[start..] {
+            if warning.line != line {
+                break;
             }
+            write_warning_row(page, together, warning);
         }
     }
 }
@@ -83,29 +84,13 @@ fn write_line_columns(page: &mut Page) {
     page.close();
 }
 
-fn write_line_groups(
-    page: &mut Page,
-    together: Together<'_>,
-    lists: &[Vec<Warning<'_>>],
-    labels: &[LabeledLine<'_>],
-) {
-    for at in 0..labels.len().div_ceil(BODY_LINES) {
-        let lines = after(labels, at.saturating_mul(BODY_LINES));
-        page.open("tbody");
-        write_line_rows(page, together, lists, first(lines, BODY_LINES));
-        page.close();
-    }
-}
-
 pub(crate) fn write_file_table(
-    alloc: Global,
     page: &mut Page,
     agent: Option<&str>,
     labels: &[LabeledLine<'_>],
     together: Together<'_>,
     shown: &[Warning<'_>],
-) -> Result<(), AllocError> {
-    let lists = by_line(alloc, shown)?;
+) {
     let class = if agent.is_none() {
         "lines all"
     } else {
@@ -118,7 +103,10 @@ pub(crate) fn write_file_table(
     put_text!(page, "Lines, and whether they are in the group of {agent}");
     page.close();
     write_line_columns(page);
-    write_line_groups(page, together, &lists, labels);
+    for lines in labels.chunks(BODY_LINES) {
+        page.open("tbody");
+        write_line_rows(page, together, shown, lines);
+        page.close();
+    }
     page.close();
-    Ok(())
 }

@@ -1,6 +1,5 @@
 //! The findings of a page: the list at the top, and the rows below their lines.
 use crate::page::elements::{Page, put_text};
-use crate::page::slices::{after, first};
 use audit_core::audit::Audit;
 use audit_core::counts::counts_of;
 use audit_core::joined::{AlsoIn, joined, shared_lines};
@@ -104,17 +103,10 @@ fn write_findings(
     all: &[Warning<'_>],
 ) -> Result<(), AllocError> {
     let found = joined(alloc, all)?;
-    let later = after(&found, LISTED_WARNINGS);
+    let (listed, later) = found.split_at(LISTED_WARNINGS.min(found.len()));
     let others = without_row(alloc, rows, later)?;
     page.open("ul");
-    write_items(
-        alloc,
-        page,
-        rows,
-        together,
-        all,
-        first(&found, LISTED_WARNINGS),
-    )?;
+    write_items(alloc, page, rows, together, all, listed)?;
     write_items(alloc, page, rows, together, all, &others)?;
     page.close();
     let more = later.len().saturating_sub(others.len());

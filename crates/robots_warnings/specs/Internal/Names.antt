@@ -1,6 +1,5 @@
 -- Sets of names in lower case.
-use Rattle.std.specs.Prelude.{◌≡◌, ℕ, ◌+◌, Bool, bytes_eq, filter, length, map, not, ◌||◌, List, ◌++◌, ◌∷◌}
-use Rattle.std.specs.Prelude.{[]}
+use Rattle.std.specs.Prelude.{[], ◌≡◌, ℕ, ◌+◌, Bool, bytes_eq, filter, length, map, not, ◌||◌, List, ◌++◌, ◌∷◌}
 use Rattle.std.specs.BTreeSet.{BTreeSet, contains}
 use Rattle.std.specs.{Global.Vec, List.enumerate_from, List.list_any, Ordering.nat_cmp}
 use Rattle.std.specs.{Str.str_to_ascii_lowercase, Cmp.Lexicographic.slice_cmp, declared.cmp.Ordering.Ordering}

@@ -1,14 +1,13 @@
 -- What is found among the rules of a crawler: their lines by their patterns, and sets of patterns.
-use Rattle.std.specs.Prelude.{◌≡◌, ℕ, Bool, List, String, true, not, ◌||◌, ◌&&◌, length, map, nat_lt, Option}
-use Rattle.std.specs.Prelude.{Some, None, [], bytes_eq, codes, false}
+use Rattle.std.specs.Prelude.{[], ◌≡◌, ℕ, Bool, List, String, true, not, ◌||◌, ◌&&◌, length, map, nat_lt, Option}
+use Rattle.std.specs.Prelude.{Some, None}
 use Rattle.std.specs.{HashSet.HashSet, HashSet.contains_text, Borrow.Bor, BTreeMap.BTreeMap, BTreeMap.get}
 use Rattle.std.specs.{BTreeSet.contains, BTreeSet.BTreeSet, Global.Global, Global.Vec, HashMap.HashMap}
 use Rattle.std.specs.{HashMap.get_by_text, Ordering.nat_cmp, List.list_any}
-use Rattle.texting_robots.specs.Callers.{Label, LineValue, PlacedRule, UserAgent}
+use Rattle.texting_robots.specs.Callers.{LineValue, PlacedRule}
 use Rattle.robots_warnings.specs.{declared.conflicts.RuleLines.RuleLines, Message.WarningValue}
 use Rattle.robots_warnings.specs.{Warnings.rule_warnings, Internal.Names.Key, Internal.Names.key_cmp}
-use Rattle.robots_warnings.specs.Conflicts.{conflict, first_line, first_of, is_like, overruled}
-use Rattle.robots_warnings.specs.Repeated.{line_listing}
+use Rattle.robots_warnings.specs.Conflicts.{conflict, first_line, is_like, overruled}
 use Rattle.robots_warnings.specs.Closed.{is_exempt, is_rival, is_whole_site, denies}
 
 abbrev pub Lines : Type 0 → Type 0
@@ -19,10 +18,6 @@ pub record HasFirst {S : Type 0} (is_empty : ℕ → Bool) (lines : Lines S) (ru
   where
     pub each : (pattern : List ℕ) → get_by_text lines pattern
         ≡ first_line (is_like is_empty true pattern) rules
-
--- the first line that lists each sitemap
-pub record HasListings {S : Type 0} (lines : Lines S) (labels : List Label) : Type 0 where
-  pub each : (sitemap : List ℕ) → get_by_text lines sitemap ≡ first_of (line_listing sitemap) labels
 
 -- the lines for which something is to be reported about the rules of these crawlers
 pub record AreOf (is_empty : ℕ → Bool) (agents : List (List ℕ)) (lines : List LineValue) (found : RuleLines)
@@ -60,11 +55,6 @@ pub record HasDenied {S : Type 0} (denied : Patterns S) (rules : List PlacedRule
 abbrev pub is_kept_in : {S : Type 0} → Patterns S → PlacedRule → Bool
 is_kept_in denied placed =
     is_whole_site placed.rule.0 || (not placed.rule.1 && contains_text denied placed.rule.0)
-
--- a user-agent line with another name than `*`
-abbrev pub is_other_name : LineValue → Bool
-is_other_name (UserAgent value) = not (bytes_eq value (codes "*"))
-is_other_name _ = false
 
 -- exactly the names, in lower case, for which the test holds
 pub record HasThose (names : BTreeSet Key) (test : List ℕ → Bool) : Type 0 where

@@ -1,11 +1,11 @@
 -- Sets of the values of rules, and the rules of a group that were seen so far.
-use Rattle.std.specs.Prelude.{◌≡◌, ℕ, Bool, List, [], ◌∷◌, ◌||◌, bytes_eq, false, true, ◌++◌}
+use Rattle.std.specs.Prelude.{[], ◌≡◌, ℕ, Bool, List, ◌∷◌, ◌||◌, bytes_eq, false, true, ◌++◌}
 use Rattle.std.specs.{HashSet.HashSet, List.list_any}
-use Rattle.texting_robots.specs.Callers.{LineValue, Allow, Disallow, Label}
-use Rattle.robots_warnings.specs.{declared.values.Value.Value, declared.spellings.Spelling.Spelling}
+use Rattle.texting_robots.specs.Callers.{LineValue, Label}
+use Rattle.robots_warnings.specs.{declared.values.Value.Value}
 use Rattle.robots_warnings.specs.{declared.repeated.Seen.Seen}
 use Rattle.robots_warnings.specs.Repeated.{above_next, is_repeated, repeated, repeated_from}
-use Rattle.robots_warnings.specs.Spellings.{has_other_escape, is_rule_with}
+use Rattle.robots_warnings.specs.Spellings.{is_rule_with}
 use Rattle.std.specs.HashSet as hash
 
 abbrev pub value_eq : Value → Value → Bool
@@ -26,14 +26,6 @@ pub record AddsValue {S : Type 0} (old new : Values S) (value : List ℕ) (is : 
       → is ≡ list_any (is_rule_with is_allow value) lines
   pub each : (key : Value) → hash.contains value_eq new key
       ≡ (hash.contains value_eq old key || bytes_eq value key.bytes.now)
-
-abbrev pub has_other_value : Spelling → LineValue → Bool
-has_other_value spelling (Allow value) = has_other_escape spelling value
-has_other_value spelling (Disallow value) = has_other_escape spelling value
-has_other_value spelling _ = false
-
-abbrev pub has_other_line : Spelling → Label → Bool
-has_other_line spelling label = has_other_value spelling label.line
 
 -- exactly the values of the rules in these lines
 pub record HasSeen (seen : Seen) (above : List LineValue) : Type 0 where

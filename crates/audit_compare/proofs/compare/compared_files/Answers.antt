@@ -6,17 +6,6 @@ same_names : (one other : List (Bor (List ℕ))) → one ≡ other
 same_names one other same = ap (λ (names : List (Bor (List ℕ))). map (λ name. name.now) names) same
 
 pub returns-clause-ok : goal.returns-clause-ok
-returns-clause-ok c =
-    let old = c.requires.older in
-    let new = c.requires.newer in
-    record {
-      older_is = c.side_of.ensures;
-      newer_is = c.side_of-2.ensures;
-      all = rw (same_names _ _ c.deref.ensures.value ∙ c.in_ok-agents.ensures) at c.in_ok-crawlers.ensures.ok;
-      removed_are =
-          rw (c.deref-2.ensures.value, c.deref-3.ensures.value, old.lines_are, new.lines_are)
-          at c.in_ok-removed.ensures;
-      added_are =
-          rw (c.deref-4.ensures.value, c.deref-5.ensures.value, old.lines_are, new.lines_are)
-          at c.in_ok-added.ensures;
-    }
+returns-clause-ok c = record {
+  all = rw (same_names _ _ c.deref.ensures.value ∙ c.in_ok-agents.ensures) at c.in_ok-crawlers.ensures.ok;
+}

@@ -6,9 +6,7 @@ returns-clause-ok c = record {
   agent_is = refl;
   older_is = c.in_ok-older_audit.ensures.ok;
   newer_is = c.in_ok-newer_audit.ensures.ok;
-  removed_are = rw (c.requires.older.site_is, c.requires.newer.site_is) at c.in_ok-rules.ensures.removed;
-  added_are = rw (c.requires.older.site_is, c.requires.newer.site_is) at c.in_ok-rules.ensures.added;
+  rules_are = c.in_ok-rules.ensures;
   verdicts_are = c.in_ok-verdicts.ensures.ok;
   vendor_is = c.in_ok-vendor.ensures.ok;
-  changes_are = c.in_ok-changes.ensures;
 }

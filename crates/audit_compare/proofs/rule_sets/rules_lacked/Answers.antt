@@ -1,7 +1,7 @@
 use Rattle.std.proofs.Common.{ap, filter, not, rules, ◌∙◌}
 use Rattle.std.proofs.{Math.Path.fun_ext, lemmas.Fn.filter_same}
 use Rattle.texting_robots.specs.{Callers.PlacedRule}
-use Rattle.audit_compare.specs.{Internal.Compare.contains_rule}
+use Rattle.audit_compare.specs.{Internal.contains_rule}
 use Rattle.audit_compare.proofs.rule_sets.rules_lacked.Goals as goal
 
 pub returns : goal.returns

@@ -1,5 +1,5 @@
-use Rattle.std.proofs.Common.{ap, ◌∙◌}
-use Rattle.robots_warnings.specs.declared.facts.{FileFacts.FileFacts}
+use Rattle.std.proofs.Common.{◌∙◌}
+use Rattle.audit_core.proofs.AddedLemmas.{chosen_so}
 use Rattle.audit_core.proofs.audit.audit_read.Goals as goal
 
 pub returns-clause-ok : goal.returns-clause-ok
@@ -8,24 +8,18 @@ returns-clause-ok c =
     let labels = c.requires.labels in
     let names = rw (c.deref.ensures.value, c.deref-2.ensures.value, read.lines_are) at c.in_ok-names.ensures
     in
-    let (sitemaps, are, found) = c.in_ok-warnings.ensures.ok in
-    let all = rw (
-      c.deref-5.ensures.value,
-      names,
-      read.facts_are,
-      labels,
-      read.site_is,
-    ) at found in
+    let (are, in_lines, told) = chosen_so _ _ _ _ _ _ _ _ _ _
+    (rw (c.deref-5.ensures.value, names, labels) at c.in_ok-warnings.ensures.ok)
+    (rw (c.deref-6.ensures.value, c.deref-7.ensures.value) at c.choose.ensures) in
     record {
       needless = c.in_ok-needless.needless;
       needless_are = rw read.site_is at c.in_ok-needless.ensures.found;
       unrequested = c.in_ok-needless.ensures.unrequested;
-      too_large = λ large. c.in_ok-needless.ensures.too_large
-          (ap (λ (facts : FileFacts). facts.is_too_large) read.facts_are ∙ large);
-      sitemaps = sitemaps;
-      sitemaps_are = rw labels at are;
+      too_large = λ large. c.in_ok-needless.ensures.too_large (read.size_is ∙ large);
       labels_are = labels;
       agents_are = rw (c.deref-3.ensures.value, names, c.deref-4.ensures.value) at c.in_ok-agents.ensures.ok;
-      warnings_are = rw (c.deref-6.ensures.value, c.deref-7.ensures.value, all) at c.choose.ensures;
+      warnings_are = are;
+      in_lines = in_lines;
+      told = told;
       syntax_is = c.in_ok-syntax.ensures;
     }

@@ -1,8 +1,7 @@
-use Rattle.std.proofs.Common.{◌≡◌, ◌++◌, map, take}
-use Rattle.audit_core.specs.Needless.{needless_warning}
+use Rattle.std.proofs.Common.{take}
+use Rattle.robots_needless.specs.Needless.{numbers_of}
+use Rattle.audit_core.specs.Internal.{AddsNeedless}
 use Rattle.audit_core.proofs.needless.add_rules.Given as goal
 
 abbrev pub invariant-loop-rule : goal.invariant-loop-rule
-invariant-loop-rule l =
-    l.found.items
-    ≡ l.fn.found.items ++ map needless_warning (take l.rule-index l.rules)
+invariant-loop-rule l = AddsNeedless (numbers_of (take l.rule-index l.rules)) l.fn.found.items l.found.items

@@ -1,12 +1,11 @@
-use Rattle.texting_robots.specs.Callers.{lines_read}
-use Rattle.robots_warnings.specs.Crawlers.{Row, crawlers}
-use Rattle.audit_expect.specs.Expectations.{elsewhere}
-use Rattle.audit_expect.proofs.ExpectationsLemmas.{row_next}
+use Rattle.std.proofs.Common.{◌∙◌, refl, rules}
+use Rattle.std.proofs.lemmas.List.{take_all}
+use Rattle.audit_expect.proofs.ExpectationsLemmas.{names_known}
 use Rattle.audit_expect.proofs.any.all_crawlers.Goals as goal
 
-pub loop-row-preserved : goal.loop-row-preserved
-loop-row-preserved c =
+pub returns : goal.returns
+returns c =
     let rows = c.crawlers-row-items in
-    row_next (λ (row : Row). elsewhere (lines_read c.args.read.now.bytes.now) row.0) rows.result.now crawlers
-    c.loop-row.row-index _ _ rows.ensures c.loop-row-test.true c.loop-row.invariant
-    (rw c.requires.site_is at c.in_ok-push_elsewhere.ensures)
+    let whole = take_all c.loop-row.row-index rows.result.now (search rules) in
+    c.loop-row.invariant
+    ∙ rw (whole, names_known rows.result.now, rows.ensures, c.requires.site_is) refl

@@ -1,3 +1,5 @@
+use Rattle.audit_expect.specs.Internal.Expectations.{expectation_value}
+use Rattle.audit_expect.proofs.ExpectationsLemmas.{decided_all}
 use Rattle.audit_expect.proofs.OtherReadingLemmas.{all_accepted}
 use Rattle.audit_expect.proofs.checks.on_pattern.Goals as goal
 
@@ -7,8 +9,7 @@ on_paths-requires-clause-rules c =
     (all_accepted c.args.agent.now _ c.requires.accepted)
 
 pub returns : goal.returns
-returns c = (
-  c.requires.accepted,
-  rw (c.deref.ensures.value, c.in_ok-rules.ensures, c.requires.read.site_is) at c.in_ok-found.ensures,
-  c.requires.pattern,
-)
+returns c =
+    decided_all c.args.read.now.bytes.now c.args.agent.now (expectation_value c.args.expectation.now) _
+    c.requires.accepted c.requires.pattern
+    (rw (c.deref.ensures.value, c.in_ok-rules.ensures, c.requires.read.site_is) at c.in_ok-found.ensures)

@@ -1,16 +1,9 @@
-use Rattle.std.proofs.Common.{◌≡◌, ◌+◌, ◌++◌, ◌≤◌, length, map}
-use Rattle.audit_expect.specs.Expect.{entries_from, expectation_in, lines, malformed_from}
-use Rattle.audit_expect.specs.Internal.Expectations.{expectation_value}
+use Rattle.std.proofs.Common.{◌≡◌, flat_map, length, map, take}
+use Rattle.audit_expect.specs.Expect.{line_expects}
+use Rattle.audit_expect.specs.Internal.Expectations.{expected_by}
 use Rattle.audit_expect.proofs.expect.line_expectations.Given as goal
 
-abbrev pub invariant-loop-rest : goal.invariant-loop-rest
-invariant-loop-rest l = record {
-  counted : l.number + length l.rest ≤ length l.text + 1;
-  found : map expectation_value l.found.items ++ entries_from expectation_in l.number (lines l.rest)
-      ≡ entries_from expectation_in 1 (lines l.text);
-  malformed : l.malformed.items ++ malformed_from expectation_in l.number (lines l.rest)
-      ≡ malformed_from expectation_in 1 (lines l.text);
-}
-
-abbrev pub decreases-loop-rest : goal.decreases-loop-rest
-decreases-loop-rest l = length l.rest
+abbrev pub invariant-loop-line : goal.invariant-loop-line
+invariant-loop-line l =
+    length l.malformed.items ≡ 0
+    → expected_by l.found.items ≡ flat_map line_expects (map (λ line. line.now) (take l.line-index l.line-items))

@@ -1,18 +1,27 @@
-use Rattle.std.proofs.Common.{ap, subst}
+use Rattle.std.proofs.Common.{All, rules, subst, sym}
+use Rattle.std.proofs.lemmas.List.{take_all, Elements.All-map, Elements.All-more}
 use Rattle.audit_core.specs.Internal.{IsReading}
-use Rattle.audit_expect.specs.Internal.Expectations.{expectation_value, checked_value}
-use Rattle.audit_expect.proofs.ExpectationsLemmas.{failures_next}
+use Rattle.audit_expect.specs.Expectations.{Holds}
+use Rattle.audit_expect.specs.Internal.Expectations.{expectation_value}
+use Rattle.audit_expect.specs.declared.expect.Expectation.{Expectation}
 use Rattle.audit_expect.proofs.expectations.failures.Goals as goal
 
 pub loop-expectation-preserved : goal.loop-expectation-preserved
 loop-expectation-preserved c =
-    let latest = c.in_ok-latest.ensures.ok in
-    let checked = c.in_ok-checked.ensures in
+    let file = c.args.read.now.bytes.now in
     record {
-      latest = subst (λ agent. IsReading agent c.args.read.now.bytes.now c.in_ok-latest.latest.reading)
-          (cc) latest.reading;
-      failures = failures_next c.args.read.now.bytes.now _ _ c.args.expectations.now
-          c.loop-expectation.expectation-index _ (checked_value c.in_ok-checked.checked)
-          c.loop-expectation-test.true c.loop-expectation.invariant.failures
-          (ap expectation_value checked.expectation) checked.checked c.in_ok-add_if_failing.ensures.ok;
+      latest = subst (λ agent. IsReading agent file c.in_ok-latest.latest.reading)
+          (sym c.in_ok-latest.ensures.agent_is) c.in_ok-latest.ensures.reading;
+      hold = λ none.
+          let (before, passes) = c.in_ok-add_if_failing.ensures none in
+          All-more (λ (one : Expectation). Holds file (expectation_value one)) _ _ _ c.loop-expectation-test.true
+          (c.loop-expectation.invariant.hold before) (c.in_ok-checked.ensures passes);
     }
+
+pub returns : goal.returns
+returns c = λ none.
+    let file = c.args.read.now.bytes.now in
+    All-map (Holds file) expectation_value c.args.expectations.now
+    (subst (All (λ (one : Expectation). Holds file (expectation_value one)))
+    (take_all c.loop-expectation.expectation-index c.args.expectations.now (search rules))
+    (c.loop-expectation.invariant.hold none))

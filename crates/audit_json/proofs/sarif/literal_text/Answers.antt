@@ -1,8 +1,8 @@
 use Rattle.std.proofs.Common.{List, ℕ, flat_map, sym, ap, ◌∙◌, map-id}
 use Rattle.std.specs.Str.{encode_utf8_all}
 use Rattle.std.proofs.lemmas.Iterator.{YieldsList-from_chars, Consumers.YieldsList-end}
-use Rattle.audit_json.specs.Sarif.{literal_char, literal_text}
-use Rattle.audit_json.proofs.JsonLemmas.{literal_next}
+use Rattle.audit_json.specs.Sarif.{literal_char}
+use Rattle.audit_json.proofs.MessageLemmas.{literal_next}
 use Rattle.audit_json.proofs.sarif.literal_text.Goals as goal
 
 pub loop-char-preserved : goal.loop-char-preserved
@@ -11,7 +11,6 @@ loop-char-preserved c =
     c.in_ok-push_literal_char.ensures
 
 pub returns : goal.returns
-unfolding literal_text
 returns c =
     let end = YieldsList-end (YieldsList-from_chars c.args.text.now c.utf8.text cc) c.loop-char.yielded _
     c.loop-char.yielded_by _ _ c.in-None.is c.next.ensures.steps in

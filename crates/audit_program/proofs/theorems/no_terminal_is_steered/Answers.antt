@@ -2,7 +2,4 @@ use Rattle.audit_program.proofs.MessageLemmas.{answer_safe, safe_printable}
 use Rattle.audit_program.proofs.theorems.no_terminal_is_steered.Goals as goal
 
 pub returns : goal.returns
-returns c = record {
-  safe = λ by_default matches answer is. (answer_safe by_default matches answer is).report;
-  printable = safe_printable;
-}
+returns c = record { safe = answer_safe; printable = safe_printable }

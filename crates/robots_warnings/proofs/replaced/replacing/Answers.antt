@@ -1,10 +1,12 @@
-use Rattle.std.proofs.Common.{map, rules, sym, ◌∙◌}
-use Rattle.texting_robots.specs.Callers.{file_lines}
-use Rattle.robots_warnings.proofs.RuleLemmas.{nothing_replaced}
+use Rattle.std.proofs.Common.{◌≡◌, arith, map}
+use Rattle.std.proofs.lemmas.{Grind.common_steps, List.Elements.All-contains_itself}
+use Rattle.texting_robots.specs.Callers.{file_lines, label_by_value}
+use Rattle.robots_warnings.specs.Closed.{replacing}
 use Rattle.robots_warnings.proofs.replaced.replacing.Goals as goal
 
-pub returns-then-not-has_other_name : goal.returns-then-not-has_other_name
-returns-then-not-has_other_name c =
-    c.new-found.ensures.items
-    ∙ sym (nothing_replaced (map (λ agent. agent.now) c.args.agents.now) (file_lines c.args.site.now)
-    c.args.labels.now (search rules))
+pub returns : goal.returns
+returns c =
+    let agents = map (λ agent. agent.now) c.args.agents.now in
+    let labels = map label_by_value c.args.labels.now in
+    let same : c.loop-rest.found.items ≡ replacing agents (file_lines c.args.site.now) labels = grind (arith, common_steps) in
+    rw same (All-contains_itself _)

@@ -1,11 +1,5 @@
-use Rattle.std.proofs.Common.{◌≡◌, ◌++◌, flat_map, map, take}
-use Rattle.texting_robots.specs.Callers.{label_by_value}
-use Rattle.robots_warnings.specs.Warnings.{sitemap_warning}
+use Rattle.robots_warnings.specs.{Internal.Tells.AddsStyle}
 use Rattle.robots_warnings.proofs.warnings.warn_of_sitemaps.Given as goal
 
 abbrev pub invariant-loop-labeled : goal.invariant-loop-labeled
-invariant-loop-labeled l =
-    l.found.items
-    ≡ l.fn.found.items
-    ++ flat_map (sitemap_warning (map label_by_value l.labels))
-    (map label_by_value (take l.labeled-index l.labels))
+invariant-loop-labeled l = AddsStyle l.fn.found.items l.found.items

@@ -1,15 +1,16 @@
-use Rattle.std.proofs.Common.{◌≡◌, List, [], ◌++◌, append_assoc}
+use Rattle.std.proofs.Common.{map}
+use Rattle.texting_robots.specs.{Callers.label_by_value}
+use Rattle.robots_warnings.proofs.TellsLemmas.{all_of, lines_are, told}
 use Rattle.robots_warnings.proofs.warnings.warnings.Goals as goal
-
-added : {X : Type 0} (none a b c d e one two three four five : List X) → none ≡ [] → a ≡ none ++ one
-    → b ≡ a ++ two → c ≡ b ++ three → d ≡ c ++ four → e ≡ d ++ five
-    → e ≡ one ++ (two ++ (three ++ (four ++ five)))
-added none a b c d e one two three four five x y z u v w = rw (w, v, u, z, y, x) (simp (append_assoc))
 
 pub returns : goal.returns
 returns c =
-    added _ _ _ _ _ _ _ _ _ _ _ c.new-found.ensures.items
-    c.in_ok-warn_in_general.ensures
-    c.in_ok-warn_of_lines.ensures
-    (rw c.deref.ensures.value at c.in_ok-warn_of_positions.ensures) c.in_ok-warn_past_limit.ensures
-    c.in_ok-warn_of_groups.ensures
+    let read = c.args.read.now in
+    let agents = map (λ agent. agent.now) c.args.agents.now in
+    let urls = map (λ url. url.now) c.args.urls.now in
+    let labels = map label_by_value read.labels.items in
+    let (all, given) = all_of (told c.args.all_groups agents read.bytes.now labels urls c.file_checks.result
+    (lines_are read c.requires) c.new-found.ensures.items c.file_checks.ensures c.in_ok-warn.ensures
+    c.in_ok-warn_of_closed.ensures c.in_ok-warn_of_urls.ensures (c.in_ok-warn_of_each_line.ensures agents)
+    c.in_ok-warn_of_groups.ensures) in
+    record { so = all; given = given }

@@ -11,6 +11,6 @@ returns-clause-read c =
     record {
       lines_are = ap lines_of c.in_ok-labels.ensures ∙ held.0;
       bodies_are = ap bodies_in c.in_ok-labels.ensures ∙ held.1;
-      facts_are = rw c.deref.ensures.value at c.facts_of-facts.ensures;
+      size_is = c.facts_of-facts.ensures;
       site_is = c.in_ok-site.ensures;
     }

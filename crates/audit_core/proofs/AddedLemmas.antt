@@ -1,0 +1,176 @@
+-- Warnings that an audit has besides those about its lines, and which of all are reported.
+use Rattle.std.proofs.Common.{◌≡◌, ◌∙◌, ◌<◌, ◌+◌, ◌||◌, ℕ, All, Bool, true, false, Contains, List, [], ◌∷◌}
+use Rattle.std.proofs.Common.{◌++◌}
+use Rattle.std.proofs.Common.{MatchOption, Option, None, Some, ap, ap₂, append-nil, append_assoc, codes}
+use Rattle.std.proofs.Common.{filter}
+use Rattle.std.proofs.Common.{flat_map, if◌then◌else◌, inl, inr, length, option_to_list, refl, slice_index_or}
+use Rattle.std.proofs.Common.{sym, take}
+use Rattle.std.proofs.lemmas.Bool.{cases_Bool, false≢true}
+use Rattle.std.proofs.lemmas.List.{Concat.flat_map-append, map-append, take_more}
+use Rattle.std.proofs.lemmas.List.Elements.{All-append, All-cons, All-filter, All-head, All-nil, All-tail}
+use Rattle.std.proofs.lemmas.List.Elements.{All-weaker, Contains-append_left, filter_passes}
+use Rattle.texting_robots.specs.Callers.{Label, lines_read}
+use Rattle.robots_needless.proofs.TogetherLemmas.{to_filter}
+use Rattle.robots_needless.specs.{Needless.numbers_of, declared.needless.NeedlessRule.NeedlessRule}
+use Rattle.robots_warnings.specs.{Means.Means, Means.is_style, Means.telling, Message.WarningValue}
+use Rattle.robots_warnings.specs.{Table.name_of, declared.table.Cause.Cause, declared.warning.Detail.Detail}
+use Rattle.robots_warnings.specs.declared.table.Cause.TheVariants as causes
+use Rattle.audit_core.specs.{Audit.IsSo, Chosen.chosen, Chosen.is_chosen, Internal.AddsNeedless}
+use Rattle.audit_core.specs.{Internal.AreFoundFor, Internal.is_plain, Together.is_needless}
+use Rattle.audit_core.specs.{Together.needless_line}
+
+abbrev IsPlain : WarningValue → Type 0
+IsPlain warning = is_plain warning ≡ true
+
+pub none_added : (found : List WarningValue) → AddsNeedless [] found found
+none_added found = record {
+  added = [];
+  appended = sym (append-nil found);
+  in_lines = refl;
+  plain = All-nil IsPlain;
+}
+
+pub one_added : {found new : List WarningValue} (warning : WarningValue) {lines : List ℕ}
+    → new ≡ found ++ warning ∷ [] → is_plain warning ≡ true → needless_line warning ≡ lines
+    → AddsNeedless lines found new
+one_added warning added plain is = record {
+  added = warning ∷ [];
+  appended = added;
+  in_lines = append-nil (needless_line warning) ∙ is;
+  plain = All-cons IsPlain warning [] plain (All-nil IsPlain);
+}
+
+pub rule_added : {found new : List WarningValue} {line : ℕ} (cause : Cause) (about : Option (List ℕ))
+    (detail : Option Detail) → new ≡ found ++ (record { line = Some line; cause = cause; about = about; detail = detail }) ∷ []
+    → is_needless cause ≡ true → AddsNeedless (line ∷ []) found new
+rule_added cause about detail added is = one_added _ added (rw is (or_true (is_style cause))) (rw is refl)
+  where
+    or_true : (a : Bool) → (a || true) ≡ true
+    or_true true = refl
+    or_true false = refl
+
+pub more_added : {one two : List ℕ} {old mid new : List WarningValue} → AddsNeedless one old mid
+    → AddsNeedless two mid new → AddsNeedless (one ++ two) old new
+more_added {old} first second = record {
+  added = first.added ++ second.added;
+  appended = second.appended ∙ ap (λ front. front ++ second.added) first.appended
+      ∙ append_assoc old first.added second.added;
+  in_lines = flat_map-append needless_line first.added second.added
+      ∙ ap₂ (λ front (back : List ℕ). front ++ back) first.in_lines second.in_lines;
+  plain = All-append IsPlain first.added second.added first.plain second.plain;
+}
+
+pub more_none : {lines : List ℕ} {old mid new : List WarningValue} → AddsNeedless lines old mid
+    → AddsNeedless [] mid new → AddsNeedless lines old new
+more_none {new} first second = rw append-nil at (more_added {new = new} first second)
+
+pub next_rule : (rules : List NeedlessRule) (at : ℕ) (rule : NeedlessRule) {old mid new : List WarningValue}
+    → at < length rules → AddsNeedless (numbers_of (take at rules)) old mid
+    → AddsNeedless ((slice_index_or rules at rule).line ∷ []) mid new
+    → AddsNeedless (numbers_of (take (at + 1) rules)) old new
+next_rule rules at rule below first second =
+    rw (take_more rules at rule below, map-append) (more_added first second)
+
+name_is : (cause : Cause) → is_needless cause ≡ true → name_of cause ≡ codes "needless-rule"
+unfolding name_of
+name_is causes.NeverDecides is = refl
+name_is causes.MatchesNothing is = refl
+name_is causes.AllowedAnyway is = refl
+name_is causes.NotNeeded is = refl
+name_is cause is = absurd (false≢true is)
+
+lines_kept : (test : WarningValue → Bool) (shown : Bool)
+    → ((warning : WarningValue) → is_needless warning.cause ≡ true → test warning ≡ shown)
+    → (found : List WarningValue) → flat_map needless_line (filter test found)
+    ≡ (if shown then flat_map needless_line found else [])
+lines_kept test true same [] = refl
+lines_kept test false same [] = refl
+lines_kept test true same (one ∷ found) = elim (cases_Bool (is_needless one.cause)) [
+  | inl is ↦ rw (same one is, is)
+      (ap (λ lines. option_to_list one.line ++ lines) (lines_kept test true same found))
+  | inr isnt ↦ elim (cases_Bool (test one)) [
+    | inl stays ↦ rw (stays, isnt) (lines_kept test true same found)
+    | inr goes ↦ rw (goes, isnt) (lines_kept test true same found)
+  ]
+]
+lines_kept test false same (one ∷ found) = elim (cases_Bool (is_needless one.cause)) [
+  | inl is ↦ rw (same one is) (lines_kept test false same found)
+  | inr isnt ↦ elim (cases_Bool (test one)) [
+    | inl stays ↦ rw (stays, isnt) (lines_kept test false same found)
+    | inr goes ↦ rw goes (lines_kept test false same found)
+  ]
+]
+
+told_chosen : (test : WarningValue → Bool) (found told : List WarningValue) → All (Contains found) told
+    → All (Contains (filter test found)) (filter test told)
+told_chosen test found told are k other below =
+    to_filter test found _ (All-filter test (Contains found) told are k other below)
+    (filter_passes test told k other below)
+
+no_line : (line : Option ℕ) → MatchOption line ⊥ (λ number. ⊥) → ⊥
+no_line None says = says
+no_line (Some number) says = says
+
+module _ (all_groups : Bool) (agents urls : List (List ℕ)) (file : List ℕ) (labels : List Label) where
+  abbrev Says : WarningValue → Type 0
+  Says = Means all_groups agents file labels
+
+  isnt_needless : (line : Option ℕ) (cause : Cause) (about : Option (List ℕ)) (detail : Option Detail)
+      → Says (record { line = line; cause = cause; about = about; detail = detail })
+      → is_needless cause ≡ false
+  isnt_needless line causes.NeverDecides about detail means = elim (means refl) [
+    | inl is ↦ absurd (false≢true is.so)
+    | inr says ↦ absurd (no_line line says)
+  ]
+  isnt_needless line causes.MatchesNothing about detail means = elim (means refl) [
+    | inl is ↦ absurd (false≢true is.so)
+    | inr says ↦ absurd (no_line line says)
+  ]
+  isnt_needless line causes.AllowedAnyway about detail means = elim (means refl) [
+    | inl is ↦ absurd (false≢true is.so)
+    | inr says ↦ absurd (no_line line says)
+  ]
+  isnt_needless line causes.NotNeeded about detail means = elim (means refl) [
+    | inl is ↦ absurd (false≢true is.so)
+    | inr says ↦ absurd (no_line line says)
+  ]
+  isnt_needless line cause about detail means = refl
+
+  none_needless : (found : List WarningValue) → All Says found → flat_map needless_line found ≡ []
+  none_needless [] are = refl
+  none_needless (one ∷ found) are =
+      rw (isnt_needless one.line one.cause one.about one.detail (All-head Says one found are))
+      (none_needless found (All-tail Says one found are))
+
+  plain_so : (warning : WarningValue) → is_plain warning ≡ true
+      → IsSo all_groups agents file labels warning
+  plain_so warning plain isnt style = absurd (false≢true (rw (style, isnt) at plain))
+
+  pub all_found : {lines : List ℕ} {old new : List WarningValue} → All Says old
+      → All (Contains old) (telling agents urls (lines_read file) labels) → AddsNeedless lines old new
+      → AreFoundFor all_groups agents urls file labels lines new
+  all_found {lines} {old} {new} are told all = record {
+    are = rw all.appended (All-append (IsSo all_groups agents file labels) old all.added
+        (λ k other below _. are k other below)
+        (All-weaker IsPlain (IsSo all_groups agents file labels) plain_so all.added all.plain));
+    in_lines = ap (flat_map needless_line) all.appended ∙ flat_map-append needless_line old all.added
+        ∙ ap (λ front. front ++ flat_map needless_line all.added) (none_needless old are) ∙ all.in_lines;
+    told = λ k other below. rw all.appended (Contains-append_left old all.added _ (told k other below));
+  }
+
+  pub chosen_so : (only ignored : List (List ℕ)) (lines : List ℕ) (found new : List WarningValue)
+      → AreFoundFor all_groups agents urls file labels lines found → new ≡ chosen only ignored found
+      → All (IsSo all_groups agents file labels) new
+      × (flat_map needless_line new
+      ≡ (if is_chosen only ignored (codes "needless-rule") then lines else []))
+      × All (Contains new) (chosen only ignored (telling agents urls (lines_read file) labels))
+  chosen_so only ignored lines found new is same =
+      let test = λ (warning : WarningValue). is_chosen only ignored (name_of warning.cause) in
+      let shown = is_chosen only ignored (codes "needless-rule") in
+      rw same (
+        All-filter test (IsSo all_groups agents file labels) found is.are,
+        lines_kept test shown (λ warning needless. ap (is_chosen only ignored)
+            (name_is warning.cause needless)) found
+            ∙ ap (λ (lines : List ℕ). if shown then lines else []) is.in_lines,
+        told_chosen test found (telling agents urls (lines_read file) labels) is.told,
+      )
