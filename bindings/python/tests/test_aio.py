@@ -173,6 +173,35 @@ def test_the_log_says_which_error_it_was(caplog):
         assert caplog.messages[-1] == f"http://a.example/robots.txt can't be fetched: {text}"
 
 
+NO_BODY = "status 200, but the body breaks off or can't be unpacked"
+
+
+@pytest.mark.parametrize(
+    "response, text",
+    [
+        (Response(503, {}, b""), "status 503"),
+        (Response(206, {}, RULES), "status 206"),
+        (Response(200, {}, RULES, is_complete=False), NO_BODY),
+        (Response(200, {"Content-Encoding": "br"}, b"x"), NO_BODY),
+    ],
+)
+def test_the_log_says_why_a_response_is_no_file(caplog, response, text):
+    asked(AsyncRobots(Server(response).get, "FerrisBot"), "/")
+    assert caplog.messages == [f"http://a.example/robots.txt can't be fetched: {text}"]
+
+
+BROWSER = "Mozilla/5.0 (compatible; FerrisBot/1.0)"
+
+
+@pytest.mark.parametrize(
+    "user_agent, warnings",
+    [(BROWSER, 1), ([BROWSER], 1), ("FerrisBot (as Mozilla/5.0)", 0), ([BROWSER, "FerrisBot"], 0)],
+)
+def test_a_warning_of_a_user_agent_that_begins_as_a_browsers(caplog, user_agent, warnings):
+    AsyncRobots(Server(file()).get, user_agent)
+    assert caplog.text.count("begins as a browser's does: pass the crawler's name") == warnings
+
+
 @pytest.mark.parametrize("error, was_reached", [(socket.gaierror("x"), False), (ConnectionRefusedError(), False), (ConnectionResetError(), True), (ValueError(), True)])
 @pytest.mark.parametrize("is_wrapped", [False, True])
 def test_whether_there_was_a_connection(error, was_reached, is_wrapped):

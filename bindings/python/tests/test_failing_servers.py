@@ -86,6 +86,23 @@ def test_a_request_without_an_answer_counts_as_failed(caches):
     assert caches(answer_within=7).look(A).fetch and cache.size == 2 * 740 + 740 + 610
 
 
+@pytest.mark.parametrize("set_back", [0, HOUR])
+def test_a_request_without_an_answer_behind_one_that_lasts_longer(caches, set_back):
+    """The older one has followed a redirect meanwhile, or the clock has been set back."""
+    cache = caches()
+    older = cache.look(HTTP).fetch
+    caches.clock.now += 1 - set_back
+    assert cache.look(A)[0] is Action.FETCH
+    caches.clock.now += 299
+    assert cache.received(older, *moved(HTTPS)).fetch
+    assert cache.look(A) == Look(Action.WAIT, A, again=1)
+    caches.clock.now += 1
+    look = cache.look(A)
+    assert (look.action, look.site.state) == (Action.USE, State.UNREACHABLE)
+    assert caches.events == {"unanswered": 1}
+    assert cache.look(HTTP)[0] is cache.look(HTTPS)[0] is Action.WAIT
+
+
 def test_a_refresh_without_an_answer_counts_as_failed(caches):
     """Also for sites that nobody asks about."""
     cache = caches()

@@ -61,7 +61,10 @@ def test_figures(caplog):
     robots._figures._call.clock, robots._figures._interval = None, 0
     robots._spider_closed()
     assert figures() == [0, 1, 2, 90]
-    assert [it.getMessage() for it in caplog.records] == ["2 robots.txt files can't be fetched, the first for 90 s: 0 requests wait; 1 files are being fetched"]
+    assert [it.getMessage() for it in caplog.records] == [
+        "robots.txt files that can't be fetched: 2, the first for 90 s; requests that wait: 0;"
+        " files that are being fetched: 1"
+    ]
     crawler.engine.answer = file()
     robots._figures.known([Site("http://a.example/robots.txt", State.FILE, 1, 1)])
     robots._figures.write()

@@ -2,6 +2,7 @@
 
 import pickle
 import re
+import sys
 import threading
 import time
 import types
@@ -217,7 +218,7 @@ def test_what_waits_in_memory_is_lost_without_a_folder_for_the_next_start(caplog
     robots._parking._end_of_spider()
     assert [type(it[0]) for it in outcomes] == [Unreachable] * 3 + [Postponed] and not robots._parking.count
     robots._spider_closed()
-    assert crawler.stats.get_value("robotstxt/lost") == 4 and "4 requests are lost that waited" in caplog.text
+    assert crawler.stats.get_value("robotstxt/lost") == 4 and "and are lost: 4." in caplog.text
 
 
 @pytest.mark.parametrize("kept", ["JOBDIR", "TEXTING_ROBOTS_DATABASE"])
@@ -261,7 +262,19 @@ def test_a_crash_loses_nothing_that_was_written(tmp_path):
     later, crawler = ours(file(), **settings)
     later._parking._limits = later._parking._limits._replace(seconds=3600)
     later._parking._spider_opened()
-    assert later._parking.waiting == 3
+    assert later._parking.waiting == 5
+    assert not [*tmp_path.glob("robots-waiting-small%2Fone.sqlite3.2*")]
+
+
+def test_no_process_opens_a_file_of_requests_that_another_one_has(tmp_path):
+    """Also not if there are two such spiders in the other process."""
+    settings = {"JOBDIR": str(tmp_path), "TEXTING_ROBOTS_PARKED": 0}
+    several = [waiting(number, **settings)[0]._parking._open_rows() for number in (1, 2)]
+    code = "from texting_robots._waiting import WaitingRequests; import sys;"
+    code += " rows = WaitingRequests(sys.argv[1], None); print(rows._path, rows.counts())"
+    path = str(tmp_path / "robots-waiting-small%2Fone.sqlite3")
+    assert package.run(["-c", code, path]) == f"{path}.3 {{}}\n"
+    assert [list(it.counts().values()) for it in several] == [[1], [2]]
 
 
 def test_a_file_of_requests_that_others_could_write_is_not_read(tmp_path, caplog):
@@ -286,6 +299,18 @@ def test_a_file_of_requests_runs_no_code(tmp_path, capsys, caplog):
     robots._parking._ask_again("http://a.example/robots.txt")
     assert capsys.readouterr().out == "" and caplog.text.count("can't be read: builtins.print") == 3
     assert crawler.engine.scheduled == [] and crawler.stats.get_value("robotstxt/lost") == 2 and rows.close() == 0
+
+
+def test_a_file_of_requests_imports_no_module(tmp_path, monkeypatch, caplog, capsys):
+    """But for those of the spider and of Scrapy, whose classes requests may have."""
+    (tmp_path / "evil_module.py").write_text("print('run')")
+    monkeypatch.syspath_prepend(tmp_path)
+    rows = waiting(1, TEXTING_ROBOTS_PARKED=0)[0]._parking._open_rows()
+    for name, is_read in [("scrapy.http.FormRequest", True), ("evil_module.Request", False)]:
+        values = Request("http://a.example/x").to_dict() | {"_class": name}
+        assert (rows._request(pickle.dumps(values)) is not None) is is_read
+    assert capsys.readouterr().out == "" and "evil_module" not in sys.modules
+    assert "evil_module.Request is in a module that isn't imported" in caplog.text
 
 
 @pytest.fixture
@@ -341,6 +366,40 @@ def test_a_server_that_hangs_is_asked_once(clock):
         assert isinstance(outcome(robots, Request("http://a.example/private/"))[0], Forbidden)
         clock.advance(0.25)
     assert moments == [0, 3]
+
+
+def test_after_the_end_no_file_is_asked_for(clock, tmp_path):
+    """Other spiders may go on in the same process, and the same one may start again there."""
+    words = {"TEXTING_ROBOTS_PARKED": 0, "TEXTING_ROBOTS_PARKED_SECONDS": 99, "JOBDIR": str(tmp_path)}
+    robots, moments = with_clock(clock, file(status=503), **words)
+    assert isinstance(outcome(robots, Request("http://a.example/"))[0], Postponed)
+    robots._spider_closed()
+    clock.advance(1000)
+    assert moments == [0] and not clock.getDelayedCalls()
+    again, _ = with_clock(clock, file(), **words)
+    assert again._parking._open_rows().counts() == {"http://a.example/robots.txt": 1}
+
+
+@pytest.mark.parametrize("set_forward, asked", [(0, [0, 65]), (1000, [0, 0, 60])])
+def test_an_answer_that_comes_too_late_leaves_no_request_waiting(clock, set_forward, asked):
+    """Its request counts as failed by then, which may come to light by a request to another site,
+    as when the clock has been set."""
+    pending = Deferred()
+
+    def answer(request):
+        return file()(request) if moments[1:] else pending
+
+    words = {"TEXTING_ROBOTS_PARKED_SECONDS": 3600, "TEXTING_ROBOTS_ANSWER_WITHIN": 60}
+    robots, moments = with_clock(clock, answer, **words)
+    ended = outcome(robots, Request("http://a.example/"))
+    if set_forward:
+        robots._cache._clock = lambda: clock.seconds() + set_forward
+        assert outcome(robots, Request("http://b.example/")) == [None]
+        pending.callback(file()(Request("http://a.example/robots.txt")))
+    clock.advance(60)
+    clock.advance(5)
+    assert moments == asked and len(ended) == 1
+    assert not robots._timers and not robots._parking.waiting
 
 
 def test_what_can_not_be_written_holds_a_place():
@@ -476,6 +535,19 @@ def test_no_other_middleware_unpacks_a_file_or_asks_again_at_once():
     page = Response("http://a.example/", headers={"Content-Encoding": "gzip"})
     robots._response_downloaded(page, Request("http://a.example/"))
     assert "Content-Encoding" in page.headers
+
+
+def test_scrapy_asks_again_at_once_when_a_server_fails_first():
+    """And not later in an outage, so that this isn't three times as often as the setting says."""
+    robots, crawler = ours(lambda request: Failure(ConnectionRefusedError()))
+    now = [1e9]
+    robots._cache._clock = lambda: now[0]
+    for answer in [crawler.engine.answer] * 3 + [file(), crawler.engine.answer]:
+        crawler.engine.answer = answer
+        outcome(robots, Request("http://a.example/"))
+        now[0] += 86_400
+    found = [it.meta.get("dont_retry", False) for it in crawler.engine.requests]
+    assert found == [False, True, True, True, False]
 
 
 @pytest.mark.parametrize(

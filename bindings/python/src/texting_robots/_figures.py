@@ -41,7 +41,7 @@ class Figures:
         for name, value in figures.items():
             self._crawler.stats.set_value(f"robotstxt/{name}", value)
         if self._outages:
-            text = "%d robots.txt files can't be fetched, the first for %d s: %d requests wait; %d files are being fetched"
+            text = "robots.txt files that can't be fetched: %d, the first for %d s; requests that wait: %d; files that are being fetched: %d"
             words = figures["outages"], figures["oldest_outage_seconds"], waiting, figures["in_flight"]
             logger.info(text, *words, extra={"spider": self._crawler.spider})
 

@@ -138,18 +138,21 @@ class Parking:
         self._idle_since = 0.0
 
     def close(self) -> None:
-        """Closes the file, and says how many requests wait for the next start, or are lost."""
+        """Closes the file, and says how many requests wait for the next start, or are lost. The process may go on, with other spiders."""
         stats, extra = self._crawler.stats, {"spider": self._crawler.spider}
+        for timer in (self._look, *(place.timer for place in self._places.values())):
+            _stop(timer)
+        self._places.clear()
         is_kept, left = bool(self._rows and self._rows.is_kept), self._rows.close() if self._rows else 0
         self._rows = None
         if left and is_kept:
-            logger.info("%d requests wait for the next start", left, extra=extra)
+            logger.info("requests that wait for the next start: %d", left, extra=extra)
         elif left:
             stats.inc_value("robotstxt/lost", left)
         lost = stats.get_value("robotstxt/lost", 0)
         if lost:
             logger.warning(
-                "%d requests are lost that waited for sites whose robots.txt files can't be fetched: with a JOBDIR, or the setting"
+                "requests that waited for sites whose robots.txt files can't be fetched, and are lost: %d. With a JOBDIR, or the setting"
                 " TEXTING_ROBOTS_DATABASE, those that can be written wait for the next start", lost, extra=extra,
             )  # fmt: skip
 
@@ -201,8 +204,7 @@ class Parking:
         place = self._places.get(address)
         if place and not place.requests and not place.rows:
             del self._places[address]
-            if place.timer and place.timer.active():
-                place.timer.cancel()
+            _stop(place.timer)
 
     def _end_all(self) -> None:
         """Ends all waiting in memory. What can wait for the next start is written; for the rest this is the end."""
@@ -293,6 +295,11 @@ def later(seconds: float, call: Callable[..., Any], *arguments: Any) -> Any:
 
     clock: Any = reactor
     return clock.callLater(seconds, call, *arguments)
+
+
+def _stop(timer: Any) -> None:
+    if timer and timer.active():
+        timer.cancel()
 
 
 def _engine_slot(engine: Any) -> Any:

@@ -40,3 +40,9 @@ def meaning(status: int | None, *, redirects: int = 0, has_location: bool = Fals
     (<Meaning.PARSE: 0>, <Meaning.ALLOW_ALL: 2>, <Meaning.DENY_ALL: 3>)
     """
     return Meaning(lib.robots_response_meaning(status or 0, redirects, has_location, is_complete))
+
+
+def reason_of(status: int) -> str:
+    """Why a file can't be had by a response with this status."""
+    is_success = meaning(status) is Meaning.PARSE
+    return f"status {status}, but the body breaks off or can't be unpacked" if is_success else f"status {status}"

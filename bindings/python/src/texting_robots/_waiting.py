@@ -7,6 +7,8 @@ import logging
 import os
 import pickle
 import sqlite3
+import stat
+import sys
 import time
 from typing import Any, Final
 
@@ -40,12 +42,14 @@ def _packed(request: Any, spider: Any) -> bytes | None:
 
 class WaitingRequests:
     """Requests by the addresses of the files that they wait for: in a file that no other process has open and no other user can read, or
-    without a path in a temporary one. A row stays until its request comes to be made."""
+    without a path in a temporary one. It takes over those of processes that have ended. A row stays until its request comes to be made."""
 
     def __init__(self, path: str, spider: Any) -> None:
         self._path, self._spider, self._row = path, spider, 0
         self._connection = self._opened()
         self._execute("UPDATE requests SET is_given = 0")
+        if self._path:
+            self._take_over(path)
 
     @property
     def is_kept(self) -> bool:
@@ -55,8 +59,7 @@ class WaitingRequests:
     def put(self, address: str, until: float, request: Any) -> bool:
         """Writes a request, and says whether that was possible."""
         packed = _packed(request, self._spider)
-        self._row = max(self._row + 1, time.time_ns() // 1000)  # which no row had before
-        return packed is not None and self._execute("INSERT INTO requests VALUES (?, ?, ?, 0, ?)", (self._row, address, until, packed)) is not None
+        return packed is not None and self._insert(address, until, packed)
 
     def take(self, row: int) -> bool:
         """Removes a row, as its request is being made. False if another copy of the request was before it."""
@@ -102,10 +105,36 @@ class WaitingRequests:
             os.unlink(self._path)
         return left
 
+    def _insert(self, address: str, until: float, packed: bytes) -> bool:
+        self._row = max(self._row + 1, time.time_ns() // 1000)  # which no row had before
+        return self._execute("INSERT INTO requests VALUES (?, ?, ?, 0, ?)", (self._row, address, until, packed)) is not None
+
+    def _take_over(self, path: str) -> None:
+        """Moves here what is in the spider's files that no process has open."""
+        for other in _paths(path):
+            if other == self._path or not os.path.exists(other):
+                continue
+            try:
+                connection = _exclusive(other)
+            except (OSError, sqlite3.Error):
+                continue
+            try:
+                rows = connection.execute("SELECT address, until, request FROM requests ORDER BY row")
+                is_done = bool(self._execute("BEGIN")) and all(self._insert(*row) for row in rows) and bool(self._execute("COMMIT"))
+            except sqlite3.Error:
+                is_done = False
+            connection.close()
+            if is_done:
+                os.unlink(other)
+            elif self._connection.in_transaction:
+                self._execute("ROLLBACK")
+
     def _request(self, packed: bytes) -> Any:
         """The request, or None if the spider has no such method any more."""
         try:
-            return request_from_dict(_Plain(io.BytesIO(packed)).load(), spider=self._spider)
+            values = _Plain(io.BytesIO(packed)).load()
+            _check_class(values.get("_class", ""), self._spider)
+            return request_from_dict(values, spider=self._spider)
         except Exception as error:
             logger.warning("a request that waits on disk can't be read: %s", error, extra={"spider": self._spider})
             return None
@@ -119,8 +148,7 @@ class WaitingRequests:
 
     def _opened(self) -> sqlite3.Connection:
         """The first of the spider's files that no process has open, or a temporary one."""
-        for number in range(1, _MOST_FILES + 1) if self._path else ():
-            path = self._path if number == 1 else f"{self._path}.{number}"
+        for path in _paths(self._path) if self._path else ():
             try:
                 connection = _exclusive(path)
             except (OSError, sqlite3.Error) as error:
@@ -133,13 +161,27 @@ class WaitingRequests:
         return _exclusive("")
 
 
+def _check_class(path: str, spider: Any) -> None:
+    """Raises ImportError where the class of a request is in a module that would have to be imported, and isn't the spider's or Scrapy's."""
+    module = path.rpartition(".")[0]
+    if path and module not in sys.modules and module.partition(".")[0] not in ("scrapy", type(spider).__module__.partition(".")[0]):
+        raise ImportError(f"the class {path} is in a module that isn't imported")
+
+
+def _paths(path: str) -> list[str]:
+    """Those of a spider's files."""
+    return [path, *(f"{path}.{number}" for number in range(2, _MOST_FILES + 1))]
+
+
 def _exclusive(path: str) -> sqlite3.Connection:
     """A file that nobody else has open, or can read or write; without a path a temporary one."""
     if path:
-        descriptor = os.open(path, os.O_RDWR | os.O_CREAT | os.O_NOFOLLOW, 0o600)
-        found = os.fstat(descriptor)
-        os.close(descriptor)
-        if found.st_uid != os.geteuid() or found.st_mode & 0o077:
+        try:
+            os.close(os.open(path, os.O_RDWR | os.O_CREAT | os.O_EXCL, 0o600))
+        except FileExistsError:
+            pass  # and isn't opened here: to close it would end a lock that this process has
+        found = os.lstat(path)
+        if not stat.S_ISREG(found.st_mode) or found.st_uid != os.geteuid() or found.st_mode & 0o077:
             raise PermissionError("others than this user could read or write it")
     connection = sqlite3.connect(path, timeout=0, isolation_level=None, check_same_thread=False)
     try:

@@ -45,6 +45,7 @@ from typing import Final, NamedTuple
 from weakref import WeakValueDictionary
 
 from . import AgentError, robots_url
+from ._responses import reason_of
 from ._rules import names_of
 from .cache import Agents, Decision, Fetch, Headers, RobotsCache, Site, State, Step
 
@@ -78,7 +79,8 @@ class AsyncRobots:
     30. If it raises an exception, the file can't be fetched.
 
     ``user_agent`` is that User-Agent, or a list of several names in order of precedence: the first one that a file names counts. It has to
-    begin with a name, or it is a `texting_robots.AgentError`.
+    begin with a name, or it is a `texting_robots.AgentError`. For one that begins with ``Mozilla/5.0``, as a browser's does, pass the crawler's
+    name, such as ``"FerrisBot"``: else the rules for ``*`` apply, with a warning.
 
     ``cache`` is the `texting_robots.cache.RobotsCache` to use, with settings of its own, such as a database. Here it is ``robots.cache``.
 
@@ -107,6 +109,8 @@ class AsyncRobots:
         for name in names_of(user_agent):
             if not _USER_AGENT.match(name):
                 raise AgentError(f"{name!r} isn't a User-Agent: it has to begin with the crawler's name, as 'FerrisBot/1.0' does")
+        if all(name.lstrip().startswith("Mozilla/") for name in names_of(user_agent)):
+            logger.warning("User-Agent %r begins as a browser's does: pass the crawler's name, or it has no group of its own", user_agent)
         self.cache = RobotsCache() if cache is None else cache
         self._get, self._user_agent, self._patience, self._longest_delay = get, user_agent, patience, longest_delay
         self._waiting: dict[str, asyncio.Future[None]] = {}  # for files that are being fetched
@@ -187,7 +191,7 @@ class AsyncRobots:
             response = await self._get(request.address, request.headers)
             if not isinstance(response, Response):
                 raise TypeError(f"get has returned {response!r:.100}: it has to be a Response")
-            reason = f"status {response.status}"
+            reason = reason_of(response.status)
         except Exception as error:
             reason, mistake = _reason(error), error if isinstance(error, _MISTAKES) else None
             step = self.cache.failed(request, was_reached=not _has_no_connection(error))

@@ -123,7 +123,7 @@ class RobotsCache:
         if self._exempt and urlsplit(address).hostname in self._exempt:
             return Look(Action.USE, address, Site(address, State.NO_FILE, inf, inf))
         if self._flights:
-            self._give_up(now)
+            self._give_up(now, self._flights.get(address))
         site = self._known(address, now)
         flight = self._flights.get(address)
         if flight is None:
@@ -276,10 +276,11 @@ class RobotsCache:
             return Look(Action.REFRESH, address, site, fetch)
         return Look(Action.FETCH, address, None, fetch, self._answer_within)
 
-    def _give_up(self, now: float) -> None:
-        """Counts requests as failed that have had no answer for too long."""
+    def _give_up(self, now: float, asked: Flight | None) -> None:
+        """Counts requests as failed that have had no answer for too long: that for the site that is asked about, and the oldest ones, of which
+        one may last longer than a younger one, if a redirect has been followed or the clock been set."""
         while self._flights:
-            flight = next(iter(self._flights.values()))
+            flight = asked if asked and asked.redirects and asked.until <= now else next(iter(self._flights.values()))
             if now < flight.until:
                 return
             self._counted("unanswered")

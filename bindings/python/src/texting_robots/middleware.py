@@ -32,9 +32,10 @@ from . import FILE_LIMIT, LIFETIME, UrlError, robots_url
 from ._figures import Figures
 from ._pacing import Pace, leave_shared_slot, return_to_slot
 from ._parking import Limits, Outcome, Parking, later
+from ._responses import reason_of
 from ._rules import COST_LIMIT
 from ._settings import not_negative, positive
-from .cache import Action, Agents, Decision, Fetch, RobotsCache, Site, State, Step
+from .cache import Agents, Decision, Fetch, RobotsCache, Site, State, Step
 from .scrapy import warn_of_browser
 
 logger = logging.getLogger(__name__)
@@ -119,7 +120,7 @@ class RobotsMiddleware:
 
     On disk a request is what ``request.to_dict`` gives, if that consists of plain values; others stay in memory. The file is in the JOBDIR, or
     beside the database, or else a temporary one. It belongs to one spider in one process, and only its user can read it. After a crash, the
-    requests in it come again.
+    requests in it come again, and those of other processes of the spider that have ended.
 
     As with Scrapy's own middleware, there are the settings ``ROBOTSTXT_OBEY`` and ``ROBOTSTXT_USER_AGENT``, ``dont_obey_robotstxt`` in the
     meta of a request, and the stats, also ``robotstxt/waiting``, ``in_flight``, ``outages`` and ``oldest_outage_seconds`` as often as
@@ -135,7 +136,8 @@ class RobotsMiddleware:
     - ``TEXTING_ROBOTS_DEAD_TRIES = 3``: so often the file of such a host is asked for, until its requests end in `Unreachable`.
     - ``TEXTING_ROBOTS_IDLE_SECONDS = 120``: so many seconds an otherwise idle spider stays open while requests wait, but never for such a host.
     - ``TEXTING_ROBOTS_RETRY = 300``: at most so many seconds after the server failed, the file is asked for again, unless it says when
-      (Retry-After): after 5, 10, 20 and so on, up to a tenth longer by chance.
+      (Retry-After): after 5, 10, 20 and so on, up to a tenth longer by chance. Scrapy's own retries, ``RETRY_TIMES``, come with the first
+      request alone.
     - ``TEXTING_ROBOTS_ANSWER_WITHIN = 1260``: after so many seconds a request for a file counts as failed whatever comes, as that of another
       process with the same database. It is 300 and the longest time that a request waits in a slot: the longest delay for each of the
       ``CONCURRENT_REQUESTS``.
@@ -277,10 +279,9 @@ class RobotsMiddleware:
         if not look.site:
             waiter = Deferred()
             self._waiting.setdefault(address, []).append(waiter)
+            self._look_again(address, request, look.again)
         if look.fetch:
             deferred_from_coro(self._fetched(look.fetch, request))
-        elif look.action is Action.WAIT:
-            self._look_again(address, request, look.again)
         if waiter:
             awaited: Site = await maybe_deferred_to_future(waiter)
             return awaited
@@ -290,15 +291,16 @@ class RobotsMiddleware:
     def _ask(self, address: str, request: Any) -> None:
         """Asks for a file again, for which requests wait: this one and others."""
         look = self._cache.at(address)
-        if look.fetch:
-            deferred_from_coro(self._fetched(look.fetch, request))
-        elif look.site:
+        if look.site:
             self._settle({address: look.site})
         else:
             self._look_again(address, request, look.again)
+        if look.fetch:
+            deferred_from_coro(self._fetched(look.fetch, request))
 
     def _look_again(self, address: str, request: Any, seconds: float) -> None:
-        """Asks for a file again after so many seconds, if no answer has come until then, here or to another process."""
+        """Asks for a file again after so many seconds, if no answer has come until then, here or to another process. One that comes later has
+        no effect, so without this nobody would go on who waits for it."""
 
         def ask() -> None:
             del self._timers[address]
@@ -328,7 +330,7 @@ class RobotsMiddleware:
             if not step.fetch:
                 self._count("response_count")
                 self._count(f"response_status_count/{response.status}")
-            reason: str | Exception = f"status {response.status}"
+            reason: str | Exception = reason_of(response.status)
         except IgnoreRequest as refusal:
             step, reason = self._cache.failed(fetch, was_reached=False), refusal
         except Exception as error:
@@ -346,7 +348,9 @@ class RobotsMiddleware:
         robots = self.robots_request(fetch.address, request)
         for name, value in fetch.headers.items():
             robots.headers.setdefault(name, value)
-        # a server that takes long isn't asked at once again
+        # a server that fails still, or takes long, isn't asked at once again
+        if any(site and site.is_failing for site in fetch.flight.before.values()):
+            robots.meta["dont_retry"] = True
         timer = later(self._timeout / 2, robots.meta.__setitem__, "dont_retry", True)
         engine = self._crawler.engine
         try:
