@@ -123,7 +123,7 @@ WORDS = {"space", "comma", "tag", "invisible", "=", "??", "nothing"}  # each in 
 
 
 def level_and_text(name, detail=""):
-    """The level and message of a warning. Its detail is, if that depends on the size, that the file is too `large`; the field name that may be meant; the level of one before the last; a word of its
+    """The level and message of a warning. Its detail is, if that depends on the size, that the file is too `large`, of some after the line of another one; the field name that may be meant; the level of one before the last; a word of its
     message; how many rules it is about; the line of another rule; the kind of a needless rule, possibly with such a line; the name of a
     crawler that may be meant, possibly after a name in quotes and `warning`; the name of one of several crawlers, in quotes, and that of the group that
     its vendor applies, if it isn't Googlebot; of `closes-everything` and `closes-home-page` the level, such a name, and how many other crawlers there are, if
@@ -145,7 +145,9 @@ def level_and_text(name, detail=""):
     if name in OF_RULES:
         return level, f"{text} ({detail} rule{'' if detail == '1' else 's'})"
     if name in OF_A_LINE:
-        return level, f"{text} (see line {detail})"
+        number, _, size = detail.partition(" ")
+        level, text = WARNINGS[name][size == "large"]
+        return level, f"{text} (see line {number})"
     if name == "misspelled-name":
         agent, warns, meant = re.fullmatch(r"('.*' )?(warning )?(\S+)", detail).groups()
         level, text = WARNINGS[name][0 if warns else 1]
@@ -164,19 +166,20 @@ def parts_of(warning):
     return line or "", name, *level_and_text(name, detail or "")
 
 
-def also_in(lines):
+def also_in(lines, text):
     """The end of a message that stands for those in these lines, too, or for so many that are about no line."""
     if "" in lines:
-        return f" (and {len(lines)} more)"
+        return f" (and {len(lines)} more {'URL' if text.startswith('URL ') else 'crawler'}{'s' * (len(lines) > 1)})"
     more = [*map(str, lines[:3]), *[f"{len(lines) - 3} more"] * (len(lines) > 3)]
     listed = ", ".join(more[:-1]) + " and " * (len(more) > 1) + "".join(more[-1:])
-    return f" (also in line{'s' * (len(lines) > 1)} {listed})" if lines else ""
+    others = "for other crawlers, " if text.startswith("crawler '") else ""
+    return f" (also {others}in line{'s' * (len(lines) > 1)} {listed})" if lines else ""
 
 
 def warning_line(warning, file="robots.txt", also=()):
     """The line on standard error for such a warning about the file with this name; `also` are the lines of others that it has."""
     line, name, level, text = parts_of(warning)
-    return f"{file}:{line}{':' if line else ''} {level}: {text}{also_in(also)} [{name}]\n"
+    return f"{file}:{line}{':' if line else ''} {level}: {text}{also_in(also, text)} [{name}]\n"
 
 
 def counted(counts):
@@ -205,13 +208,13 @@ def ranges(lines):
 
 def together(lines):
     """The message that stands for those about the needless rules in these lines."""
-    return f"lines {ranges(lines)} can be deleted, but only all of them together"
+    return f"lines {ranges(lines)} can be deleted together; deleting only some may change a verdict"
 
 
-def warning_lines(warnings, file="robots.txt", agent=None):
+def warning_lines(warnings, file="robots.txt", agent=None, seeks_needless=False):
     """The lines for such warnings, by line and level: those about needless rules are one; those with one message are one, and a note may
     name another crawler or URL; of each name and level the first twenty, and how many more there are; and how many of each level there
-    are, in how many messages, and, in a report on one crawler, that rules of others aren't checked."""
+    are, in how many messages, and, in a report on one crawler, that rules of others aren't checked, or for being needless alone."""
     joined, met = [], {}
     ordered = sorted(warnings, key=order_of)
     needless = [int(line) for line, name, *_ in map(parts_of, ordered) if name == "needless-rule"]
@@ -239,7 +242,8 @@ def warning_lines(warnings, file="robots.txt", agent=None):
             counts[kind] = counts.pop(kind)
     more = [f"{file}: {level}: and {count - 20} more [{name}]\n" for (level, name), count in counts.items() if count > 20]
     messages = f" in {len(joined)} message{'s' * (len(joined) > 1)}" if len(joined) < len(warnings) else ""
-    rules = f" (rules for crawlers other than {agent} aren't checked)" if agent else ""
+    others = "are only checked for being needless" if seeks_needless else "aren't checked"
+    rules = f" (rules for crawlers other than {agent} {others})" if agent else ""
     total = [f"{file}: {counted([parts_of(warning)[2] for warning in warnings])}{messages}{rules}\n"] if warnings else []
     return "".join(shown + more + total)
 
@@ -324,4 +328,5 @@ def wanted_of(case):
     file = named[0] if named else "robots.txt"
     agents = re.findall(r"--(?:user-)?agent[ =](\S+)", case.get("args", ""))
     agent = agents[0] if len(agents) == 1 else None
-    return Result(case.get("status", 0), out, lines(case.get("err", "")) + warning_lines(warnings, file, agent).encode())
+    seeks_needless = bool(re.search(r"--needless|--only[ =]needless-", case.get("args", "")))
+    return Result(case.get("status", 0), out, lines(case.get("err", "")) + warning_lines(warnings, file, agent, seeks_needless).encode())

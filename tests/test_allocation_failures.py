@@ -298,7 +298,7 @@ def test_no_size_is_out_of_memory(what):
         assert (as_json.status, len(json.loads(as_json.out)["agents"][0]["verdicts"])) == (1, len(urls)), (size, as_json.err)
 
 
-DENIED = "group: everyone (the file has no User-agent line; all rules are applied)\ndelay: none\ndeny 1 /b\n"
+DENIED = "group: everyone (no User-agent line is read; all rules are applied)\ndelay: none\ndeny 1 /b\n"
 OTHER = "not RFC 9309 syntax, first at line 1\n"
 
 
@@ -316,7 +316,7 @@ def of_each(names, *lines):
 def denied_to(size):
     """The report on this many crawlers."""
     names, _ = crawlers(size)
-    each = of_each(names, "crawler NAME: all rules (no User-agent line), 1 rule, may fetch nothing\n")
+    each = of_each(names, "crawler NAME: all rules (no User-agent line is read), 1 rule, may fetch nothing\n")
     return (DENIED if size == 1 else each + of_each(names, "deny 1 NAME /b\n")) + OTHER
 
 

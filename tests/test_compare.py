@@ -44,7 +44,7 @@ crawler *: verdicts change, for example /products: allow -> deny 3
 """
 
 USAGE = "usage: robots_audit [OPTIONS] FILE [URL].."
-SAME_TEXT = "same group, delay and rules, so the same verdicts\n"
+SAME_TEXT = "same group, delay and rules as read here, so the same verdicts\n"
 NOTHING = f"crawler Ferris: {SAME_TEXT}"
 ALL = f"all compared crawlers: {SAME_TEXT}"
 OTHERS = f"crawler GPTBot: {SAME_TEXT}"

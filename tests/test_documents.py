@@ -466,7 +466,7 @@ def rows_under(name, *columns):
 def test_line_is_read_as_documented(line, read):
     """The row of an empty Disallow, which is the Allow of `/` that the document names, shows what is written."""
     row = run("robots_audit", ["--agent", "FerrisBot", "-"], bytes_in(line)).out.splitlines()[0]
-    shown_row = row[4:].partition("  #")[0].replace("disallow    (empty: allows everything)", "allow /")
+    shown_row = row[4:].partition("  #")[0].replace("disallow    (empty: an Allow of / here)", "allow /")
     assert shown_row.split(maxsplit=1) == read.strip("`").split(maxsplit=1)
 
 

@@ -30,7 +30,7 @@ allow GPTBot /robots.txt
 
 GOOGLEBOT = "but its vendor applies the group Googlebot to it"
 
-NORMALLY = "by RFC 9309, which compares normal forms,"
+NORMALLY = "in the normal forms of RFC 9309,"
 
 NAMED = "".join(f"User-agent: {name}\n" for name in ["*", *IGNORING]).encode()
 
@@ -42,7 +42,7 @@ ANY = {
     "denied to *": (b"User-agent: *\nDisallow: /a", b"allow any /a", ["*", *IGNORING], "line 2 denies it"),
     "those that ignore *": (b"User-agent: *\nDisallow: /a", b"deny any /a", IGNORING, "its vendor doesn't apply the group * to it"),
     "which are named": (NAMED + b"Disallow: /a", b"deny-all Any /a", [], None),
-    "a crawler of the file": (NAMED + b"Disallow: /a\nUser-agent: Ferris\nDisallow: /b", b"deny-all any /a", ["Ferris"], "no rule matches /a"),
+    "a crawler of the file": (NAMED + b"Disallow: /a\nUser-agent: Ferris\nDisallow: /b", b"deny-all any /a", ["Ferris"], "no rule denies /a"),
     "a name with a version": (b"User-agent: A/2\nDisallow: /a", b"allow ANY /a", ["A/2"], "line 2 denies it"),
     "those that get the group of Googlebot": (
         b"User-agent: Googlebot\nDisallow: /a",

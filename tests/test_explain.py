@@ -101,6 +101,23 @@ def test_sentences_about_proofs():
         assert not re.search("prove|theorem", run("robots_audit", [option]).out)
 
 
+def test_each_warning_with_a_proved_sentence_is_stated():
+    """`Means` speaks of each message to which a proved sentence applies: of the errors, if it says so, and else of all with the name. The
+    others: what the absence of a warning says, what a quote in a rule says by itself, and a `$` that only stars follow."""
+    others = {"UrlNotNormal", "EmptyDisallow", "QuotedRule", "QuoteAtEnd", "StarAfterDollar"}
+    rows = re.findall(r'^ +(\w+) (Error|Warning|Note) "([a-z0-9-]+)"$', (CRATES / "robots_warnings/src/rows.rt").read_text(), re.M)
+    means = (CRATES / "robots_warnings/specs/Means.antt").read_text()
+    stated = set(re.findall(r"^is_style cause\.(\w+) = false$", means, re.M))
+    proved = tomllib.loads((ROOT / "tests/theorems.toml").read_text())["proved"]
+    meant = {
+        cause
+        for row in proved
+        for cause, level, name in rows
+        if name == row["warning"] and (level == "Error" or "as an error" not in row["sentence"])
+    }
+    assert len(rows) == len(ALL_WARNINGS) and meant - others == stated
+
+
 @pytest.mark.parametrize("option", [["--list-warnings"], ["--explain", "missing-slash"]], ids=["list", "explain"])
 @pytest.mark.parametrize("more", ["robots.txt", "-q", "--json", "--format=text", "--html", "--date=x", "--agent=x", "--urls=x", "--denied", "--color=auto", "--strict", "--needless", "--only=x", "--ignore=x", "--expect=x", "--compare=x"])
 def test_other_arguments_conflict(option, more):

@@ -127,19 +127,19 @@ def test_notes_about_another_line_stay_apart():
 # without the first twenty alone the first twenty Allows decide.
 LETTERS = "abcdefghijklmnopqrstuvwxy"
 NEEDLESS = "User-agent: *\nDisallow: /p\n" + "".join([f"Disallow: /pq{it}*\n" for it in LETTERS] + [f"Allow: /pq{it}\n" for it in LETTERS])
-TOGETHER = "lines 3-52 can be deleted, but only all of them together"
+TOGETHER = "lines 3-52 can be deleted together; deleting only some may change a verdict"
 
 
 @pytest.mark.parametrize("more", [[], ["--only=needless-rule"], ["--ignore=one-line"], ["--denied", "/x"]])
 def test_needless_rules_are_one_message(more):
     err = run("robots_audit", ["-q", "--agent=Other", "--needless", "-", *more], NEEDLESS.encode()).err
-    assert err == f"robots.txt:3: note: {TOGETHER} [needless-rule]\n" + total("50 notes in 1 message").replace("Ferris", "Other")
+    assert err == f"robots.txt:3: note: {TOGETHER} [needless-rule]\n" + total("50 notes in 1 message").replace("Ferris aren't checked", "Other are only checked for being needless")
 
 
 def test_needless_rules_of_another_crawler_go_with_them():
     text = "User-agent: a\nDisallow: /x\nDisallow: /xy\n\nUser-agent: b\nDisallow: /x\nDisallow: /xy\nDisallow: /xz\n"
     err = run("robots_audit", ["-q", "--agent=b", "--needless", "-"], text.encode()).err
-    assert err.startswith("robots.txt:3: note: lines 3, 7-8 can be deleted, but only all of them together [needless-rule]\n")
+    assert err.startswith("robots.txt:3: note: lines 3, 7-8 can be deleted together; deleting only some may change a verdict [needless-rule]\n")
 
 
 def test_needless_rules_are_one_annotation():
@@ -155,7 +155,7 @@ def test_needless_rules_are_one_row_of_a_page():
 def test_each_result_on_a_needless_rule_names_all():
     out = run("robots_audit", ["--sarif", "--agent=Ferris", "--needless", "-"], NEEDLESS.encode()).out
     texts = [it["message"]["text"] for it in json.loads(out)["runs"][0]["results"]]
-    assert len(texts) == 50 and all(it.endswith("; only together with lines 3-52") for it in texts)
+    assert len(texts) == 50 and all(it.endswith("; all needless rules: lines 3-52") for it in texts)
 
 
 def test_a_file_of_a_hundred_closed_groups():
@@ -163,7 +163,7 @@ def test_a_file_of_a_hundred_closed_groups():
     groups = "".join(f"User-agent: {name}\nDisallow: /\n\n" for name in names)
     err = run("robots_audit", ["-q", "-"], groups.encode()).err.splitlines()
     closed = [line for line in err if line.endswith("[closes-everything]")]
-    assert len(closed) == 1 and closed[0].startswith("robots.txt:2: note: ") and " (also in lines 5, 8, 11 and 96 more) [" in closed[0]
+    assert len(closed) == 1 and closed[0].startswith("robots.txt:2: note: ") and " (also for other crawlers, in lines 5, 8, 11 and 96 more) [" in closed[0]
     assert err[-1] == "robots.txt: 100 notes in 1 message"
 
 

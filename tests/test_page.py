@@ -151,7 +151,7 @@ def joined(warnings):
     for at, it in enumerate(in_order(warnings)):
         found.setdefault(shared(it["level"], it["name"], it["text"]) or at, []).append(it)
     for first, *others in found.values():
-        text = words({**first, "text": first["text"] + also_in([it["line"] or "" for it in others])})
+        text = words({**first, "text": first["text"] + also_in([it["line"] or "" for it in others], first["text"])})
         yield f"line {first['line']}: {text}" if first["line"] else text
 
 
@@ -229,9 +229,9 @@ def test_page_has_what_vendors_do(agent, vendor, fetch):
     file = b"User-agent: *\nDisallow: /a\nCrawl-delay: 10\nUser-agent: Googlebot\nDisallow:"
     found = entries_of(f"--agent={agent}", "-", file=file)
     assert found["Group"] == f"* ({agent} has no group of its own), line 1{vendor}"
-    assert (found["Crawl delay"], found["May fetch"]) == (f"10 s ({agent} ignores it)", fetch)
+    assert (found["Crawl delay"], found["May fetch"]) == (f"10 s ({agent} probably ignores it)", fetch)
     assert ["/a", "denied by the file, line 2"] in [cells for _, cells in children(Reader(page(f"--agent={agent}", "-", "/a", file=file)).elements, "tr")]
-    assert "<td>disallow</td><td>(empty: allows everything)</td>" in page(f"--agent={agent}", "-", file=file)
+    assert "<td>disallow</td><td>(empty: an Allow of / here)</td>" in page(f"--agent={agent}", "-", file=file)
 
 
 def test_page_has_the_lines_and_warnings_of_the_json():
@@ -265,6 +265,10 @@ def test_page_has_the_verdicts_of_the_json():
 def test_title_without_an_agent(file, crawlers):
     """The second report is about `*` and `A`."""
     assert f"<title>robots.txt for {crawlers}</title>" in page("-", file=file)
+
+
+def test_title_with_an_agent_twice():
+    assert "<title>robots.txt for Ferris</title>" in page("--agent=Ferris", "--agent=ferris", "-", file=b"User-agent: A")
 
 
 def test_page_about_all_crawlers():
@@ -355,7 +359,7 @@ def test_all_warnings_without_a_row_are_listed():
     urls = [f"/%c3{number}" for number in range(150)]
     elements = Reader(page(*FERRIS, *urls, file=b"User-agent: *\nDisallow: /a\nhello\n")).elements
     listed = texts(elements, "li")
-    assert len(listed) == 2 and "'/%c30'" in listed[0] and "(and 149 more)" in listed[0] and "[unrecognized-line]" in listed[1]
+    assert len(listed) == 2 and "'/%c30'" in listed[0] and "(and 149 more URLs)" in listed[0] and "[unrecognized-line]" in listed[1]
     names = b"".join(b"User-agent: a%d\nDisallow: /\n" % number for number in range(150))
     elements = Reader(page(*FERRIS, file=b"User-agent: *\nDisallow: /a\n" + b"#".ljust(511_973, b"x") + b"\n" + names)).elements
     found = [text for text in texts(elements, "li") if "[group-past-size-limit]" in text]

@@ -154,4 +154,4 @@ def test_each_needless_rule_is_a_result():
     file = b"User-agent: Ferris\nDisallow: /a\nDisallow: /ab\nDisallow: /ac\n"
     found = [(line, text) for _, name, text, _, line in results(log("--agent=Ferris", "--needless", "-", file=file)) if name == "needless-rule"]
     assert [line for line, _ in found] == [3, 4]
-    assert all(text.endswith("; only together with lines 3-4") for _, text in found)
+    assert all(text.endswith("; all needless rules: lines 3-4") for _, text in found)

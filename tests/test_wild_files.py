@@ -38,7 +38,7 @@ def test_a_misspelled_crawler_is_found_by_an_expectation(tmp_path):
     expected = tmp_path / "expect.txt"
     expected.write_text("deny Google-Extended /\ndeny ChatGPT-User /\n")
     result = run("robots_audit", ["--expect", expected, WILD / "misspelled-names.txt"])
-    told = [f"{expected}:{line}: {name} must be denied /, but no rule matches it\n" for line, name in [(1, "Google-Extended"), (2, "ChatGPT-User")]]
+    told = [f"{expected}:{line}: {name} must be denied /, but no rule denies it\n" for line, name in [(1, "Google-Extended"), (2, "ChatGPT-User")]]
     assert (result.status, result.out) == (1, "".join(told))
 
 

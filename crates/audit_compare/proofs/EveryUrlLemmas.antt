@@ -35,4 +35,5 @@ rules_read lines agent name read is of =
 pub verdicts_by : (one older other newer : List PlacedRule) (verdicts : Verdicts) → one ≡ older
     → other ≡ newer → AreVerdicts one other verdicts → AreVerdicts older newer verdicts
 verdicts_by one older other newer verdicts old new are =
-    subst (λ rules. AreVerdicts rules newer verdicts) old (subst (λ rules. AreVerdicts one rules verdicts) new are)
+    subst (λ rules. AreVerdicts rules newer verdicts) old
+    (subst (λ rules. AreVerdicts one rules verdicts) new are)

@@ -1,2 +1,3 @@
 pub mod CompareLemmas
 pub mod EveryUrlLemmas
+pub mod SitemapLemmas

@@ -1,15 +1,16 @@
 -- Two versions of a robots.txt file compared.
-use Rattle.std.specs.Prelude.{◌≡◌, ℕ, ◌==◌, Bool, true, false, not, ◌&&◌, ◌||◌, List, [], ◌++◌}
-use Rattle.std.specs.Prelude.{bytes_eq, codes, filter, if◌then◌else◌, is_some, length, nat_eq}
+use Rattle.std.specs.Prelude.{◌≡◌, ℕ, ◌==◌, Bool, true, false, not, ◌&&◌, ◌||◌, List, [], ◌∷◌, ◌++◌, Option}
+use Rattle.std.specs.Prelude.{Some, bytes_eq, codes, filter, if◌then◌else◌, is_some, length, map, nat_eq}
 use Rattle.std.specs.{List.AllZip, List.list_all, List.list_any, Option.option_eq}
 use Rattle.std.proofs.Math.{Bool.beq}
-use Rattle.texting_robots.specs.Callers.{LineValue, PlacedRule, Rule, lines_read, placed_rules}
+use Rattle.texting_robots.specs.Callers.{LineValue, PlacedRule, Rule, lines_read, placed_rules, sitemaps_in}
+use Rattle.texting_robots.specs.declared.decision.{Decision.Decision}
 use Rattle.audit_core.specs.declared.group.Group.{Group}
 use Rattle.audit_core.specs.declared.group.Group.TheVariants.{Everyone, Named, Nobody, Star}
-use Rattle.audit_core.specs.Audit.{IsAgentAudit, agents_requested}
+use Rattle.audit_core.specs.Audit.{IsAgentAudit, VerdictValue, agents_requested}
 use Rattle.audit_compare.specs.declared.compare.Comparison.{Comparison}
 use Rattle.audit_compare.specs.declared.compared.Compared.{Compared}
-use Rattle.audit_compare.specs.declared.compared.RuleChanges.{RuleChanges}
+use Rattle.audit_compare.specs.declared.compared.{RuleChanges.RuleChanges, UrlChange.UrlChange}
 use Rattle.audit_compare.specs.EveryUrl.{AreAtVendor, AreVerdicts, is_same, is_same_at_vendor}
 
 -- of the same kind, and with equal patterns, which are escaped values
@@ -33,26 +34,70 @@ pub record AreChanges (older newer : List LineValue) (agent : List ℕ) (rules :
   pub removed_are : rules.removed.items ≡ rules_only_in older newer agent
   pub added_are : rules.added.items ≡ rules_only_in newer older agent
 
--- what the lines of both files mean for a crawler, and what becomes of the verdicts of all URLs, here and at
--- the crawler's vendor
+abbrev pub is_in_line_of : List PlacedRule → Option ℕ → Bool
+is_in_line_of rules line = list_any (λ (placed : PlacedRule). option_eq nat_eq line (Some placed.line)) rules
+
+-- both decisions allow or both deny, the rule that decided wasn't removed, and the one that decides now
+-- wasn't added
+abbrev pub is_same_decision : RuleChanges → (older newer : Decision) → Bool
+is_same_decision rules older newer = beq older.allowed newer.allowed
+    && not (is_in_line_of rules.removed.items older.line || is_in_line_of rules.added.items newer.line)
+
+abbrev pub Changed : Type 0
+Changed = List ℕ × Decision × Decision
+
+-- the URL and the decisions on it, if they differ
+abbrev pub change_on : RuleChanges → VerdictValue → VerdictValue → List Changed
+change_on rules one other =
+    if is_same_decision rules one.decision other.decision then []
+    else (one.url, one.decision, other.decision) ∷ []
+
+-- the same for each URL
+abbrev pub changes_in : RuleChanges → (older newer : List VerdictValue) → List Changed
+changes_in rules (one ∷ older) (other ∷ newer) = change_on rules one other ++ changes_in rules older newer
+changes_in rules _ _ = []
+
+abbrev pub changed : List UrlChange → List Changed
+changed changes = map (λ change. (change.url.now, change.older, change.newer)) changes
+
+-- exactly the URLs on which the decisions differ, in order
+abbrev pub AreUrlChanges : RuleChanges → (older newer : List VerdictValue) → List UrlChange → Type 0
+AreUrlChanges rules older newer changes = changed changes ≡ changes_in rules older newer
+
+-- what the lines of both files mean for a crawler, the URLs on which decisions differ, and what becomes of
+-- the verdicts of all URLs, here and at the crawler's vendor
 pub record IsCompared (urls : List (List ℕ)) (older newer : List LineValue) (agent : List ℕ)
     (compared : Compared) : Type 0 where
   pub agent_is : compared.agent.now ≡ agent
   pub older_is : IsAgentAudit urls older agent compared.older
   pub newer_is : IsAgentAudit urls newer agent compared.newer
   pub rules_are : AreChanges older newer agent compared.rules
+  pub changes_are : AreUrlChanges compared.rules compared.older.verdicts compared.newer.verdicts
+      compared.changes.items
   pub verdicts_are : AreVerdicts (placed_rules agent older) (placed_rules agent newer) compared.verdicts
   pub vendor_is : AreAtVendor older newer agent compared.vendor
+
+abbrev pub is_listed : List (List ℕ) → List ℕ → Bool
+is_listed texts text = list_any (λ other. bytes_eq other text) texts
+
+-- exactly those of the listed texts that the others lack, in whatever order
+pub record AreOnlyIn (listed others texts : List (List ℕ)) : Type 0 where
+  pub each : (text : List ℕ)
+      → is_listed texts text ≡ (is_listed listed text && not (is_listed others text))
 
 abbrev pub ComparisonValue : Type 0
 ComparisonValue = Comparison
 
 -- the comparison of two files for these crawlers, or if there are none for `*` and each that one of them
--- names
+-- names, and the sitemaps that only one of them lists
 pub record IsComparison (agents urls : List (List ℕ)) (older newer : List ℕ) (comparison : Comparison)
     : Type 0 where
   pub all : AllZip (IsCompared urls (lines_read older) (lines_read newer))
       (agents_requested agents (lines_read older ++ lines_read newer)) comparison.crawlers.items
+  pub removed_are : AreOnlyIn (sitemaps_in (lines_read older)) (sitemaps_in (lines_read newer))
+      (map (λ text. text.now) comparison.removed.items)
+  pub added_are : AreOnlyIn (sitemaps_in (lines_read newer)) (sitemaps_in (lines_read older))
+      (map (λ text. text.now) comparison.added.items)
 
 abbrev pub is_rejected : Compared → Bool
 is_rejected compared = is_some compared.older.rejected || is_some compared.newer.rejected
@@ -78,7 +123,7 @@ is_unchanged compared =
 -- the words for crawlers, if some are unchanged
 abbrev pub unchanged_words : List Compared → List ℕ
 unchanged_words crawlers = if list_any is_unchanged crawlers
-    then codes ": same group, delay and rules, so the same verdicts" else []
+    then codes ": same group, delay and rules as read here, so the same verdicts" else []
 
 -- the words for verdicts of which no example changes
 abbrev pub without_example : (is_same : Bool) → List ℕ

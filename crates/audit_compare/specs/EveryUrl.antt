@@ -2,7 +2,8 @@
 use Rattle.std.specs.Prelude.{◌≡◌, ◌≢◌, ◌==◌, ◌&&◌, ℕ, Bool, true, false, List, [], None, Option, Some}
 use Rattle.std.specs.Prelude.{codes, if◌then◌else◌, is_none, length, string_bytes}
 use Rattle.texting_robots.specs.Callers.{LineValue, PlacedRule, lines_read, placed_rules, unplaced}
-use Rattle.texting_robots.specs.{Decision.IsDecisionOn}
+use Rattle.texting_robots.specs.{Decision.IsDecisionOn, Group.is_agent}
+use Rattle.std.specs.{List.list_any}
 use Rattle.robots_same.specs.Same.{HaveSameVerdicts}
 use Rattle.robots_warnings.specs.{Crawlers.other_group}
 use Rattle.audit_core.specs.{Target.asked_target}
@@ -27,13 +28,15 @@ is_same Same = true
 is_same verdicts = false
 
 -- the name of the group that the vendor of the crawler applies to it: if that isn't another one, the
--- crawler's, for which the one that applies here is found; empty if it is none
+-- crawler's, for which the one that applies here is found; empty if it is none, as in a file without a
+-- user-agent line, whose rules Google ignores
 abbrev pub name_by : List ℕ → (other : Option (List ℕ)) → List ℕ
 name_by agent None = agent
 name_by agent (Some name) = name
 
 abbrev pub name_at_vendor : List LineValue → List ℕ → List ℕ
-name_at_vendor lines agent = name_by agent (other_group lines agent)
+name_at_vendor lines agent =
+    name_by (if list_any is_agent lines then agent else []) (other_group lines agent)
 
 -- with no group everything is allowed, as in an empty file
 abbrev pub lines_of_group : List LineValue → (name : List ℕ) → List LineValue
@@ -43,7 +46,8 @@ abbrev pub rules_at_vendor : List LineValue → List ℕ → List PlacedRule
 rules_at_vendor lines agent =
     let name = name_at_vendor lines agent in placed_rules name (lines_of_group lines name)
 
--- the vendor of the crawler applies in both files the group that applies here
+-- the vendor of the crawler isn't known to apply another group than the one that applies here, which may be
+-- that of rules without a user-agent line
 abbrev pub is_here : (older newer : List LineValue) (agent : List ℕ) → Bool
 is_here older newer agent = is_none (other_group older agent) && is_none (other_group newer agent)
 

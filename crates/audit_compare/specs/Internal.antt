@@ -1,6 +1,7 @@
 -- A crawler's rules as a set.
-use Rattle.std.specs.Prelude.{◌≡◌, Bool, List, if◌then◌else◌}
-use Rattle.std.specs.BTreeSet.{contains_text}
+use Rattle.std.specs.Prelude.{◌≡◌, ℕ, Bool, List, if◌then◌else◌}
+use Rattle.std.specs.{Borrow.Bor, Cmp.Lexicographic.slice_cmp, Ordering.nat_cmp}
+use Rattle.std.specs.BTreeSet.{BTreeSet, contains_by, contains_text}
 use Rattle.texting_robots.specs.Callers.{PlacedRule, Rule}
 use Rattle.audit_compare.specs.declared.rule_sets.{RuleSet.RuleSet}
 use Rattle.audit_compare.specs.Compare.{has_rule}
@@ -12,3 +13,6 @@ contains_rule set rule =
 -- exactly these rules
 pub record HasRules (rules : List PlacedRule) (set : RuleSet) : Type 0 where
   pub each : (rule : Rule) → contains_rule set rule ≡ has_rule rules rule
+
+abbrev pub is_met : BTreeSet (Bor (List ℕ)) → List ℕ → Bool
+is_met texts text = contains_by (λ other. slice_cmp nat_cmp text other.now) texts

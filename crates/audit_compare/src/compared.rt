@@ -1,7 +1,8 @@
 //! What two versions of a file mean for a crawler.
-ghost use Rattle.std.specs.Prelude.{◌≡◌, IfErr, IfOk, map};
+ghost use Rattle.std.specs.Prelude.{◌≡◌, ◌++◌, IfErr, IfOk, OnOk, map};
 ghost use Rattle.texting_robots.specs.Callers.{lines_read, placed_rules};
-ghost use Rattle.audit_compare.specs.Compare.{AreChanges, IsCompared, are_none};
+ghost use Rattle.audit_compare.specs.Compare.{AreChanges, AreUrlChanges, IsCompared, are_none, is_in_line_of};
+ghost use Rattle.audit_compare.specs.Compare.{change_on, changed, is_same_decision};
 ghost use Rattle.audit_compare.specs.EveryUrl.{AreVerdicts};
 ghost use Rattle.robots_warnings.specs.Read.{IsRead};
 
@@ -63,15 +64,38 @@ fn rule_changes(
     Ok(RuleChanges { removed, added })
 }
 
-fn is_in_line_of(rules: &[Rule], line: Option<usize>) -> bool {
+fn is_in_line_of(rules: &[Rule], line: Option<usize>) -> bool
+    ensures { result ≡ is_in_line_of rules.now line }
+{
     rules.iter().any(|rule| line == Some(rule.line))
 }
 
 /// Both allow or both deny, the rule that decided wasn't removed, and the one that decides now wasn't added.
-fn is_same_decision(rules: &RuleChanges, older: &Decision, newer: &Decision) -> bool {
+fn is_same_decision(rules: &RuleChanges, older: &Decision, newer: &Decision) -> bool
+    ensures { result ≡ is_same_decision rules.now older.now newer.now }
+{
     let is_removed = is_in_line_of(&rules.removed, older.line);
     let is_added = is_in_line_of(&rules.added, newer.line);
     older.allowed == newer.allowed && !(is_removed || is_added)
+}
+
+fn add_change<'a>(
+    found: &mut Vec<UrlChange<'a>>,
+    rules: &RuleChanges,
+    older: &Verdict<'a>,
+    newer: &Verdict<'a>,
+) -> Result<(), AllocError>
+    ensures { OnOk result (changed found.new.items
+        ≡ changed found.old.items ++ change_on rules.now older.now newer.now) }
+{
+    if is_same_decision(rules, &older.decision, &newer.decision) {
+        return Ok(());
+    }
+    Ok(found.push(UrlChange {
+        url: older.url,
+        older: older.decision,
+        newer: newer.decision,
+    })?)
 }
 
 /// The URLs on which decisions differ.
@@ -80,21 +104,26 @@ fn url_changes<'a>(
     rules: &RuleChanges,
     older: &[Verdict<'a>],
     newer: &[Verdict<'a>],
-) -> Result<Vec<UrlChange<'a>>, AllocError> {
+) -> Result<Vec<UrlChange<'a>>, AllocError>
+    ensures { IfOk result (λ found. AreUrlChanges rules.now older.now newer.now found.items) }
+{
     let mut found = Vec::new(alloc);
     for at in 0..older.len().min(newer.len()) {
-        let was = &older[at];
-        let is = &newer[at];
-        if is_same_decision(rules, &was.decision, &is.decision) {
-            continue;
-        }
-        found.push(UrlChange {
-            url: was.url,
-            older: was.decision,
-            newer: is.decision,
-        })?;
+        add_change(&mut found, rules, &older[at], &newer[at])?;
     }
     Ok(found)
+}
+
+fn changes_between<'a>(
+    alloc: Global,
+    rules: &RuleChanges,
+    older: &AgentAudit<'a>,
+    newer: &AgentAudit<'a>,
+) -> Result<Vec<UrlChange<'a>>, AllocError>
+    ensures { IfOk result (λ found. AreUrlChanges rules.now older.now.verdicts newer.now.verdicts
+        found.items) }
+{
+    url_changes(alloc, rules, &older.verdicts, &newer.verdicts)
 }
 
 pub(crate) fn are_none(rules: &RuleChanges) -> bool
@@ -145,7 +174,7 @@ pub(crate) fn compared_for<'a>(
     let older_audit = audit_for(alloc, agent, older, urls, budget / 8)?;
     let newer_audit = audit_for(alloc, agent, newer, urls, budget / 8)?;
     let rules = rule_changes(alloc, agent, older, newer)?;
-    let changes = url_changes(alloc, &rules, &older_audit.verdicts, &newer_audit.verdicts)?;
+    let changes = changes_between(alloc, &rules, &older_audit, &newer_audit)?;
     let verdicts = verdicts_of(alloc, agent, older, newer, &rules, budget)?;
     let vendor = at_vendor(alloc, agent, older, newer, budget)?;
     Ok(Compared {

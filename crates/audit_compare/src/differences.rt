@@ -120,28 +120,45 @@ impl fmt::Display for Decided {
     }
 }
 
-/// What a crawler's vendor does otherwise in the new file, or else that it did in the old one.
+/// What a crawler's vendor does otherwise in the new file, or else that it did in the old one; and whether
+/// one of the files alone has rules without a user-agent line.
 #[derive(Clone, Copy)]
 struct Vendors {
     older: AtVendor,
     newer: AtVendor,
+    is_ungrouped: bool,
 }
 
 impl fmt::Display for Vendors {
     fn fmt<W: fmt::Write>(&self, f: &mut fmt::Formatter<W>) -> fmt::Result {
         match (self.older, self.newer) {
             (AtVendor::NoGroup | AtVendor::OtherGroup, AtVendor::Same) => {
-                f.write_str("; but before, its vendor applied no group or another one")
+                f.write_str("; but before, its vendor applied no group or another one")?;
             }
-            (_, vendor) => write!(f, "{vendor}"),
+            (_, vendor) => write!(f, "{vendor}")?,
         }
+        if self.is_ungrouped {
+            f.write_str(
+                "; but for RFC 9309 and Google, rules without a User-agent line are for no crawler",
+            )?;
+        }
+        Ok(())
     }
 }
 
+/// The first file has rules, but no user-agent line, and the other one has such a line.
+fn is_ungrouped(audit: &AgentAudit<'_>, other: &AgentAudit<'_>) -> bool {
+    matches!(audit.group, Group::Everyone)
+        && audit.rules > 0
+        && !matches!(other.group, Group::Everyone)
+}
+
 fn vendors_of(compared: &Compared<'_>) -> Vendors {
+    let (older, newer) = (&compared.older, &compared.newer);
     Vendors {
-        older: compared.older.vendor,
-        newer: compared.newer.vendor,
+        older: older.vendor,
+        newer: newer.vendor,
+        is_ungrouped: is_ungrouped(older, newer) || is_ungrouped(newer, older),
     }
 }
 
@@ -200,7 +217,7 @@ pub(crate) fn unchanged_words(crawlers: &[Compared<'_>]) -> &'static str
     ensures { result.now ≡ unchanged_words crawlers.now }
 {
     if has_unchanged(crawlers) {
-        ": same group, delay and rules, so the same verdicts"
+        ": same group, delay and rules as read here, so the same verdicts"
     } else {
         ""
     }
@@ -270,8 +287,8 @@ fn add_change(
 /// Of the group that the vendor applies to the crawler: this one, if it is another than here.
 fn name_at_vendor<'a>(audit: &AgentAudit<'a>, name: &'a str) -> &'a str {
     match audit.vendor {
-        AtVendor::Same => group_name(audit.agent, audit.group),
-        AtVendor::NoGroup => "none",
+        AtVendor::Same if !name.is_empty() => group_name(audit.agent, audit.group),
+        AtVendor::Same | AtVendor::NoGroup => "none",
         AtVendor::OtherGroup => name,
     }
 }

@@ -1,7 +1,7 @@
 //! Whether the verdict of any URL changes for a crawler.
-ghost use Rattle.std.specs.Prelude.{◌≡◌, IfErr, IfOk, IsTrue, codes};
+ghost use Rattle.std.specs.Prelude.{◌≡◌, IfErr, IfOk};
 ghost use Rattle.std.specs.Option.{IfSome};
-ghost use Rattle.texting_robots.specs.Callers.{lines_read, placed_rules, unplaced};
+ghost use Rattle.texting_robots.specs.Callers.{lines_read, placed_rules};
 ghost use Rattle.audit_compare.specs.EveryUrl.{AreVerdicts, IsExample, is_same};
 ghost use Rattle.robots_warnings.specs.Read.{IsRead};
 

@@ -53,7 +53,7 @@ fn add_both_sitemaps(
     add_sitemaps(alloc, found, "added", "sitemap-added", &comparison.added)
 }
 
-/// Adds that the new file has no directive, if the old one has some.
+/// Adds that no directive of the new file is read, if the old one has some.
 fn add_emptied(
     alloc: Global,
     found: &mut Findings,
@@ -63,7 +63,7 @@ fn add_emptied(
     if older.has_no_directive || !newer.has_no_directive {
         return Ok(());
     }
-    let message = message(alloc, "the new file has no directive");
+    let message = message(alloc, "no directive of the new file is read");
     add(alloc, found, Level::Warning, None, "empty", message)
 }
 

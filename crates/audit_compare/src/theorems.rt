@@ -5,7 +5,7 @@ ghost use Rattle.audit_compare.specs.declared.compared.Compared.{Compared};
 ghost use Rattle.audit_compare.specs.Compare.{IsCompared, is_unchanged, rules_only_in};
 
 /// If a crawler has the same rules in two files, in whatever lines, both files give each text the same
-/// verdict. So they do if `--compare` reports that nothing differs for a crawler.
+/// verdict. So they do if `--compare` finds that nothing differs for a crawler.
 pub fn same_rules_decide_alike()
     ensures rules { (agent : List ℕ) (older newer : List LineValue) (text : List ℕ) (allowed : Bool)
         → rules_only_in older newer agent ≡ [] → rules_only_in newer older agent ≡ []

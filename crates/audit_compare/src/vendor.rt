@@ -35,7 +35,8 @@ fn name_at_vendor<'a>(read: &'a FileRead<'a>, agent: &'a str) -> &'a str
 {
     match other_group(&read.site, agent) {
         Some(name) => name,
-        None => agent,
+        None if read.site.has_agents() => agent,
+        None => "",
     }
 }
 

@@ -4,15 +4,18 @@ use Rattle.std.proofs.Common.{◌++◌}
 use Rattle.std.proofs.Common.{MatchOption, Option, None, Some, ap, ap₂, append-nil, append_assoc, codes}
 use Rattle.std.proofs.Common.{filter}
 use Rattle.std.proofs.Common.{flat_map, if◌then◌else◌, inl, inr, length, option_to_list, refl, slice_index_or}
-use Rattle.std.proofs.Common.{sym, take}
+use Rattle.std.proofs.Common.{Any, sym, take}
+use Rattle.std.specs.{Bool.⊤}
 use Rattle.std.proofs.lemmas.Bool.{cases_Bool, false≢true}
 use Rattle.std.proofs.lemmas.List.{Concat.flat_map-append, map-append, take_more}
 use Rattle.std.proofs.lemmas.List.Elements.{All-append, All-cons, All-filter, All-head, All-nil, All-tail}
 use Rattle.std.proofs.lemmas.List.Elements.{All-weaker, Contains-append_left, filter_passes}
-use Rattle.texting_robots.specs.Callers.{Label, lines_read}
+use Rattle.texting_robots.specs.Callers.{Label, LineValue, lines_read}
 use Rattle.robots_needless.proofs.TogetherLemmas.{to_filter}
 use Rattle.robots_needless.specs.{Needless.numbers_of, declared.needless.NeedlessRule.NeedlessRule}
 use Rattle.robots_warnings.specs.{Means.Means, Means.is_style, Means.telling, Message.WarningValue}
+use Rattle.robots_warnings.specs.Warnings.{HasClosed, IsClosing, is_closing_cause}
+use Rattle.robots_warnings.specs.{Closed.line_closing_site}
 use Rattle.robots_warnings.specs.{Table.name_of, declared.table.Cause.Cause, declared.warning.Detail.Detail}
 use Rattle.robots_warnings.specs.declared.table.Cause.TheVariants as causes
 use Rattle.audit_core.specs.{Audit.IsSo, Chosen.chosen, Chosen.is_chosen, Internal.AddsNeedless}
@@ -41,7 +44,8 @@ one_added warning added plain is = record {
 }
 
 pub rule_added : {found new : List WarningValue} {line : ℕ} (cause : Cause) (about : Option (List ℕ))
-    (detail : Option Detail) → new ≡ found ++ (record { line = Some line; cause = cause; about = about; detail = detail }) ∷ []
+    (detail : Option Detail)
+    → new ≡ found ++ (record { line = Some line; cause = cause; about = about; detail = detail }) ∷ []
     → is_needless cause ≡ true → AddsNeedless (line ∷ []) found new
 rule_added cause about detail added is = one_added _ added (rw is (or_true (is_style cause))) (rw is refl)
   where
@@ -107,6 +111,42 @@ told_chosen test found told are k other below =
     to_filter test found _ (All-filter test (Contains found) told are k other below)
     (filter_passes test told k other below)
 
+-- ---- Closed sites.
+
+abbrev HasAt : List WarningValue → Option ℕ → Type 0
+HasAt warnings line = MatchOption line ⊤ (λ number. Any (IsClosing number) warnings)
+
+abbrev Includes : List WarningValue → List WarningValue → Type 0
+Includes found new = (warning : WarningValue) → is_closing_cause warning.cause ≡ true → Contains found warning
+    → Contains new warning
+
+still_at : (found new : List WarningValue) → Includes found new → (line : Option ℕ) → HasAt found line
+    → HasAt new line
+still_at found new into None has = has
+still_at found new into (Some number) (k, warning, below, at, is) =
+    let (place, within, there) = into warning is.1 (k, below, at) in (place, warning, within, there, is)
+
+closed_in : (agents : List (List ℕ)) (lines : List LineValue) (found new : List WarningValue)
+    → Includes found new → HasClosed agents lines found → HasClosed agents lines new
+closed_in agents lines found new into closed =
+    All-weaker (λ agent. HasAt found (line_closing_site lines agent))
+    (λ agent. HasAt new (line_closing_site lines agent))
+    (λ agent. still_at found new into (line_closing_site lines agent)) agents closed
+
+closing_name : (cause : Cause) → is_closing_cause cause ≡ true → name_of cause ≡ codes "closes-everything"
+unfolding name_of
+closing_name causes.ClosesSite is = refl
+closing_name causes.ClosesEverything is = refl
+closing_name cause is = absurd (false≢true is)
+
+closed_chosen : (agents : List (List ℕ)) (lines : List LineValue) (only ignored : List (List ℕ))
+    (found : List WarningValue) → is_chosen only ignored (codes "closes-everything") ≡ true
+    → HasClosed agents lines found → HasClosed agents lines (chosen only ignored found)
+closed_chosen agents lines only ignored found shown =
+    let test = λ (warning : WarningValue). is_chosen only ignored (name_of warning.cause) in
+    closed_in agents lines found (filter test found) (λ warning closing has. to_filter test found warning has
+    (ap (is_chosen only ignored) (closing_name warning.cause closing) ∙ shown))
+
 no_line : (line : Option ℕ) → MatchOption line ⊥ (λ number. ⊥) → ⊥
 no_line None says = says
 no_line (Some number) says = says
@@ -147,15 +187,18 @@ module _ (all_groups : Bool) (agents urls : List (List ℕ)) (file : List ℕ) (
   plain_so warning plain isnt style = absurd (false≢true (rw (style, isnt) at plain))
 
   pub all_found : {lines : List ℕ} {old new : List WarningValue} → All Says old
-      → All (Contains old) (telling agents urls (lines_read file) labels) → AddsNeedless lines old new
+      → All (Contains old) (telling agents urls (lines_read file) labels)
+      → HasClosed agents (lines_read file) old → AddsNeedless lines old new
       → AreFoundFor all_groups agents urls file labels lines new
-  all_found {lines} {old} {new} are told all = record {
+  all_found {lines} {old} {new} are told closed all = record {
     are = rw all.appended (All-append (IsSo all_groups agents file labels) old all.added
         (λ k other below _. are k other below)
         (All-weaker IsPlain (IsSo all_groups agents file labels) plain_so all.added all.plain));
     in_lines = ap (flat_map needless_line) all.appended ∙ flat_map-append needless_line old all.added
         ∙ ap (λ front. front ++ flat_map needless_line all.added) (none_needless old are) ∙ all.in_lines;
     told = λ k other below. rw all.appended (Contains-append_left old all.added _ (told k other below));
+    closed = closed_in agents (lines_read file) old new
+        (λ warning _ has. rw all.appended (Contains-append_left old all.added warning has)) closed;
   }
 
   pub chosen_so : (only ignored : List (List ℕ)) (lines : List ℕ) (found new : List WarningValue)
@@ -164,6 +207,7 @@ module _ (all_groups : Bool) (agents urls : List (List ℕ)) (file : List ℕ) (
       × (flat_map needless_line new
       ≡ (if is_chosen only ignored (codes "needless-rule") then lines else []))
       × All (Contains new) (chosen only ignored (telling agents urls (lines_read file) labels))
+      × (is_chosen only ignored (codes "closes-everything") ≡ true → HasClosed agents (lines_read file) new)
   chosen_so only ignored lines found new is same =
       let test = λ (warning : WarningValue). is_chosen only ignored (name_of warning.cause) in
       let shown = is_chosen only ignored (codes "needless-rule") in
@@ -173,4 +217,5 @@ module _ (all_groups : Bool) (agents urls : List (List ℕ)) (file : List ℕ) (
             (name_is warning.cause needless)) found
             ∙ ap (λ (lines : List ℕ). if shown then lines else []) is.in_lines,
         told_chosen test found (telling agents urls (lines_read file) labels) is.told,
+        λ shown. closed_chosen agents (lines_read file) only ignored found shown is.closed,
       )

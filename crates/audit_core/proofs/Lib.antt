@@ -1,4 +1,5 @@
 pub mod AuditLemmas
 pub mod AddedLemmas
+pub mod EmptyLemmas
 pub mod ReachLemmas
 pub mod TogetherLemmas

@@ -10,8 +10,8 @@ use Rattle.texting_robots.specs.{Pattern.MatchesWith}
 use Rattle.texting_robots.proofs.Shared.{matches, matches_decides, placed_of}
 use Rattle.robots_same.specs.Same.{HaveSameVerdicts}
 use Rattle.robots_needless.proofs.TogetherLemmas.{to_filter, to_map, unplaced_of}
-use Rattle.robots_warnings.specs.Closed.{is_anything, is_root, is_star_or_dollar, is_whole_site}
-use Rattle.robots_warnings.specs.Closed.{without_stars}
+use Rattle.robots_warnings.specs.Closed.{are_signs, is_anything, is_root, is_star_or_dollar}
+use Rattle.robots_warnings.specs.Closed.{is_whole_site, without_stars}
 use Rattle.audit_core.specs.Reach.{IsOpened, IsReach, is_allow, is_closing, is_long_allow, plain_rules}
 use Rattle.audit_core.specs.declared.reach.Reach.TheVariants.{Everything, Listed, Nothing}
 
@@ -51,6 +51,7 @@ stars_match_before (b ∷ pattern) text rest = grind (arith, stars_match_before 
 pub whole_site_matches : (pattern text : List ℕ) → is_whole_site pattern ≡ true
     → Matches pattern (byte "/" ∷ text)
 whole_site_matches pattern text whole =
+    let (signs, is) = and_parts (are_signs pattern) _ whole in
     grind (arith, anything_matches, stars_match_before, root_matches)
 
 -- ---- What a list of rules lets a crawler fetch.

@@ -20,7 +20,7 @@ use Rattle.robots_needless.specs.{Needless.numbers_of}
 use Rattle.robots_warnings.specs.Crawlers.{Row, crawlers, ignores_star, other_group}
 use Rattle.audit_core.specs.{Reach.IsReach, declared.reach.Reach.Reach, declared.reach.Reach.TheVariants.Part}
 use Rattle.robots_warnings.specs.{Facts.is_too_large, File.labels_for, Means.Means, Means.telling}
-use Rattle.robots_warnings.specs.{Message.WarningValue}
+use Rattle.robots_warnings.specs.{Message.WarningValue, Warnings.HasClosed}
 
 -- a name is appended if it is new and UTF-8, as a crawler's name is a string
 abbrev pub with_name : List (List ℕ) → LineValue → List (List ℕ)
@@ -126,7 +126,7 @@ labels_requested requested file = labels_for (labeling_agent requested.agent) fi
 abbrev pub rejects_some : List AgentValue → Bool
 rejects_some agents = list_any (λ (agent : AgentValue). is_some agent.rejected) agents
 
--- of a warning about needless rules, an audit says more: see there
+-- of a warning about a needless rule, an audit says that its line is one of the found lines: see there
 abbrev pub IsSo : (all_groups : Bool) → (agents : List (List ℕ)) → (file : List ℕ) → List Label
     → WarningValue → Type 0
 IsSo all_groups agents file labels warning =
@@ -140,7 +140,8 @@ needless_shown requested needless =
 
 -- What is true of an audit. Each warning says what is so, where `--explain` prints that as proved; the
 -- warnings about needless rules are in exactly their lines; and none is missing, unless the request hides it,
--- of those whose absence says something. Which others there are, and in which order, isn't stated.
+-- of those whose absence says something. Which others there are, and in which order, isn't stated, nor which
+-- reason a warning about a needless rule gives.
 -- Of needless rules, it is only stated that those found are needless together: there may be more. They are
 -- those of all groups, whichever crawler the report is about, since deleting only some of them could change a
 -- verdict.
@@ -158,6 +159,9 @@ pub record IsAuditOf (requested : RequestValue) (file : List ℕ) (audit : Audit
   pub told : All (Contains audit.warnings) (chosen requested.only requested.ignored
       (telling (agents_requested requested.agents (lines_read file)) requested.urls (lines_read file)
       (labels_requested requested file)))
+  -- the line that closes the site to a crawler has a warning
+  pub closed : is_chosen requested.only requested.ignored (codes "closes-everything") ≡ true
+      → HasClosed (agents_requested requested.agents (lines_read file)) (lines_read file) audit.warnings
   pub syntax_is : audit.syntax ≡ conformance_of file
 
 abbrev pub allows_all : List VerdictValue → Bool

@@ -4,7 +4,7 @@ pub mod Views
 use Rattle.std.specs.Prelude.{◌≡◌, ◌++◌, ◌||◌, ℕ, All, Bool, true, Contains, List, flat_map, take}
 use Rattle.texting_robots.specs.Callers.{IsFirstOverlong, IsRobotWithoutSitemaps, Label, file_limit}
 use Rattle.texting_robots.specs.Callers.{lines_read, placed_rules}
-use Rattle.robots_warnings.specs.{Means.is_style, Means.telling, Message.WarningValue}
+use Rattle.robots_warnings.specs.{Means.is_style, Means.telling, Message.WarningValue, Warnings.HasClosed}
 use Rattle.audit_core.specs.{Audit.IsSo, Together.is_needless, Together.needless_line}
 use Rattle.audit_core.specs.declared.audit.Reading.{Reading, TheVariants.Accepted, TheVariants.Rejected}
 
@@ -30,3 +30,4 @@ pub record AreFoundFor (all_groups : Bool) (agents urls : List (List ℕ)) (file
   pub are : All (IsSo all_groups agents file labels) found
   pub in_lines : flat_map needless_line found ≡ lines
   pub told : All (Contains found) (telling agents urls (lines_read file) labels)
+  pub closed : HasClosed agents (lines_read file) found

@@ -18,7 +18,8 @@ fn is_among_names(names: &[&str], name: &str) -> bool
 }
 
 fn is_chosen(only: &[&str], ignored: &[&str], name: &str) -> bool
-    ensures { result ≡ is_chosen (map (λ name. name.now) only.now) (map (λ name. name.now) ignored.now) name.now }
+    ensures { result ≡ is_chosen (map (λ name. name.now) only.now) (map (λ name. name.now) ignored.now)
+        name.now }
 {
     (only.is_empty() || is_among_names(only, name)) && !is_among_names(ignored, name)
 }

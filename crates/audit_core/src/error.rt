@@ -165,8 +165,8 @@ fn flaw_text(flaw: Flaw) -> &'static str {
         Flaw::Form =>
             "write \"allow AGENT URL\" or \"deny AGENT URL\", or for a pattern allow-all or deny-all",
         Flaw::Pattern =>
-            "a pattern starts with / or *, has no #, a $ only at its end (a rule with text after it matches nothing), \
-            and with a $ at most 4,096 bytes",
+            "a pattern starts with / or *, has no #, a $ only at its end (a rule with text after it matches \
+            nothing), and with a $ at most 4,096 bytes",
         Flaw::NotUtf8 => "the line isn't valid UTF-8",
         Flaw::Agent => "a crawler's name is a product token without a version, such as Googlebot",
         Flaw::Url =>
@@ -175,7 +175,8 @@ fn flaw_text(flaw: Flaw) -> &'static str {
             "this is neither a path that starts with / nor a URL; for a crawler, write --agent NAME, for a \
             file of URLs --urls FILE, for a level --strict=LEVEL",
         Flaw::Path =>
-            "URL has a . or .. segment or a #, which crawlers resolve or drop; write the path that they ask for",
+            "URL has a . or .. segment or a #, which crawlers resolve or drop; write the path that they ask \
+            for",
         Flaw::Html => "this looks like HTML, not like a robots.txt file",
         Flaw::Utf16 => "this looks like UTF-16, not like a robots.txt file; save it as UTF-8",
         Flaw::NoDirectives =>

@@ -108,8 +108,8 @@ fn add_warnings(
 }
 
 /// The errors among the warnings; for each crawler why the file is rejected or which URLs are denied; and
-/// then the other warnings. If `is_one`, one finding stands for all needless rules; else the message about each
-/// names them all.
+/// then the other warnings. If `is_one`, one finding stands for all needless rules; else the message about
+/// each names them all.
 pub fn findings_of(alloc: Global, audit: &Audit<'_>, is_one: bool) -> Result<Findings, fmt::Error> {
     let ranges = needless_lines(alloc, &audit.warnings)?;
     let together = Together {

@@ -86,22 +86,30 @@ pub fn shared_lines(
     Ok(lines)
 }
 
-/// The lines of the warnings that are written as one, as in ` (also in lines 3, 5 and 8)`, where of the others than
-/// the first, three are named; or how many there are, as in ` (and 6 more)`.
+/// The lines of the warnings that are written as this one, as in ` (also in lines 3, 5 and 8)`, where of the
+/// others than the first, three are named; if it names a crawler, they are about others; or how many others
+/// there are, as in ` (and 6 more URLs)`.
 #[derive(Clone, Copy)]
-pub struct AlsoIn<'a>(pub &'a [usize]);
+pub struct AlsoIn<'a, 'b>(pub &'a [usize], pub &'a Warning<'b>);
 
-impl<'a> fmt::Display for AlsoIn<'a> {
+impl<'a, 'b> fmt::Display for AlsoIn<'a, 'b> {
     fn fmt<W: fmt::Write>(&self, f: &mut fmt::Formatter<W>) -> fmt::Result {
+        let warning = self.1;
         match self.0 {
             [] | [_] => Ok(()),
             [0, others @ ..] => {
-                let more = others.len();
-                write!(f, " (and {more} more)")
+                let (more, kind) = (others.len(), warning.kind());
+                let end = if others.len() == 1 { "" } else { "s" };
+                write!(f, " (and {more} more {kind}{end})")
             }
             [_, others @ ..] => {
+                let whom = if warning.about.is_some() {
+                    "for other crawlers, "
+                } else {
+                    ""
+                };
                 let others = Lines(others);
-                write!(f, " (also in {others})")
+                write!(f, " (also {whom}in {others})")
             }
         }
     }

@@ -72,6 +72,15 @@ impl<'a> Request<'a> {
         }
     }
 
+    /// What is done with rules for other crawlers in a report on one.
+    pub fn for_others(&self) -> &'static str {
+        if self.has_needless {
+            "are only checked for being needless"
+        } else {
+            "aren't checked"
+        }
+    }
+
     /// Whether the report has rows.
     pub fn has_rows(&self) -> bool {
         !self.is_quiet && self.agent.is_some()

@@ -70,7 +70,7 @@ impl<'a> fmt::Display for Shown<'a> {
     fn fmt<W: fmt::Write>(&self, f: &mut fmt::Formatter<W>) -> fmt::Result {
         match self.0 {
             Line::Allow(_) if is_empty_disallow(self.0, self.1) => {
-                f.write_str("(empty: allows everything)")
+                f.write_str("(empty: an Allow of / here)")
             }
             Line::UserAgent(value)
             | Line::Allow(value)

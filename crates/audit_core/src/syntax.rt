@@ -24,8 +24,8 @@ impl fmt::Display for Standard {
             }
             Conformance::Verdicts => {
                 f.write_str(
-                    "RFC 9309 syntax, and verdicts for paths and queries in normal form (%20 for a space, not \
-                    %41 for A)",
+                    "RFC 9309 syntax, and verdicts for paths and queries in normal form (%20 for a space, \
+                    not %41 for A)",
                 )
             }
         }

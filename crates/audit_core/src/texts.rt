@@ -103,12 +103,12 @@ impl fmt::Display for DelayOrNone {
     }
 }
 
-/// Whether the crawler has a delay, and ignores it.
+/// Whether the crawler has a delay, and by its name probably ignores it.
 pub fn ignores_delay(audit: &AgentAudit<'_>) -> bool {
     is_ignored(Some(audit.agent.as_bytes()), Line::CrawlDelay(audit.delay))
 }
 
-/// The delay of a crawler, or `none`, and whether the crawler ignores it.
+/// The delay of a crawler, or `none`, and whether the crawler probably ignores it.
 #[derive(Clone, Copy)]
 pub struct Delayed<'a, 'b>(pub &'a AgentAudit<'b>);
 
@@ -118,7 +118,7 @@ impl<'a, 'b> fmt::Display for Delayed<'a, 'b> {
         let (agent, delay) = (audit.agent, DelayOrNone(audit.delay));
         write!(f, "{delay}")?;
         if ignores_delay(audit) {
-            write!(f, " ({agent} ignores it)")?;
+            write!(f, " ({agent} probably ignores it)")?;
         }
         Ok(())
     }
@@ -183,7 +183,7 @@ impl<'a, 'b> fmt::Display for Applied<'a, 'b> {
             }
             Group::Nobody => write!(f, "none (no group for {agent} or *; everything is allowed)"),
             Group::Everyone => {
-                f.write_str("everyone (the file has no User-agent line; all rules are applied)")
+                f.write_str("everyone (no User-agent line is read; all rules are applied)")
             }
         }
     }
@@ -201,7 +201,8 @@ impl<'a> fmt::Display for Rejected<'a> {
         let (agent, line) = (self.agent, self.line);
         write!(
             f,
-            "rejected for {agent}: line {line}: a pattern with $ longer than 4,096 bytes isn't supported; shorten it"
+            "rejected for {agent}: line {line}: a pattern with $ longer than 4,096 bytes isn't supported; \
+            shorten it"
         )
     }
 }

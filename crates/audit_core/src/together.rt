@@ -53,7 +53,8 @@ fn is_needless(cause: Cause) -> bool
 }
 
 fn add_needless_line(ranges: &mut Vec<Range>, warning: &Warning<'_>) -> Result<(), AllocError>
-    ensures { OnOk result (lines_in ranges.new.items ≡ lines_in ranges.old.items ++ needless_line warning.now) }
+    ensures { OnOk result (lines_in ranges.new.items
+        ≡ lines_in ranges.old.items ++ needless_line warning.now) }
 {
     match warning.line {
         Some(line) if is_needless(warning.cause) => add_line(ranges, line),
@@ -123,7 +124,8 @@ fn are_several(ranges: &[Range]) -> bool {
     }
 }
 
-/// The message of a warning, with the lines of all rules that have to be deleted together, if it is about one of them.
+/// The message of a warning, with the lines of all rules that have to be deleted together, if it is about one
+/// of them.
 #[derive(Clone, Copy)]
 pub struct Message<'a, 'b, 'c>(pub &'a Warning<'b>, pub Together<'c>);
 
@@ -135,8 +137,11 @@ impl<'a, 'b, 'c> fmt::Display for Message<'a, 'b, 'c> {
             return write!(f, "{warning}");
         }
         if together.is_one {
-            return write!(f, "{lines} can be deleted, but only all of them together");
+            return write!(
+                f,
+                "{lines} can be deleted together; deleting only some may change a verdict"
+            );
         }
-        write!(f, "{warning}; only together with {lines}")
+        write!(f, "{warning}; all needless rules: {lines}")
     }
 }

@@ -3,7 +3,8 @@ use Rattle.std.proofs.Common.{◌≡◌, ◌≢◌, ℕ, ◌==◌, Bool, true, f
 use Rattle.std.proofs.Common.{◌∙◌, ap, length, map, not, refl, subst, sym, take}
 use Rattle.std.specs.{Borrow.Bor, Prelude.filter}
 use Rattle.std.proofs.lemmas.Bool.{false≢true, not-false, or_parts, Decides.nat_tests}
-use Rattle.texting_robots.specs.Callers.{IsRejected, IsRobotWithoutSitemaps, IsVerdict, RobotValue, bodies_read}
+use Rattle.texting_robots.specs.Callers.{IsRejected, IsRobotWithoutSitemaps, IsVerdict, RobotValue}
+use Rattle.texting_robots.specs.Callers.{bodies_read}
 use Rattle.texting_robots.specs.Callers.{escaped}
 use Rattle.texting_robots.specs.Callers.{file_limit, lines_read, placed_rules, unplaced}
 use Rattle.texting_robots.specs.{Decision.IsDecisionOn, declared.decision.Decision.Decision}

@@ -1,68 +1,29 @@
 -- Other readings: which lines are empty Disallows, and what decides without their rules, also in normal form.
 use Rattle.std.specs.Prelude.{length, not}
-use Rattle.std.proofs.Common.{◌≡◌, ◌≢◌, ◌∙◌, ℕ, zero, suc, Bool, true, false, List, [], ◌∷◌, ◌++◌, Some}
+use Rattle.std.proofs.Common.{◌≡◌, ◌≢◌, ℕ, zero, suc, true, false, List, [], ◌∷◌, ◌++◌, Some}
 use Rattle.std.proofs.Common.{Contains, Option, None, ap, arith, inl, inr, map, refl, subst}
 use Rattle.std.proofs.Common.{◌<◌, ◌≤◌, ◌-◌, drop, slice_get, slice_index_or, sym}
 use Rattle.std.specs.{List.All}
-use Rattle.std.proofs.lemmas.Bool.{cases_Bool, false≢true, Decides.nat_tests}
-use Rattle.std.proofs.lemmas.Option.{option_and_then_some, same_Some}
+use Rattle.std.proofs.lemmas.Bool.{cases_Bool, Decides.nat_tests}
+use Rattle.std.proofs.lemmas.Option.{same_Some}
 use Rattle.std.proofs.lemmas.List.Elements.{All-filter, All-map, Contains-append_left, Contains-get_or}
 use Rattle.std.proofs.lemmas.List.Elements.{Contains-push, Contains-push_cases}
-use Rattle.texting_robots.specs.Callers.{Allow, IsBetter, IsDecidingRule, IsOverlong, Matches}
+use Rattle.texting_robots.specs.Callers.{IsBetter, IsDecidingRule, IsOverlong, Matches}
 use Rattle.texting_robots.specs.Callers.{IsRejected, LineValue, PlacedRule, Rule, placed_rules}
 use Rattle.texting_robots.specs.Callers.{Label, bodies_in, bodies_read, label_by_value, robots_file}
 use Rattle.texting_robots.specs.declared.labels.{LabeledLine.LabeledLine}
 use Rattle.texting_robots.specs.{Statement.IsStatement, declared.parser.statement.Kind.TheVariants.Disallow}
-use Rattle.texting_robots.specs.{declared.decision.Decision.Decision, declared.parser.statement.Kind.Kind}
-use Rattle.texting_robots.specs.{Decision.IsDecisionOn, Internal.Line.line_of}
-use Rattle.texting_robots.specs.Internal.Statement.{kind_by, skip_blanks, statement_of}
-use Rattle.texting_robots.proofs.Shared.{none_denies, verdict_by, length_within, line_raw, line_stated}
-use Rattle.texting_robots.proofs.Shared.{any_unplaced, found_statement, statement_found}
+use Rattle.texting_robots.specs.{Decision.IsDecisionOn, declared.decision.Decision.Decision}
+use Rattle.texting_robots.specs.{Internal.Line.line_of}
+use Rattle.texting_robots.proofs.Shared.{any_unplaced, length_within, none_denies, verdict_by}
 use Rattle.texting_robots.proofs.Shared.{rejection_is_computed}
-use Rattle.robots_warnings.specs.Conflicts.{IsEmptyDisallow, begins_with_d, is_empty_disallow}
-use Rattle.robots_warnings.specs.FieldNames.{trim_blanks_start}
+use Rattle.audit_core.proofs.EmptyLemmas.{empty_stated, stated_empty}
+use Rattle.robots_warnings.specs.Conflicts.{IsEmptyDisallow}
 use Rattle.robots_warnings.specs.{File.lines_of, Read.IsRead, declared.read.FileRead.FileRead}
 use Rattle.audit_expect.specs.OtherReading.{IsNormalVerdict, normal_rule}
 use Rattle.audit_expect.specs.OtherReading.{AreOthers, IsOtherVerdict}
 use Rattle.audit_expect.specs.Internal.Expectations.{IsDecidedBy, IsPreferred, decision_with, is_empty}
 use Rattle.audit_expect.specs.Internal.Expectations.{is_empty_label, is_marked, marks_in, marks_of, others_of}
-
-abbrev is_disallow : Option Kind → Bool
-is_disallow (Some Disallow) = true
-is_disallow _ = false
-
-begins : (text : List ℕ) → begins_with_d text ≡ is_disallow (kind_by text)
-begins text = grind (arith, nat_tests)
-
-skipped : (body : List ℕ) → trim_blanks_start body ≡ skip_blanks body
-skipped body = grind arith
-
-module _ (body : List ℕ) where
-  selected : (kind : Kind) (value : List ℕ) → statement_of body ≡ Some (kind, value)
-      → begins_with_d (trim_blanks_start body) ≡ is_disallow (Some kind)
-  unfolding statement_of
-  selected kind value stated = grind (arith, begins, option_and_then_some, same_Some, skipped)
-
-  begins_so : (line : LineValue) → is_empty_disallow line body ≡ true
-      → begins_with_d (trim_blanks_start body) ≡ true
-  begins_so (Allow value) is = is
-  begins_so _ is = cc
-
-  empty_stated : is_empty body ≡ true → IsStatement Disallow [] body
-  empty_stated is = at (statement_of body) refl
-    where
-      at : (found : Option (Kind × List ℕ)) → statement_of body ≡ found → IsStatement Disallow [] body
-      at None none = let wrong = rw (line_raw body none) at is in cc
-      at (Some (Disallow, [])) stated = found_statement Disallow [] body stated
-      at (Some (Disallow, b ∷ value)) stated =
-          let wrong = rw (line_stated body Disallow (b ∷ value) stated) at is in cc
-      at (Some (_, value)) stated =
-          absurd (false≢true (sym (selected _ value stated) ∙ begins_so (line_of body) is))
-
-  stated_empty : IsStatement Disallow [] body → is_empty body ≡ true
-  stated_empty is =
-      let stated = statement_found Disallow [] body is in
-      rw (line_stated body Disallow [] stated) (selected Disallow [] stated)
 
 mark_stated : (bodies : List (List ℕ)) (place : ℕ) → is_marked (map is_empty bodies) place ≡ true
     → (body : List ℕ) × (slice_get bodies place ≡ Some body) × IsStatement Disallow [] body
@@ -148,7 +109,8 @@ module _ (bodies : List (List ℕ)) (rules : List PlacedRule) (text : List ℕ) 
   abbrev others : List PlacedRule
   others = others_of bodies rules
 
-  pub decided_otherwise : IsDecisionOn others text decision → IsOtherVerdict bodies rules text decision.allowed
+  pub decided_otherwise : IsDecisionOn others text decision
+      → IsOtherVerdict bodies rules text decision.allowed
   decided_otherwise is = record { others = others; are = others_are bodies rules; verdict = is.verdict }
 
   pub decided_normally : IsDecisionOn (map normal_rule others) text decision

@@ -67,11 +67,12 @@ abbrev pub demanded : List (List ℕ) → Option ExpectationValue
 demanded (word ∷ agent ∷ url ∷ []) = option_map (expected agent url) (demand_of word)
 demanded words = None
 
--- a line without words is blank, and one whose first word starts with `#` is a comment; any other is malformed
--- without an expectation
+-- a line without words is blank, and one whose first word starts with `#` is a comment; any other is
+-- malformed without an expectation
 abbrev pub words_expect : List (List ℕ) → List (Option ExpectationValue)
 words_expect [] = []
-words_expect (word ∷ others) = if starts_with nat_eq word (codes "#") then [] else demanded (word ∷ others) ∷ []
+words_expect (word ∷ others) =
+    if starts_with nat_eq word (codes "#") then [] else demanded (word ∷ others) ∷ []
 
 abbrev pub line_expects : List ℕ → List (Option ExpectationValue)
 line_expects line = words_expect (words_with_name line)

@@ -7,7 +7,8 @@ use Rattle.robots_warnings.specs.Crawlers.{Row, crawlers, other_group}
 use Rattle.robots_warnings.specs.Targets.{normal_target, written_target}
 use Rattle.audit_core.specs.{Target.asked_target, Audit.crawlers_in}
 use Rattle.audit_expect.specs.Expect.{AreExpectedIn, ExpectationValue, is_any}
-use Rattle.audit_expect.specs.{OtherReading.IsNormalVerdict, OtherReading.IsOtherVerdict, Patterns.AreDecidedAs}
+use Rattle.audit_expect.specs.{OtherReading.IsNormalVerdict, OtherReading.IsOtherVerdict}
+use Rattle.audit_expect.specs.{Patterns.AreDecidedAs}
 
 -- What is written and what is compared here have the same normal form. They don't if `url` changes what RFC
 -- 9309 compares, such as dot segments, a backslash, or an apostrophe in a query.
@@ -65,7 +66,8 @@ abbrev pub about_each : List (List ℕ) → ExpectationValue → List Expectatio
 about_each names one =
     if is_any one.agent then map (λ name. record one { agent = name }) names else one ∷ []
 
--- if none of the expectations in the text, of which there are some, fails, all of them hold on the file
+-- if none of the expectations in the text, of which there are some, fails, all of them hold on the file.
+-- Which fail isn't stated, as one may also fail because it isn't decided
 pub record AreFailuresOf (text file : List ℕ) (failing : ℕ) : Type 0 where
   pub expectations : List ExpectationValue
   pub all : AreExpectedIn text expectations

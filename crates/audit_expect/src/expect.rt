@@ -1,7 +1,8 @@
 //! The expectations in the file of `--expect`, one per line, and how a text is cut into parts.
 ghost use Rattle.std.specs.Prelude.{◌≡◌, ◌==◌, ◌∷◌, ◌++◌, [], IfOk, OnOk, length, map};
 ghost use Rattle.std.specs.{List.slice_split, Option.option_to_list};
-ghost use Rattle.audit_expect.specs.Expect.{AreExpectedIn, asked, demand_of, demanded, goes_on, is_any, is_blank};
+ghost use Rattle.audit_expect.specs.Expect.{AreExpectedIn, asked, demand_of, demanded, goes_on, is_any};
+ghost use Rattle.audit_expect.specs.Expect.{is_blank};
 ghost use Rattle.audit_expect.specs.Expect.{line_expects, lines_expect, words, words_with_name};
 ghost use Rattle.audit_expect.specs.Internal.Expectations.{expectation_value, expected_by};
 
@@ -31,7 +32,8 @@ pub(crate) struct Expectation<'a> {
 }
 
 fn lines(alloc: Global, text: &[u8]) -> Result<Vec<&[u8]>, AllocError>
-    ensures { IfOk result (λ found. map (λ line. line.now) found.items ≡ slice_split (λ b. b == 10) text.now) }
+    ensures { IfOk result (λ found. map (λ line. line.now) found.items
+        ≡ slice_split (λ b. b == 10) text.now) }
 {
     text.split(|byte| *byte == b'\n').collect(alloc)
 }

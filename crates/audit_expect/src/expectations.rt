@@ -69,7 +69,7 @@ impl<'a> fmt::Display for Deciding<'a> {
                 write!(f, "line {line} {how} {name}")
             }
             None if self.target == "/robots.txt" => f.write_str("/robots.txt is always allowed"),
-            None => write!(f, "no rule matches {name}"),
+            None => write!(f, "no rule denies {name}"),
         }
     }
 }
@@ -110,7 +110,7 @@ impl<'a> fmt::Display for Reason<'a> {
                 other,
             ),
             Judgment::Decided(_, _, normal) => (
-                "by RFC 9309, which compares normal forms, ",
+                "in the normal forms of RFC 9309, ",
                 "it",
                 target,
                 normal,

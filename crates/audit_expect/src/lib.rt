@@ -1,4 +1,5 @@
-//! Files with a line for each URL: the expectations of `--expect`, with the report on them, and the URLs of `--urls`.
+//! Files with a line for each URL: the expectations of `--expect`, with the report on them, and the URLs of
+//! `--urls`.
 #![tactic(auto)]
 
 mod any;

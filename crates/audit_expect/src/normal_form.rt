@@ -1,7 +1,8 @@
 //! Normal forms of rules and of what is written for a URL, in which RFC 9309 compares them.
 ghost use Rattle.std.specs.Prelude.{◌≡◌, IfOk, MatchOption, map, string_bytes};
 ghost use Rattle.robots_warnings.specs.Targets.{normal_target, normal_text, written_target};
-ghost use Rattle.audit_expect.specs.{Expectations.IsAskedAsWritten, OtherReading.normal_pattern, OtherReading.normal_rule};
+ghost use Rattle.audit_expect.specs.{Expectations.IsAskedAsWritten, OtherReading.normal_pattern};
+ghost use Rattle.audit_expect.specs.{OtherReading.normal_rule};
 
 use percent_encoding::{AsciiSet, ascii_set};
 use robots_same::rule::Rule;

@@ -1,7 +1,8 @@
 //! Other readings: of an empty Disallow, which here is an Allow of `/`, and for RFC 9309 and Google no rule;
 //! and of characters that RFC 9309 compares in their normal forms.
 ghost use Rattle.std.specs.Prelude.{◌≡◌, ◌↔◌, All, Decides, IfOk, IsTrue, map, option_map};
-ghost use Rattle.texting_robots.specs.Callers.{IsBetter, IsOverlong, IsRejected, Matches, PlacedRule, bodies_read};
+ghost use Rattle.texting_robots.specs.Callers.{IsBetter, IsOverlong, IsRejected, Matches, PlacedRule};
+ghost use Rattle.texting_robots.specs.Callers.{bodies_read};
 ghost use Rattle.texting_robots.specs.Callers.{label_by_value, lines_read, placed_rules};
 ghost use Rattle.texting_robots.specs.Decision.{IsDecisionOn};
 ghost use Rattle.robots_warnings.specs.Targets.{asked_target};
@@ -125,8 +126,8 @@ pub(crate) fn decision_of(
     Ok(decision_with(rule))
 }
 
-/// The decision where an empty Disallow is no rule, and the one where normal forms are compared, too, of which
-/// the last text is that of the match target.
+/// The decision where an empty Disallow is no rule, and the one where normal forms are compared, too, of
+/// which the last text is that of the match target.
 pub(crate) fn other_decisions(
     alloc: Global,
     agent: &str,

@@ -86,7 +86,8 @@ fn are_shorter(rules: &[Rule], than: usize) -> bool
     rules.iter().all(|rule| rule.pattern.len() < than)
 }
 
-/// It matches what the pattern does, and is longer than the rules, by stars before its first one or at its end.
+/// It matches what the pattern does, and is longer than the rules, by stars before its first one or at its
+/// end.
 fn longer_pattern(alloc: Global, pattern: &[u8], rules: &[Rule]) -> Result<String, AllocError>
     ensures { IfOk result (λ longer. (text : List ℕ) → Matches (escaped pattern.now) text
         → Matches (string_bytes longer) text) }

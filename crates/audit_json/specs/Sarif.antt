@@ -1,6 +1,6 @@
 -- Messages of SARIF 2.1.0 (OASIS Standard, Static Analysis Results Interchange Format), which show texts.
-use Rattle.std.specs.Prelude.{ℕ, Bool, List, [], ◌∷◌, ◌==◌, ◌&&◌, ◌||◌, Option, Some, None}
-use Rattle.std.specs.Prelude.{if◌then◌else◌, option_map}
+use Rattle.std.specs.Prelude.{◌≡◌, ℕ, Bool, List, [], ◌∷◌, ◌==◌, ◌&&◌, ◌||◌, Option, Some, None}
+use Rattle.std.specs.Prelude.{encode_utf8_all, flat_map, if◌then◌else◌, option_map}
 use Rattle.std.specs.Str.{byte}
 
 -- a number in braces is a placeholder (section 3.11.5)
@@ -16,6 +16,11 @@ abbrev pub literal_char : ℕ → List ℕ
 literal_char char =
     if is_brace char then char ∷ char ∷ [] else if takes_backslash char then byte "\\" ∷ char ∷ []
     else char ∷ []
+
+-- a message that shows the characters of a text
+pub record IsMessage (message : List ℕ) : Type 0 where
+  pub text : List ℕ
+  pub escaped : message ≡ encode_utf8_all (flat_map literal_char text)
 
 -- the two characters show the second one
 abbrev pub is_escape : ℕ → ℕ → Bool

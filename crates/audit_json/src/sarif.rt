@@ -2,7 +2,7 @@
 ghost use Rattle.std.specs.Prelude.{◌≡◌, ◌++◌, IfOk, OnOk, encode_utf8_all, flat_map, string_bytes};
 ghost use Rattle.std.specs.Str.{chars};
 ghost use Rattle.printable_text.specs.Text.{IsReport};
-ghost use Rattle.audit_json.specs.Sarif.{literal_char};
+ghost use Rattle.audit_json.specs.Sarif.{IsMessage, literal_char};
 
 use crate::json::{Json, json_line, list_json};
 use crate::object::{Object, array_of_one, with_one};
@@ -74,9 +74,15 @@ fn literal_text(alloc: Global, text: &str) -> Result<String, AllocError>
     Ok(message)
 }
 
-fn message_json(alloc: Global, text: &str) -> Result<Value, AllocError> {
-    let message = literal_text(alloc, text)?;
+/// Each message of the log is made here, of a text that is escaped.
+fn escaped_json(alloc: Global, message: String) -> Result<Value, AllocError>
+    requires { IsMessage (string_bytes message) }
+{
     with_one(alloc, "text", Ok(Value::String(message)))
+}
+
+fn message_json(alloc: Global, text: &str) -> Result<Value, AllocError> {
+    escaped_json(alloc, literal_text(alloc, text)?)
 }
 
 /// The most serious level of the warnings with this name.

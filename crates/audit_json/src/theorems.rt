@@ -2,8 +2,8 @@
 ghost use Rattle.std.specs.Prelude.{List, Some, flat_map, ℕ, ◌≡◌};
 ghost use Rattle.audit_json.specs.Sarif.{literal_char, shown};
 
-/// A message of a SARIF log shows the characters of the text that it is made of, and has neither a
-/// placeholder nor a link.
+/// A text that is escaped for a message of a SARIF log, as each message is, shows its characters, and has
+/// neither a placeholder nor a link.
 pub fn no_text_becomes_a_link()
     ensures { (text : List ℕ) → shown (flat_map literal_char text) ≡ Some text }
 {}

@@ -140,7 +140,11 @@ pub fn page_text(
     ensures { IfOk result (λ page. IsSomePage page.items) }
 {
     let mut page = Page::new(alloc);
-    let title = Title(request.agent, audit.agents.len());
+    let agent = match audit.agents.as_slice() {
+        [one] if one.agent != "*" => Some(one.agent),
+        _ => request.agent,
+    };
+    let title = Title(agent, audit.agents.len());
     page.open_with("html", &[("lang", "en")]);
     write_head(&mut page, title);
     write_body(alloc, &mut page, title, request, audit)?;

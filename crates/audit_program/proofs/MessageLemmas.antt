@@ -1,6 +1,7 @@
 -- What is answered, and that it is safe.
 use Rattle.std.specs.Prelude.{IfOk}
-use Rattle.std.proofs.Common.{◌≡◌, ◌+◌, ◌<◌, ◌||◌, ℕ, Bool, true, List, [], Result, Some, drop, inl, inr, length}
+use Rattle.std.proofs.Common.{◌≡◌, ◌+◌, ◌<◌, ◌||◌, ℕ, Bool, true, List, [], Result, Some, drop, inl, inr}
+use Rattle.std.proofs.Common.{length}
 use Rattle.std.proofs.Common.{refl, slice_index_or, string_bytes, subst, sym}
 use Rattle.std.proofs.{lemmas.List.drop_more, lemmas.Result.IfOk-weaker}
 use Rattle.printable_text.specs.{declared.level.Level.Level}
@@ -36,7 +37,8 @@ pub comparison_answers : (verdicts_only : Bool) (requested : RequestValue) (olde
     (result : Result Answer Error) → IfOk result (IsCompared verdicts_only requested older newer)
     → IfOk result Answers
 comparison_answers verdicts_only requested older newer result is =
-    IfOk-weaker result _ Answers (λ answer is. inr (inr (inl (verdicts_only, requested, older, newer, is)))) is
+    IfOk-weaker result _ Answers
+    (λ answer is. inr (inr (inl (verdicts_only, requested, older, newer, is)))) is
 
 pub expectations_answer : (format : Format) (text file : List ℕ) (result : Result Answer Error)
     → IfOk result (IsExpected format text file) → IfOk result Answers

@@ -15,14 +15,15 @@ use Rattle.audit_compare.specs.Compare.{rejects_some as rejects_one}
 use Rattle.audit_expect.specs.{Expectations.AreFailuresOf}
 use Rattle.audit_text.specs.{Github.github_text}
 
--- annotations, each of which is a single command
+-- annotations of some findings in some file, each of which is a single command
 pub record AreAnnotations (text : List ℕ) : Type 0 where
   pub file : List ℕ
   pub found : List Finding
   pub text_is : text ≡ github_text file found
 
 -- a report in this format: a page, which steers no terminal, has no `##[`, and is read back as some tree;
--- annotations; or lines, none of which steers a terminal or is a command of a workflow
+-- annotations; or lines, none of which steers a terminal or is a command of a workflow. That it says what was
+-- found isn't stated, here and below
 abbrev pub IsReportIn : Format → List ℕ → Type 0
 IsReportIn Html text = IsSomePage text
 IsReportIn Github text = AreAnnotations text
@@ -39,7 +40,7 @@ pub record IsOutcomeOf (requested : RequestValue) (audit : AuditValue) (outcome 
   pub warned : outcome.is_warned ≡ is_warned requested.strict audit.warnings
   pub warnings : IsShownReport requested.has_colors (string_bytes outcome.warnings)
 
--- the answer to an audit of a file with these bytes
+-- the answer to an audit of a file with these bytes: what decides the exit status is that of the audit
 pub record IsAudited (requested : RequestValue) (file : List ℕ) (answer : Answer) : Type 0 where
   pub audit : AuditValue
   pub of : IsAuditOf requested file audit
@@ -76,9 +77,10 @@ pub record IsExpected (format : Format) (text file : List ℕ) (answer : Answer)
 
 -- ---- what the program answers
 
--- The toolchain has no words for the content of a file or of standard input. So this states that there are
--- some bytes, which were read, for which the answer is the right one. It is a text, such as the explanation
--- of a warning, or the answer to an audit, a comparison or expectations.
+-- The answer is a text, such as the explanation of a warning, or that to an audit, a comparison or
+-- expectations. The toolchain has no words for the content of a file or of standard input. So this states
+-- that there are some bytes and a request for which it is the right one, but neither that these bytes were
+-- read, nor that the arguments make this request.
 abbrev pub Answers : Answer → Type 0
 Answers answer =
     IsText answer

@@ -1,4 +1,5 @@
-//! What `robots_audit` does, without input and output: the request that its arguments contain, and the answers.
+//! What `robots_audit` does, without input and output: the request that its arguments contain, and the
+//! answers.
 #![tactic(auto)]
 
 pub mod command;

@@ -78,7 +78,7 @@ const PARAMETERS: &[Parameter] = &[
         short: None,
         long: Some("denied"),
         value: Value::Absent,
-        help: "List only the URLs that are denied, and crawlers with such URLs",
+        help: "List only the URLs that are denied and, in text, crawlers with such URLs",
         excludes: &[],
     },
     Parameter {
@@ -86,8 +86,8 @@ const PARAMETERS: &[Parameter] = &[
         short: None,
         long: Some("agent"),
         value: Value::RepeatedAs("NAME", "user-agent"),
-        help: "Report on this crawler, * for any without a group of its own; may be repeated (default: * and every \
-            crawler that FILE names)",
+        help: "Report on this crawler, * for any without a group of its own; may be repeated (default: * and \
+            every crawler that FILE names)",
         excludes: &[],
     },
     Parameter {
@@ -159,7 +159,8 @@ const PARAMETERS: &[Parameter] = &[
         short: None,
         long: Some("color"),
         value: Value::OneOf("WHEN", &["auto", "always", "never"]),
-        help: "Color the levels of warnings; auto (default): on a terminal, unless NO_COLOR isn't empty or TERM is dumb",
+        help: "Color the levels of warnings; auto (default): on a terminal, unless NO_COLOR isn't empty or \
+            TERM is dumb",
         excludes: &[],
     },
     Parameter {
@@ -167,8 +168,8 @@ const PARAMETERS: &[Parameter] = &[
         short: None,
         long: Some("strict"),
         value: Value::OneOfAfterEquals("LEVEL", &["error", "warning", "note"], "warning"),
-        help: "Exit with status 3 if there is a warning at this level (default: warning) or a more serious one; \
-            LEVEL needs the =",
+        help: "Exit with status 3 if there is a warning at this level (default: warning) or a more serious \
+            one; LEVEL needs the =",
         excludes: &[],
     },
     Parameter {
@@ -200,8 +201,8 @@ const PARAMETERS: &[Parameter] = &[
         short: None,
         long: Some("expect"),
         value: Value::Text("FILE"),
-        help: "Check instead the lines \"allow AGENT URL\", \"deny AGENT URL\", \"allow-all AGENT PATTERN\" and \
-            \"deny-all AGENT PATTERN\" of this file (-: standard input)",
+        help: "Check instead the lines \"allow AGENT URL\", \"deny AGENT URL\", \"allow-all AGENT PATTERN\" \
+            and \"deny-all AGENT PATTERN\" of this file (-: standard input)",
         excludes: &[OF_QUERIES, OF_AUDITS],
     },
     Parameter {

@@ -15,8 +15,11 @@ fn write_group(out: &mut Lines<'_>, agent: &AgentAudit<'_>) {
         Group::Named => write!(out, ": group {name}"),
         Group::Star => write!(out, ": group *"),
         Group::Nobody => write!(out, ": no group"),
-        Group::Everyone if agent.rules == 0 => write!(out, ": no rules (no User-agent line)"),
-        Group::Everyone => write!(out, ": all rules (no User-agent line)"),
+        Group::Everyone if agent.rules == 0 => write!(
+            out,
+            ": no rules (no User-agent line is read)"
+        ),
+        Group::Everyone => write!(out, ": all rules (no User-agent line is read)"),
     }
     if let Some(line) = agent.group_line {
         write!(out, " (line {line})");
@@ -67,7 +70,7 @@ fn write_crawler(out: &mut Lines<'_>, audit: &Audit<'_>, agent: &AgentAudit<'_>)
         let delay = Delay(micros);
         write!(out, ", delay {delay}");
         if ignores_delay(agent) {
-            write!(out, ", which it ignores");
+            write!(out, ", which it probably ignores");
         }
     }
     if agent.reach != Reach::Part {

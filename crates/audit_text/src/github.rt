@@ -1,5 +1,5 @@
 //! Findings as annotations of a workflow on GitHub: one workflow command per line.
-ghost use Rattle.std.specs.Prelude.{◌≡◌, ◌++◌, ◌∷◌, [], IfOk, OnOk, map, string_bytes};
+ghost use Rattle.std.specs.Prelude.{◌≡◌, ◌++◌, ◌∷◌, [], IfOk, OnOk, string_bytes};
 ghost use Rattle.printable_text.specs.Lines.{ended};
 ghost use Rattle.audit_text.specs.Github.{command, command_label, command_of, escaped, escaped_byte};
 ghost use Rattle.audit_text.specs.Github.{github_text, line_property, property_text};

@@ -6,7 +6,7 @@ pub(crate) type Named = (&'static str, &'static str);
 #[rattlefmt::skip]
 static THEOREMS: [(&str, &str); 17] = [
     ("closes-everything",
-        "each path is denied to the crawler, unless it begins with /robots.txt or with the path of a sitemap, or an Allow matches it that is /$, ends, but for *, $ and ?, as a static file does (.css, .js, .txt, .xml, .json, a picture or a font), or begins with /.well-known or /sitemap (theorem closes_everything)"),
+        "each path is denied to the crawler, if the file isn't rejected for it, unless it begins with /robots.txt or with the path of a sitemap, or an Allow matches it that is /$, ends, but for *, $ and ?, as a static file does (.css, .js, .txt, .xml, .json, a picture or a font), or begins with /.well-known or /sitemap (theorem closes_everything)"),
     ("url-not-normal",
         "without this note the path and the query that are compared are the normal form of what is written, so the sentence about verdicts applies (theorem url_not_normal)"),
     ("hash-cuts-rule", "as an error: what is left of the rule matches every path (theorem hash_cuts_rule)"),
@@ -23,7 +23,7 @@ static THEOREMS: [(&str, &str); 17] = [
     ("allowed-and-disallowed",
         "the Disallow decides no verdict for that crawler, or, if one of the paths is *, none on a path (theorem allowed_and_disallowed_never_decides)"),
     ("empty-disallow",
-        "for a crawler without such a line, every verdict is the same where an empty Disallow is no rule (theorem without_empty_disallows)"),
+        "for a crawler of the report without such a line, every verdict is the same where an empty Disallow is no rule (theorem without_empty_disallows)"),
     ("two-delays",
         "in a file of at most 512,000 bytes, if some or all of these lines are deleted, with their line ends, the delay of every crawler is the same, unless the first line then begins with a byte of a byte order mark (theorem two_delays)"),
     ("replaces-star",

@@ -103,7 +103,7 @@ fn write_warning(
     warning: &Warning<'_>,
 ) {
     write_front(out, file, warning.line, warning.cause.level());
-    let (message, also) = (Message(warning, together), AlsoIn(lines));
+    let (message, also) = (Message(warning, together), AlsoIn(lines, warning));
     let name = warning.cause.name();
     out.line(format_args!("{message}{also} [{name}]"));
 }
@@ -113,7 +113,8 @@ fn write_more(out: &mut Lines<'_>, file: &str, more: &More) {
     out.line(format_args!("{file}: {level}: and {number} more [{name}]"));
 }
 
-/// How many warnings of each level there are, and in how many messages; and for which crawler alone rules are checked.
+/// How many warnings of each level there are, and in how many messages; and for which crawler alone rules are
+/// checked.
 fn write_counts(
     out: &mut Lines<'_>,
     request: &Request<'_>,
@@ -127,16 +128,14 @@ fn write_counts(
         write!(out, " in {messages} message{end}");
     }
     if let Some(agent) = request.agent {
-        write!(
-            out,
-            " (rules for crawlers other than {agent} aren't checked)"
-        );
+        let others = request.for_others();
+        write!(out, " (rules for crawlers other than {agent} {others})");
     }
     out.end_line();
 }
 
-/// Writes the warnings that are listed, how many more there are, and how many there are of each level; and for which
-/// crawler alone rules are checked.
+/// Writes the warnings that are listed, how many more there are, and how many there are of each level; and
+/// for which crawler alone rules are checked.
 pub fn write_warnings(
     alloc: Global,
     out: &mut Report,

@@ -2,26 +2,25 @@
 use Rattle.std.specs.Prelude.{nat_eq, nat_lt}
 use Rattle.std.proofs.Common.{◌≡◌, ◌∙◌, ℕ, Bool, true, false, List, [], ◌∷◌, ◌++◌, append-nil, append_assoc}
 use Rattle.std.proofs.Common.{ap}
-use Rattle.std.proofs.Common.{ap₂, arith, drop, flat_map, inl, inr, refl, subst, sym, take}
+use Rattle.std.proofs.Common.{ap₂, arith, drop, inl, inr, refl, subst, sym, take}
 use Rattle.std.specs.{Char.encode_utf8, Char.is_whitespace, List.AllByRecursion as Each, List.list_all}
-use Rattle.std.specs.Str.{IsCharBoundary, IsUtf8, chars, encode_utf8_all}
-use Rattle.std.proofs.lemmas.Bool.{and_parts, cases_Bool, Decides.nat_tests}
+use Rattle.std.specs.Str.{IsCharBoundary, IsUtf8, chars}
+use Rattle.std.proofs.lemmas.Bool.{and_parts, Decides.nat_tests}
 use Rattle.std.proofs.lemmas.List.{Concat.flat_map-append, Folds.list_all-append, take-append-drop}
-use Rattle.std.proofs.lemmas.Str.{IsUtf8-drop, IsUtf8-take, chars-append, chars-encodes}
+use Rattle.std.proofs.lemmas.Str.{IsUtf8-drop, IsUtf8-take, chars-append}
 use Rattle.bstr.specs.{Trim.kept_start, Utf8.decoded, Utf8.good, Utf8.spans_from}
 use Rattle.bstr.proofs.lemmas.{EncodeLemmas.decoded-encode, PieceLemmas.pieces-step}
 use Rattle.texting_robots.proofs.Shared.{each_append}
 use Rattle.printable_text.specs.{Lines.ended, declared.level.Level.Level}
 use Rattle.printable_text.specs.declared.level.Level.TheVariants.{Error, Note, Warning}
 use Rattle.printable_text.specs.Sanitize.{IsPrintable, IsPrintableIn, has_command, is_printable}
-use Rattle.printable_text.specs.Sanitize.{is_printable_byte, safe_in, sanitized, without_commands}
-use Rattle.printable_text.specs.Sanitize.{without_hash}
+use Rattle.printable_text.specs.Sanitize.{is_printable_byte, safe_in, without_commands}
 use Rattle.printable_text.specs.Text.{IsColored, IsColoredTo, IsPlainLine, IsReport, IsShownReport}
 use Rattle.printable_text.specs.Text.{begins_plainly, level_word, shown_word}
-use Rattle.printable_text.proofs.SanitizeLemmas.{append_printable, ascii_printable, brace_kept, ended-append}
+use Rattle.printable_text.proofs.SanitizeLemmas.{append_printable, ascii_printable, ended-append}
 use Rattle.printable_text.proofs.SanitizeLemmas.{ended_printable, line_printable, nil_printable}
-use Rattle.printable_text.proofs.SanitizeLemmas.{safe_in_printable, sanitized_in_printable, without_printable}
-use Rattle.printable_text.proofs.CommandLemmas.{sanitized_quiet, without_quiet}
+use Rattle.printable_text.proofs.SanitizeLemmas.{safe_in_printable, without_printable}
+use Rattle.printable_text.proofs.CommandLemmas.{without_quiet}
 
 pub safe_added : (old new bytes : List ℕ) → IsPrintableIn false old → new ≡ old ++ safe_in false bytes
     → IsPrintableIn false new
@@ -92,29 +91,6 @@ pub escaped_quiet : (old line new : List ℕ) → old ≡ [] → new ≡ old ++ 
     → has_command new ≡ false
 escaped_quiet old line new none added =
     subst (λ (t : List ℕ). has_command t ≡ false) (sym (rw none at added)) (without_quiet line)
-
--- ---- A JSON object begins with `{`, also sanitized.
-
-brace_first : (text : List ℕ) → IsUtf8 text → (rest : List ℕ) × (without_commands (123 ∷ text) ≡ 123 ∷ rest)
-unfolding without_commands encode_utf8
-brace_first text is =
-    let read : chars (123 ∷ text) ≡ 123 ∷ chars text =
-    chars-append (123 ∷ []) text (ascii_printable false (123 ∷ []) refl).utf8
-    ∙ ap (λ cs. cs ++ chars text) (chars-encodes (123 ∷ []) refl) in
-    elim (cases_Bool (has_command text)) [
-      | inl has ↦ (encode_utf8_all (flat_map without_hash (chars text)), rw (has, read) refl)
-      | inr lacks ↦ (text, rw lacks refl)
-    ]
-
-pub brace_plain : (text : List ℕ) → IsPlainLine (sanitized (123 ∷ text))
-brace_plain text =
-    let (rest, is) = brace_first (safe_in false text) (safe_in_printable false text).utf8 in
-    let whole : sanitized (123 ∷ text) ≡ 123 ∷ rest = ap without_commands (brace_kept false text) ∙ is in
-    record {
-      printable = sanitized_in_printable false (123 ∷ text);
-      begins = rw whole (begins_with 123 rest refl refl refl);
-      inside = sanitized_quiet false (123 ∷ text);
-    }
 
 pub report_printable : (text : List ℕ) → IsReport text → IsPrintable text
 report_printable text is =

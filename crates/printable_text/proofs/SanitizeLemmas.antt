@@ -106,14 +106,6 @@ module _ (has_lines : Bool) where
       ++ safe_in has_lines (drop (decoded bytes).size bytes)
   safe_step bytes some = ap (λ ps. safe_chunks has_lines ps bytes) (pieces-step bytes some)
 
-  pub brace_kept : (text : List ℕ) → safe_in has_lines (123 ∷ text) ≡ 123 ∷ safe_in has_lines text
-  unfolding encode_utf8
-  brace_kept text =
-      let read : decoded (123 ∷ text) ≡ good 123 1 = decoded-encode 123 text refl in
-      let with_chunk = λ (chunk : Decoded). safe_chunk has_lines chunk.char (take chunk.size (123 ∷ text))
-      ++ safe_in has_lines (drop chunk.size (123 ∷ text)) in
-      safe_step (123 ∷ text) (omega arith) ∙ ap with_chunk read
-
   -- loop step: one more UTF-8 unit was appended, and the sanitized rest follows
   pub chunk_added : (rest old mid new : List ℕ) → 0 < length rest
       → new ≡ mid ++ safe_chunk has_lines (decoded rest).char (take (decoded rest).size rest)

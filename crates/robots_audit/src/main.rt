@@ -1,14 +1,16 @@
-//! Explains how crawlers interpret a robots.txt file, which is a named one or standard input. The report has a row
-//! for each line of the first 512,000 bytes; then the group and the delay that apply to the crawler; then for each
-//! URL whether the crawler may fetch it, and which line decides. Warnings go to standard error. All of this can be
-//! written as JSON or as an HTML page instead, and what was found as annotations or as a SARIF log.
+//! Explains how crawlers interpret a robots.txt file, which is a named one or standard input. The report has
+//! a row for each line of the first 512,000 bytes; then the group and the delay that apply to the crawler;
+//! then for each URL whether the crawler may fetch it, and which line decides. Warnings go to standard error.
+//! All of this can be written as JSON or as an HTML page instead, and what was found as annotations or as a
+//! SARIF log.
 //!
 //! `robots_audit [OPTIONS] FILE [URL]..`
 //!
-//! With `--compare` it writes instead what differs from an older version of the file, and with `--expect` which
-//! lines of a file of expectations fail: as text, JSON or annotations.
+//! With `--compare` it writes instead what differs from an older version of the file, and with `--expect`
+//! which lines of a file of expectations fail: as text, JSON or annotations.
 //!
-//! With `--list-warnings` or `--explain` it writes what warnings there are, or what one means, and reads nothing.
+//! With `--list-warnings` or `--explain` it writes what warnings there are, or what one means, and reads
+//! nothing.
 #![tactic(auto)]
 
 ghost use Rattle.std.specs.Prelude.{◌≡◌, IfOk, string_bytes};
@@ -220,8 +222,8 @@ fn error_message(alloc: Global, error: &Error) -> Result<String, fmt::Error>
     Ok(out.into_string())
 }
 
-/// Prints the warnings of a run, or the message for its error or for a failed allocation, and returns the exit
-/// status.
+/// Prints the warnings of a run, or the message for its error or for a failed allocation, and returns the
+/// exit status.
 fn ended(rt: &HostRuntime, outcome: Result<Outcome, Error>) -> ExitCode
     ensures { exit_status result ≡ status_after outcome }
 {

@@ -1,25 +1,39 @@
 -- Closed sites, product tokens, and the tables of warnings.
 use Rattle.std.specs.Prelude.{slice_get}
 use Rattle.std.proofs.Common.{[], ◌≡◌, ℕ, ◌+◌, ◌==◌, Bool, false, true, List, ◌∷◌, ap, arith, inl, inr, refl}
-use Rattle.std.proofs.Common.{subst, suc, sym, ◌∙◌, ◌&&◌, ◌||◌, nat_le, nat_lt, not, ◌++◌, ◌<◌, Bor, Option}
-use Rattle.std.proofs.Common.{append_assoc, cond, drop, filter, if◌then◌else◌, length, map, slice_index_or}
-use Rattle.std.proofs.Common.{bytes_eq, take, zero, Some, get_or}
-use Rattle.std.proofs.lemmas.List.{drop_more, Elements.filter_map-append, Folds.list_any-append, map-append}
-use Rattle.std.proofs.lemmas.List.{take_more, FromFn.get_or-range_with_len}
-use Rattle.std.proofs.lemmas.Bool.{and_parts, cases_Bool, eqb-true, false≢true, ne_eqb, or_cases}
+use Rattle.std.proofs.Common.{suc, sym, ◌∙◌, ◌&&◌, ◌||◌, nat_le, nat_lt, not, ◌++◌, ◌<◌, Bor, Option}
+use Rattle.std.proofs.Common.{String, cond, length, map, slice_index_or, string_bytes}
+use Rattle.std.proofs.Common.{bytes_eq, zero, Some, None, get_or, Contains, All, is_some}
+use Rattle.std.specs.Prelude.{Any, MatchOption, ⊤}
+use Rattle.std.specs.{BTreeMap.IsOrdered, BTreeMap.get, Ordering.nat_cmp, Cmp.nat_cmp_total}
+use Rattle.std.proofs.lemmas.List.Elements.{All-map, All-nil}
+use Rattle.std.proofs.lemmas.List.Elements.{Contains-append_right, Contains-get_or}
+use Rattle.std.proofs.lemmas.Map.{Lookups.exact_unsigned, Views.All-found, Views.btree_map_get_iff}
+use Rattle.std.proofs.lemmas.List.{Elements.filter_map-append, Folds.list_any-append}
+use Rattle.std.proofs.lemmas.List.{FromFn.get_or-range_with_len}
+use Rattle.std.proofs.lemmas.Bool.{and_parts, cases_Bool, false≢true, ne_eqb}
 use Rattle.std.proofs.lemmas.{Bool.Decides.nat_tests, Map.Text.is_eq-slice_cmp, Simd.map-map}
-use Rattle.std.specs.{List.filter_map, List.list_all, List.list_any, Str.byte, BTreeSet.BTreeSet}
+use Rattle.std.proofs.lemmas.{Map.Text.hash_set_updates_text}
+use Rattle.std.specs.{Global.Global, HashSet.contains_text, String.string_eq}
+use Rattle.std.specs.HashSet as hash
+use Rattle.std.specs.{List.filter_map, List.list_any, Str.byte, BTreeSet.BTreeSet}
 use Rattle.std.specs.{BTreeSet.Updates, BTreeSet.contains, Str.str_to_ascii_lowercase, List.range_with_len}
-use Rattle.texting_robots.specs.Callers.{AreSitemapsOf, HasLines, PlacedRule, escaped, file_lines}
+use Rattle.texting_robots.specs.Callers as callers
+use Rattle.texting_robots.specs.Callers.{AreSitemapsOf, Label, LineValue, PlacedRule, escaped, file_lines}
 use Rattle.texting_robots.specs.Callers.{sitemaps_in}
 use Rattle.texting_robots.specs.{Escape.is_escaped, Line.AreFileLinesOf, Line.nul_as_lf}
 use Rattle.texting_robots.proofs.Shared.{each_text_has_its_lines, of_lines, sitemaps_are_computed}
 use Rattle.robots_warnings.specs.{Closed.closes}
-use Rattle.robots_warnings.specs.Closed.{is_anything, is_closing, is_rival, is_star_or_dollar, is_literally}
-use Rattle.robots_warnings.specs.Closed.{is_number, is_root, is_whole_site, opened_path, without_stars}
-use Rattle.robots_warnings.specs.Closed.{is_for, is_home, is_home_root}
-use Rattle.robots_warnings.specs.declared.closed.Part.{Part, TheVariants.Home, TheVariants.Site}
-use Rattle.robots_warnings.specs.Internal.{Rules.IsNeeded, Names.AddsName, Names.Key, Names.key_cmp, IsAt}
+use Rattle.robots_warnings.specs.Closed.{are_signs, is_closing, is_rival, is_star_or_dollar, is_literally}
+use Rattle.robots_warnings.specs.Closed.{is_whole_site, line_closing_site, opened_path}
+use Rattle.robots_warnings.specs.{File.lines_of, Means.Closes, Means.Means, Message.WarningValue}
+use Rattle.robots_warnings.specs.Warnings.{HasClosed, IsClosing, is_closing_cause}
+use Rattle.robots_warnings.specs.declared.closed.ClosedLine.{ClosedLine}
+use Rattle.robots_warnings.specs.declared.table.Cause.TheVariants.{ClosesEverything, ClosesHome}
+use Rattle.robots_warnings.specs.declared.table.Cause.TheVariants.{ClosesHomeToOthers, ClosesSite}
+use Rattle.robots_warnings.specs.Internal.{Closed.AreNamed, Closed.HasLine, Closed.Lines, Closed.warning_at}
+use Rattle.robots_warnings.specs.Internal.{Closed.IsNeeded, Names.AddsName, Names.Key, Names.key_cmp, IsAt}
+use Rattle.robots_warnings.specs.Internal.{Rules.Patterns, Tells.Tells}
 use Rattle.std.proofs.Math.{Bool.or-false}
 use Rattle.robots_warnings.specs.contracts.table.{Cause.the_type}
 use Rattle.robots_warnings.specs.declared.table.{Cause.Cause, TheConstants.WARNINGS}
@@ -33,129 +47,38 @@ use native.Mathlib.Nat.{zero-add}
 pub differs : (b c : ℕ) → is_escaped c ≡ false → is_escaped b ≡ true → (b == c) ≡ false
 differs b c plain bad = ne_eqb b c (λ same. false≢true (sym plain ∙ ap is_escaped (sym same) ∙ bad))
 
-stars_escaped : (value : List ℕ)
-    → list_all is_star_or_dollar (escaped value) ≡ list_all is_star_or_dollar value
-stars_escaped [] = refl
-stars_escaped (b ∷ value) = elim (cases_Bool (is_escaped b)) [
-  | inl bad ↦ rw (bad, differs b (byte "*") refl bad, differs b (byte "$") refl bad) refl
-  | inr good ↦ rw good (ap (λ rest. is_star_or_dollar b && rest) (stars_escaped value))
+isnt_sign : (b : ℕ) → is_escaped b ≡ true → (is_star_or_dollar b || b == byte "/") ≡ false
+isnt_sign b bad =
+    rw (differs b (byte "*") refl bad, differs b (byte "$") refl bad, differs b (byte "/") refl bad) refl
+
+signs_escaped : (text : List ℕ) → are_signs (escaped text) ≡ are_signs text
+signs_escaped [] = refl
+signs_escaped (b ∷ text) = elim (cases_Bool (is_escaped b)) [
+  | inl bad ↦ rw (bad, isnt_sign b bad) refl
+  | inr good ↦ rw good (ap (λ rest. (is_star_or_dollar b || b == byte "/") && rest) (signs_escaped text))
 ]
 
-anything_escaped : (value : List ℕ) → is_anything (escaped value) ≡ is_anything value
-anything_escaped [] = refl
-anything_escaped (b ∷ value) = elim (cases_Bool (is_escaped b)) [
-  | inl bad ↦ rw (bad, differs b (byte "*") refl bad) refl
-  | inr good ↦ rw good (ap (λ rest. b == byte "*" && rest) (stars_escaped value))
-]
-
-some_bytes : (n : ℕ) → (suc n == 0) ≡ false
-some_bytes n = grind (arith, nat_tests)
-
-pub none_escaped : (value : List ℕ) → (length (escaped value) == 0) ≡ (length value == 0)
-none_escaped [] = refl
-none_escaped (b ∷ value) = elim (cases_Bool (is_escaped b)) [
-  | inl bad ↦ rw bad (some_bytes _ ∙ sym (some_bytes (length value)))
-  | inr good ↦ rw good (some_bytes _ ∙ sym (some_bytes (length value)))
-]
-
-root_escaped : (value : List ℕ) → is_root (escaped value) ≡ is_root value
-root_escaped [] = refl
-root_escaped (b ∷ value) = elim (cases_Bool (is_escaped b)) [
-  | inl bad ↦ rw (bad, differs b (byte "/") refl bad) refl
-  | inr good ↦ rw (good, none_escaped value, anything_escaped value) refl
-]
-
-stars_left_out : (value : List ℕ) → without_stars (escaped value) ≡ escaped (without_stars value)
-stars_left_out [] = refl
-stars_left_out (b ∷ value) = elim (cases_Bool (is_escaped b)) [
-  | inl bad ↦ rw (differs b (byte "*") refl bad, bad) refl
-  | inr good ↦ elim (cases_Bool (b == byte "*")) [
-    | inl star ↦ rw (good, star) (stars_left_out value)
-    | inr other ↦ rw (good, other) (rw good refl)
-  ]
-]
-
-pub whole_site_escaped : (value : List ℕ) → is_whole_site (escaped value) ≡ is_whole_site value
-whole_site_escaped value =
-    rw (anything_escaped value, stars_left_out value, root_escaped (without_stars value)) refl
-
-stars_stay : (pattern : List ℕ) → list_all is_star_or_dollar pattern ≡ true → escaped pattern ≡ pattern
-stars_stay [] stars = refl
-stars_stay (b ∷ pattern) stars =
-    let (first, later) = and_parts (is_star_or_dollar b) _ stars in
+signs_stay : (text : List ℕ) → are_signs text ≡ true → escaped text ≡ text
+signs_stay [] signs = refl
+signs_stay (b ∷ text) signs =
+    let (first, later) = and_parts (is_star_or_dollar b || b == byte "/") _ signs in
     elim (cases_Bool (is_escaped b)) [
-      | inl bad ↦
-          let isnt : is_star_or_dollar b ≡ false =
-          rw (differs b (byte "*") refl bad, differs b (byte "$") refl bad) refl in
-          absurd (false≢true (sym isnt ∙ first))
-      | inr good ↦ rw (good, stars_stay pattern later) refl
+      | inl bad ↦ absurd (false≢true (sym (isnt_sign b bad) ∙ first))
+      | inr good ↦ rw (good, signs_stay text later) refl
     ]
 
-anything_stays : (pattern : List ℕ) → is_anything pattern ≡ true → escaped pattern ≡ pattern
-anything_stays [] is = refl
-anything_stays (b ∷ pattern) is =
-    let (first, stars) = and_parts (b == byte "*") _ is in
-    stars_stay (b ∷ pattern) (rw first stars)
-
-rest_stays : (pattern : List ℕ) → (length pattern == 0 || is_anything pattern) ≡ true
-    → escaped pattern ≡ pattern
-rest_stays [] rest = refl
-rest_stays (b ∷ pattern) rest = anything_stays (b ∷ pattern) (rw (some_bytes (length pattern)) at rest)
-
-root_stays : (pattern : List ℕ) → is_root pattern ≡ true → escaped pattern ≡ pattern
-root_stays [] root = refl
-root_stays (b ∷ pattern) root =
-    let (is, rest) = and_parts (b == byte "/") _ root in
-    subst (λ b. escaped (b ∷ pattern) ≡ b ∷ pattern) (sym (eqb-true b (byte "/") is))
-    (ap (λ rest. byte "/" ∷ rest) (rest_stays pattern rest))
-
-home_root_stays : (pattern : List ℕ) → is_home_root pattern ≡ true → escaped pattern ≡ pattern
-home_root_stays [] root = refl
-home_root_stays (b ∷ pattern) root =
-    let (is, stars) = and_parts (b == byte "/") _ root in
-    subst (λ b. escaped (b ∷ pattern) ≡ b ∷ pattern) (sym (eqb-true b (byte "/") is))
-    (ap (λ rest. byte "/" ∷ rest) (stars_stay pattern stars))
-
-stars_stay_before : (pattern : List ℕ) → escaped (without_stars pattern) ≡ without_stars pattern
-    → escaped pattern ≡ pattern
-stars_stay_before [] rest = refl
-stars_stay_before (b ∷ pattern) rest = elim (cases_Bool (b == byte "*")) [
-  | inl star ↦
-      subst (λ b. escaped (b ∷ pattern) ≡ b ∷ pattern) (sym (eqb-true b (byte "*") star))
-      (ap (λ rest. byte "*" ∷ rest) (stars_stay_before pattern (rw star at rest)))
-  | inr other ↦ rw other at rest
-]
-
 pub whole_site_stays : (pattern : List ℕ) → is_whole_site pattern ≡ true → escaped pattern ≡ pattern
-whole_site_stays pattern whole = elim (or_cases (is_anything pattern) _ whole) [
-  | inl any ↦ anything_stays pattern any
-  | inr root ↦ stars_stay_before pattern (root_stays (without_stars pattern) root)
+whole_site_stays pattern whole = signs_stay pattern (and_parts (are_signs pattern) _ whole).0
+
+pub whole_site_escaped : (value : List ℕ) → is_whole_site (escaped value) ≡ is_whole_site value
+whole_site_escaped value = elim (cases_Bool (are_signs value)) [
+  | inl signs ↦ ap is_whole_site (signs_stay value signs)
+  | inr other ↦ rw (signs_escaped value, other) refl
 ]
-
-home_stays : (pattern : List ℕ) → is_home pattern ≡ true → escaped pattern ≡ pattern
-home_stays pattern home = elim (or_cases (is_anything pattern) _ home) [
-  | inl any ↦ anything_stays pattern any
-  | inr root ↦ stars_stay_before pattern (home_root_stays (without_stars pattern) root)
-]
-
-home_root_escaped : (value : List ℕ) → is_home_root (escaped value) ≡ is_home_root value
-home_root_escaped [] = refl
-home_root_escaped (b ∷ value) = elim (cases_Bool (is_escaped b)) [
-  | inl bad ↦ rw (bad, differs b (byte "/") refl bad) refl
-  | inr good ↦ rw (good, stars_escaped value) refl
-]
-
-pub part_escaped : (part : Part) (value : List ℕ) → is_for part (escaped value) ≡ is_for part value
-part_escaped Site value = whole_site_escaped value
-part_escaped Home value =
-    rw (anything_escaped value, stars_left_out value, home_root_escaped (without_stars value)) refl
-
-part_stays : (part : Part) (pattern : List ℕ) → is_for part pattern ≡ true → escaped pattern ≡ pattern
-part_stays Site pattern is = whole_site_stays pattern is
-part_stays Home pattern is = home_stays pattern is
 
 -- the sitemaps of a site are those in its lines
-pub sitemaps_read : (text : List ℕ) (urls : List (List ℕ)) → HasLines text (λ lines. AreSitemapsOf lines urls)
+pub sitemaps_read : (text : List ℕ) (urls : List (List ℕ))
+    → callers.HasLines text (λ lines. AreSitemapsOf lines urls)
     → urls ≡ sitemaps_in (file_lines text)
 sitemaps_read text urls has =
     let read : AreFileLinesOf (file_lines text) text =
@@ -163,65 +86,115 @@ sitemaps_read text urls has =
     (sitemaps_are_computed (file_lines text) urls).0
     (of_lines text (λ lines. AreSitemapsOf lines urls) has (file_lines text) read)
 
-abbrev opens : List ℕ → List (Bor (List ℕ)) → Bool
-opens pattern urls = list_any (is_literally pattern) (filter_map opened_path (map (λ url. url.now) urls))
+pub any_opened : (pattern : List ℕ) (urls : List (Bor (List ℕ)))
+    → list_any (λ url. list_any (is_literally pattern) (filter_map opened_path (url.now ∷ []))) urls
+    ≡ list_any (is_literally pattern) (filter_map opened_path (map (λ url. url.now) urls))
+any_opened pattern [] = refl
+any_opened pattern (url ∷ urls) =
+    let first = filter_map opened_path (url.now ∷ []) in
+    let rest = filter_map opened_path (map (λ url. url.now) urls) in
+    ap (λ is. list_any (is_literally pattern) first || is) (any_opened pattern urls)
+    ∙ sym (list_any-append (is_literally pattern) first rest)
+    ∙ sym (ap (list_any (is_literally pattern))
+    (filter_map-append opened_path (url.now ∷ []) (map (λ url. url.now) urls)))
 
-pub opened_next : (pattern : List ℕ) (urls : List (Bor (List ℕ))) (at : ℕ) (item : Bor (List ℕ)) (old : Bool)
-    {new all : Bool} → at < length urls
-    → new ≡ (old || opens pattern (slice_index_or urls at item ∷ []))
-    → (old || opens pattern (drop at urls)) ≡ all → (new || opens pattern (drop (at + 1) urls)) ≡ all
-opened_next pattern urls at item old {new} {all} below is was =
-    let one = slice_index_or urls at item ∷ [] in
-    let rest = drop (at + 1) urls in
-    let parts : opens pattern (drop at urls) ≡ (opens pattern one || opens pattern rest) =
-    ap (opens pattern) (drop_more urls at item below)
-    ∙ ap (list_any (is_literally pattern))
-    (filter_map-append opened_path (map (λ url. url.now) one) (map (λ url. url.now) rest))
-    ∙ list_any-append (is_literally pattern) (filter_map opened_path (map (λ url. url.now) one))
-    (filter_map opened_path (map (λ url. url.now) rest)) in
-    ap (λ new. new || opens pattern rest) is ∙ grouped old (opens pattern one) (opens pattern rest)
-    ∙ ap (λ more. old || more) (sym parts) ∙ was
-  where
-    grouped : (a b c : Bool) → ((a || b) || c) ≡ (a || (b || c))
-    grouped true b c = refl
-    grouped false b c = refl
-
-pub closed_next : (number : ℕ) (f : List ℕ → Option ℕ) (agents : List (Bor (List ℕ))) (at : ℕ)
-    (item : Bor (List ℕ)) (old : List (List ℕ)) {line : Option ℕ} {new all : List (List ℕ)}
-    → at < length agents → line ≡ f (slice_index_or agents at item).now
-    → new ≡ old ++ (if is_number number line then (slice_index_or agents at item).now ∷ [] else [])
-    → old ++ filter (λ agent. is_number number (f agent)) (map (λ agent. agent.now) (drop at agents)) ≡ all
-    → new ++ filter (λ agent. is_number number (f agent)) (map (λ agent. agent.now) (drop (at + 1) agents))
-    ≡ all
-closed_next number f agents at item old {line} {new} {all} below of is was =
-    let test : List ℕ → Bool = λ agent. is_number number (f agent) in
-    let agent = (slice_index_or agents at item).now in
-    let rest = filter test (map (λ agent. agent.now) (drop (at + 1) agents)) in
-    let names = slice_index_or agents at item ∷ drop (at + 1) agents in
-    let before : old ++ filter test (map (λ agent. agent.now) names) ≡ all
-    = rw (drop_more agents at item below) at was in
-    let one : Option ℕ → List (List ℕ) = λ line. if is_number number line then agent ∷ [] else [] in
-    ap (λ found. found ++ rest) (is ∙ ap (λ line. old ++ one line) of) ∙ append_assoc old (one (f agent)) rest
-    ∙ ap (λ more. old ++ more) (taken (test agent) agent rest) ∙ before
-  where
-    taken : (is : Bool) (agent : List ℕ) (rest : List (List ℕ))
-        → (if is then agent ∷ [] else []) ++ rest ≡ cond is (agent ∷ rest) rest
-    taken true agent rest = refl
-    taken false agent rest = refl
-
-pub closes_if : (part : Part) (is_exempt : List ℕ → Bool) (rules : List PlacedRule) (needed : ℕ)
-    (placed : PlacedRule) (value : List ℕ) → is_closing part placed ≡ true → placed.rule.0 ≡ escaped value
-    → IsNeeded is_exempt rules needed → nat_le needed (length value) ≡ closes part is_exempt rules placed
-closes_if part is_exempt rules needed placed value closing same is =
+pub closes_if : (is_exempt : List ℕ → Bool) (rules : List PlacedRule) (needed : ℕ)
+    (placed : PlacedRule) (value : List ℕ) → is_closing placed ≡ true → placed.rule.0 ≡ escaped value
+    → IsNeeded is_exempt rules needed → nat_le needed (length value) ≡ closes is_exempt rules placed
+closes_if is_exempt rules needed placed value closing same is =
     let (denies, whole) = and_parts _ _ closing in
-    let stays = part_stays part value
-    (sym (part_escaped part value) ∙ ap (is_for part) (sym same) ∙ whole) in
+    let stays = whole_site_stays value
+    (sym (whole_site_escaped value) ∙ ap is_whole_site (sym same) ∙ whole) in
     at_least needed (length value) _
     (sym (is placed.rule.0) ∙ ap (λ pattern. nat_lt (length pattern) needed) (same ∙ stays))
     ∙ ap (λ closing. closing && not (list_any (is_rival is_exempt placed.rule.0) rules)) (sym closing)
   where
     at_least : (m n : ℕ) (rival : Bool) → rival ≡ nat_lt n m → nat_le m n ≡ not rival
     at_least m n rival is = rw is (grind (arith, nat_tests))
+
+contains_map : {X Y : Type 0} (f : X → Y) (xs : List X) (x : X) → Contains xs x → Contains (map f xs) (f x)
+contains_map f [] x (k, below, at) = absurd (omega arith)
+contains_map f (y ∷ xs) x (zero, below, at) = (0, omega arith, ap f at)
+contains_map f (y ∷ xs) x (suc k, below, at) =
+    let (later, there, is) = contains_map f xs x (k, omega arith, at) in
+    (suc later, omega arith, is)
+
+pub agent_within : (agents : List (Bor (List ℕ))) (at : ℕ) (other : Bor (List ℕ)) → at < length agents
+    → Contains (map (λ agent. agent.now) agents) (slice_index_or agents at other).now
+agent_within agents at other below =
+    contains_map (λ (agent : Bor (List ℕ)). agent.now) agents _ (Contains-get_or agents at other below)
+
+abbrev of_site : ℕ × ClosedLine → WarningValue
+of_site entry = warning_at ClosesSite ClosesEverything entry
+
+abbrev of_home : ℕ × ClosedLine → WarningValue
+of_home entry = warning_at ClosesHome ClosesHomeToOthers entry
+
+module _ (all_groups : Bool) (agents : List (List ℕ)) (file : List ℕ) (labels : List Label) where
+  abbrev So : WarningValue → Type 0
+  So = Means all_groups agents file labels
+
+  site_means : (entry : ℕ × ClosedLine) → Closes agents labels entry.0 (Some entry.1.agent.now)
+      → So (of_site entry)
+  site_means entry closes = elim (cases_Bool entry.1.is_major) [
+    | inl major ↦ rw major (λ isnt. inr closes)
+    | inr minor ↦ rw minor (λ isnt. inr closes)
+  ]
+
+  home_means : (entry : ℕ × ClosedLine) → So (of_home entry)
+  home_means entry = elim (cases_Bool entry.1.is_major) [
+    | inl major ↦ rw major (λ isnt. absurd (false≢true (sym isnt)))
+    | inr minor ↦ rw minor (λ isnt. absurd (false≢true (sym isnt)))
+  ]
+
+  tells_all : {X : Type 0} (f : X → WarningValue) (xs : List X) {old new : List WarningValue}
+      → All (λ x. So (f x)) xs → new ≡ old ++ map f xs → Tells So [] old new
+  tells_all f xs all is =
+      record { added = map f xs; is = is; all = All-map So f xs all; given = All-nil (Contains (map f xs)) }
+
+  pub sites_tell : (sites : Lines) {old new : List WarningValue} → IsOrdered nat_cmp sites
+      → AreNamed (line_closing_site (lines_of labels)) agents sites → new ≡ old ++ map of_site sites.entries
+      → Tells So [] old new
+  sites_tell sites ordered named = tells_all of_site sites.entries (λ k entry below.
+      let one = get_or sites.entries k entry in
+      site_means one (rw (All-found nat_cmp_total sites ordered k entry below) at (named one.0)))
+
+  pub homes_tell : (homes : Lines) {old new : List WarningValue} → new ≡ old ++ map of_home homes.entries
+      → Tells So [] old new
+  homes_tell homes = tells_all of_home homes.entries
+      (λ k entry below. home_means (get_or homes.entries k entry))
+
+module _ (old new : List WarningValue) (sites : Lines) (ordered : IsOrdered nat_cmp sites)
+    (is : new ≡ old ++ map of_site sites.entries) where
+  closing : (entry : ℕ × ClosedLine) → is_closing_cause (of_site entry).cause ≡ true
+  closing entry = elim (cases_Bool entry.1.is_major) [
+    | inl major ↦ rw major refl
+    | inr minor ↦ rw minor refl
+  ]
+
+  warned : (number : ℕ) (found : Option ClosedLine) → get nat_cmp sites number ≡ found
+      → is_some found ≡ true → Any (IsClosing number) new
+  warned number None at some = absurd (false≢true some)
+  warned number (Some line) at some =
+      let among = (btree_map_get_iff nat_cmp_total exact_unsigned sites ordered number line).0 at in
+      let (k, below, there) : Contains new (of_site (number, line)) =
+      rw is (Contains-append_right old (map of_site sites.entries) _
+      (contains_map of_site sites.entries (number, line) among)) in
+      (k, of_site (number, line), below, there, (refl, closing (number, line)))
+
+  told : (line : Option ℕ)
+      → ((number : ℕ) → line ≡ Some number → is_some (get nat_cmp sites number) ≡ true)
+      → MatchOption line ⊤ (λ number. Any (IsClosing number) new)
+  told None has = tt
+  told (Some line) has = warned line (get nat_cmp sites line) refl (has line refl)
+
+  pub closed_told : (lines : List LineValue) (agents : List (Bor (List ℕ)))
+      → All (HasLine (line_closing_site lines) sites) agents
+      → HasClosed (map (λ agent. agent.now) agents) lines new
+  closed_told lines agents has =
+      All-map (λ agent. MatchOption (line_closing_site lines agent) ⊤ (λ number. Any (IsClosing number) new))
+      (λ (agent : Bor (List ℕ)). agent.now) agents
+      (λ k agent below. told (line_closing_site lines (get_or agents k agent).now) (has k agent below))
 
 -- ---- Sets of names in lower case.
 
@@ -230,6 +203,13 @@ either true true = refl
 either true false = refl
 either false true = refl
 either false false = refl
+
+pub text_added : {S : Type 0} (old new : Patterns S) (key : String Global)
+    → hash.Updates string_eq old new key true → (text : List ℕ)
+    → contains_text new text ≡ (contains_text old text || bytes_eq (string_bytes key) text)
+text_added old new key updates text =
+    hash_set_updates_text (string_bytes key) old new true updates text
+    ∙ either (contains_text old text) (bytes_eq (string_bytes key) text)
 
 -- inserting a name in lower case makes the set that `AddsName` describes
 pub name_added : (old new : BTreeSet Key) (lowered : Key) (name : List ℕ) (is_new : Bool)
@@ -247,21 +227,10 @@ name_added old new lowered name is_new in_lower_case is updates = record {
       ∙ ap (λ (items : List ℕ). has || bytes_eq items key.items) in_lower_case;
 }
 
-pub any_next : (test : List ℕ → Bool) (names : List (Bor (List ℕ))) (at : ℕ) (item : Bor (List ℕ))
-    {before after : Bool} → at < length names
-    → before ≡ list_any test (map (λ name. name.now) (take at names))
-    → after ≡ (before || test (slice_index_or names at item).now)
-    → after ≡ list_any test (map (λ name. name.now) (take (at + 1) names))
-any_next test names at item below was now =
-    now ∙ ap (λ (b : Bool). b || test (slice_index_or names at item).now) was
-    ∙ sym (rw (take_more names at item below) (simp (map-append, list_any-append, or-false)))
-
 pub any_last : {X : Type 0} (test : X → Bool) (xs : List X) (x : X)
     → list_any test (xs ++ x ∷ []) ≡ (list_any test xs || test x)
 any_last test xs x =
     list_any-append test xs (x ∷ []) ∙ ap (λ is. list_any test xs || is) (or-false (test x))
-
--- ---- Examples of warnings contain no control or bidirectional-formatting characters other than LF.
 
 -- ---- The rows of the tables of warnings and of their examples.
 

@@ -1,4 +1,5 @@
 pub mod ClosedLemmas
+pub mod RepeatedLemmas
 pub mod RuleLemmas
 pub mod SeenLemmas
 pub mod StepLemmas

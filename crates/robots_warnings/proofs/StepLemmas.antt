@@ -1,7 +1,7 @@
 -- Steps of loops over bytes and over lines.
 use Rattle.std.proofs.Common.{[], ◌≡◌, ℕ, ◌+◌, ◌<◌, ◌==◌, List, drop, length, refl, slice_index_or}
-use Rattle.std.proofs.Common.{Bool, map, not, take, ◌∷◌, arith, false, ◌++◌, ap, flat_map}
-use Rattle.std.proofs.Common.{append-nil, append_assoc, sym, ◌∙◌, cond, true, if◌then◌else◌, inl, inr}
+use Rattle.std.proofs.Common.{Bool, map, not, take, ◌∷◌, arith, ◌++◌, ap, flat_map}
+use Rattle.std.proofs.Common.{append-nil, append_assoc, sym, ◌∙◌, if◌then◌else◌, inl, inr}
 use Rattle.std.proofs.lemmas.List.{map-append, take_more}
 use Rattle.robots_warnings.specs.{Message.WarningValue}
 use Rattle.robots_warnings.specs.Rules.{from_first, somewhere}
@@ -35,9 +35,3 @@ warned_next f labels at labeled old below was is =
     is ∙ ap (λ found. found ++ last) was ∙ append_assoc old front last
     ∙ ap (λ more. old ++ more)
     (sym (rw (take_more labels at labeled below) (simp (map-append, flat_map-append, append-nil))))
-
-pub picked : {X : Type 0} (number : X → ℕ) (holds : Bool) (x : X) (xs : List X)
-    → map number (cond holds (x ∷ xs) xs)
-    ≡ (if holds then number x ∷ [] else []) ++ map number xs
-picked number true x xs = refl
-picked number false x xs = refl

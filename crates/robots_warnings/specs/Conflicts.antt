@@ -1,6 +1,7 @@
 -- Rules that contradict each other, and empty Disallows.
-use Rattle.std.specs.Prelude.{[], ℕ, false, filter, slice_get, Contains, bytes_eq, Option, if◌then◌else◌, is_some}
-use Rattle.std.specs.Prelude.{◌≡◌, ◌+◌, ◌==◌, Bool, not, ◌||◌, ◌&&◌, List, ◌∷◌, Some, true, None, codes}
+use Rattle.std.specs.Prelude.{[], ℕ, Bool, false, filter, slice_get, Contains, bytes_eq, Option}
+use Rattle.std.specs.Prelude.{if◌then◌else◌}
+use Rattle.std.specs.Prelude.{is_some, ◌≡◌, ◌+◌, ◌==◌, not, ◌||◌, ◌&&◌, List, ◌∷◌, Some, true, None, codes}
 use Rattle.std.specs.{Str.byte, Option.option_or}
 use Rattle.texting_robots.specs.Callers.{Allow, Label, LineValue, PlacedRule, AreRulesFor, placed_rules}
 use Rattle.texting_robots.specs.{Statement.IsStatement, declared.parser.statement.Kind.TheVariants.Disallow}
@@ -39,18 +40,22 @@ is_empty_at (label ∷ labels) number =
 abbrev pub compared : List ℕ → List ℕ
 compared pattern = if bytes_eq pattern (codes "*") then codes "/" else pattern
 
--- the line with this number is a Disallow that applies to the crawler, and the other one an Allow that does,
--- which isn't an empty Disallow, with the same pattern, where `/` and `*` are the same
-pub record IsConflict (is_empty : ℕ → Bool) (agent : List ℕ) (lines : List LineValue) (number other : ℕ)
-    : Type 0 where
-  pub rules : List PlacedRule
-  pub are : AreRulesFor agent lines rules
+-- the line with this number is a Disallow among these rules, and the other one an Allow, which isn't an empty
+-- Disallow, with the same pattern, where `/` and `*` are the same
+pub record AreOpposed (is_empty : ℕ → Bool) (rules : List PlacedRule) (number other : ℕ) : Type 0 where
   pub pattern : List ℕ
   pub allowed : List ℕ
   pub same : compared allowed ≡ compared pattern
   pub disallow : Contains rules (record { rule = (pattern, false); line = number })
   pub allow : Contains rules (record { rule = (allowed, true); line = other })
   pub stated : is_empty other ≡ false
+
+-- there are two such rules that apply to the crawler
+pub record IsConflict (is_empty : ℕ → Bool) (agent : List ℕ) (lines : List LineValue) (number other : ℕ)
+    : Type 0 where
+  pub rules : List PlacedRule
+  pub are : AreRulesFor agent lines rules
+  pub opposed : AreOpposed is_empty rules number other
 
 abbrev pub first_of : {X : Type 0} → (X → Option ℕ) → List X → Option ℕ
 first_of f [] = None
@@ -68,11 +73,6 @@ is_like is_empty is_allow pattern placed =
     not (is_empty placed.line)
     && ((if is_allow then placed.rule.1 else not placed.rule.1) && bytes_eq (compared placed.rule.0) pattern)
 
--- for a Disallow: the line of the first such Allow of the same
-abbrev pub allow_beside : (ℕ → Bool) → List PlacedRule → PlacedRule → Option ℕ
-allow_beside is_empty rules placed =
-    if placed.rule.1 then None else first_line (is_like is_empty true (compared placed.rule.0)) rules
-
 -- the line of the first Disallow of `/` or `*`, unless there is such an Allow of these
 abbrev pub overruling : (ℕ → Bool) → List PlacedRule → Option ℕ
 overruling is_empty rules =
@@ -86,17 +86,6 @@ overruled_by is_empty rules placed =
 
 abbrev pub at_line : ℕ → (PlacedRule → Option ℕ) → PlacedRule → Option ℕ
 at_line number other placed = if placed.line == number then other placed else None
-
--- the other line of a conflict of the line with this number
-abbrev pub conflict_among : (ℕ → Bool) → List PlacedRule → ℕ → Option ℕ
-conflict_among is_empty rules number = first_of (at_line number (allow_beside is_empty rules)) rules
-
--- the same for a crawler; if it gives a line, that `IsConflict`, as `warning_theorems` proves
-abbrev pub conflict_for : (ℕ → Bool) → List LineValue → ℕ → List ℕ → Option ℕ
-conflict_for is_empty lines number agent = conflict_among is_empty (placed_rules agent lines) number
-
-abbrev pub conflict : (ℕ → Bool) → List (List ℕ) → List LineValue → ℕ → Option ℕ
-conflict is_empty agents lines number = first_of (conflict_for is_empty lines number) agents
 
 -- the Disallow that the empty Disallow in the line with this number overrules
 abbrev pub overruled_among : (ℕ → Bool) → List PlacedRule → ℕ → Option ℕ

@@ -1,9 +1,10 @@
 -- Known crawlers, and names of crawlers.
-use Rattle.std.specs.Prelude.{[], ℕ, ◌-◌, ◌==◌, nat_eq, Bool, not, ◌||◌, ◌&&◌, List, bytes_eq, codes, length, ◌+◌}
-use Rattle.std.specs.Prelude.{if◌then◌else◌, take, ◌∷◌, Option, None, Some, find, is_none, is_some}
-use Rattle.std.specs.Prelude.{map, nat_le, nat_lt, option_map, slice_index_or, unwrap_or, false, filter, ◌++◌}
+use Rattle.std.specs.Prelude.{[], ℕ, ◌-◌, ◌==◌, nat_eq, Bool, not, ◌||◌, ◌&&◌, List, bytes_eq, codes, length}
+use Rattle.std.specs.Prelude.{◌+◌, if◌then◌else◌, take, ◌∷◌, Option, None, Some, find, is_none, is_some}
+use Rattle.std.specs.Prelude.{map, nat_le, nat_lt, option_map, slice_index_or, unwrap_or, false}
+use Rattle.std.specs.Prelude.{◌≡◌, slice_get, true}
 use Rattle.std.specs.Str.{byte, str_eq_ignore_ascii_case, is_utf8, str_to_ascii_lowercase}
-use Rattle.std.specs.List.{before_first, list_any, position_from, enumerate_from}
+use Rattle.std.specs.List.{before_first, list_any, position_from}
 use Rattle.std.specs.{Char.is_ascii_alphabetic, Option.option_or}
 use Rattle.strsim.specs.{Edits.damerau}
 use Rattle.texting_robots.specs.Callers.{LineValue, UserAgent, is_named, file_lines}
@@ -121,11 +122,8 @@ abbrev pub has_new_name : List LineValue → LineValue → Bool
 has_new_name lines (UserAgent value) = not (is_named value lines)
 has_new_name lines _ = false
 
--- a line of the file, given with its index, whose name is in no line within the size limit and no earlier one
-abbrev pub is_past_limit : List LineValue → List ℕ → ℕ × LineValue → Bool
-is_past_limit read file p = has_new_name (read ++ take p.0 (file_lines file)) p.1
-
--- the numbers of such lines, counted from 1
-abbrev pub names_past_limit : List LineValue → List ℕ → List ℕ
-names_past_limit read file =
-    map (λ p. p.0 + 1) (filter (is_past_limit read file) (enumerate_from 0 (file_lines file)))
+-- the line with this number, counted from 1, is such a line of the file; `read` are the lines that are read
+abbrev pub IsPastLimit : (read : List LineValue) → (file : List ℕ) → (number : ℕ) → Type 0
+IsPastLimit read file number =
+    (position : ℕ) × (line : LineValue) × (number ≡ position + 1)
+    × (slice_get (file_lines file) position ≡ Some line) × (has_new_name read line ≡ true)

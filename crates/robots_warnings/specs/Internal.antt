@@ -1,4 +1,5 @@
 -- The code's own types by value, and how lists of warnings grow.
+pub mod Closed
 pub mod Names
 pub mod Rules
 pub mod Tells

@@ -7,7 +7,6 @@ pub mod Rules
 pub mod Positions
 pub mod Contents
 pub mod Targets
-pub mod Checks
 pub mod Conflicts
 pub mod Closed
 pub mod Crawlers

@@ -1,21 +1,23 @@
--- What warnings state. Where `--explain` prints a sentence as proved, a warning is so; of one about style,
--- nothing is stated. And which warnings are given exactly if they are so, as their absence says something.
+-- What warnings state. Where `--explain` prints a sentence about those that are given as proved, a warning is
+-- so; of one about style, nothing is stated. And which warnings are never missing where they are so, as their
+-- absence says something.
 use Rattle.std.specs.Prelude.{◌≡◌, ℕ, ◌⊎◌, Bool, false, true, IsTrue, not, List, ◌++◌, Contains}
-use Rattle.std.specs.Prelude.{MatchOption, Option, None, Some, flat_map}
+use Rattle.std.specs.Prelude.{Any, MatchOption, Option, Some, flat_map}
 use Rattle.std.specs.Str.{is_utf8}
 use Rattle.texting_robots.specs.Callers.{Allow, Disallow, LineValue, Label}
 use Rattle.robots_warnings.specs.{declared.table.Cause.Cause, declared.warning.Detail.Detail}
 use Rattle.robots_warnings.specs.declared.warning.Detail.TheVariants.{Line, Rules}
 use Rattle.robots_warnings.specs.declared.table.Cause.TheVariants as cause
-use Rattle.robots_warnings.specs.Closed.{line_closing_site, replacing, star_count}
-use Rattle.robots_warnings.specs.Conflicts.{conflict, is_empty_at}
+use Rattle.robots_warnings.specs.Closed.{IsReplacing, line_closing_site, star_count}
+use Rattle.robots_warnings.specs.Conflicts.{IsConflict, is_empty_at}
 use Rattle.robots_warnings.specs.Contents.{comment_of, is_cut_to_root, tail_of}
-use Rattle.robots_warnings.specs.{Crawlers.names_past_limit, Facts.is_too_large, File.lines_of}
+use Rattle.robots_warnings.specs.{Crawlers.IsPastLimit, Facts.is_too_large, File.lines_of}
 use Rattle.robots_warnings.specs.{Message.WarningValue, Positions.is_above_agents, Positions.later_delays}
 use Rattle.robots_warnings.specs.{Repeated.repeated, Rules.begins_oddly, Rules.has_dollar_inside}
-use Rattle.robots_warnings.specs.Warnings.{crawler_warnings, site_warnings, url_warnings}
+use Rattle.robots_warnings.specs.Warnings.{overruled_warnings, url_warnings}
 
--- a warning for this reason is about style
+-- nothing is stated of a warning for this reason: it is about style, or `--explain` prints as proved what its
+-- absence says, or what holds of such a rule by itself
 abbrev pub is_style : Cause → Bool
 is_style cause.HashLeavesRoot = false
 is_style cause.RuleNotUtf8 = false
@@ -28,6 +30,7 @@ is_style cause.RuleBeforeUserAgent = false
 is_style cause.GroupPastSizeLimit = false
 is_style cause.AllowedAndDisallowed = false
 is_style cause.TwoDelays = false
+is_style cause.TwoDelaysPastLimit = false
 is_style cause.ReplacesStar = false
 is_style cause.RepeatedRule = false
 is_style cause.RepeatedPastLimit = false
@@ -39,19 +42,11 @@ is_style cause.AllowedAnyway = false
 is_style cause.NotNeeded = false
 is_style other = true
 
--- the value of a rule
-abbrev pub rule_value : LineValue → Option (List ℕ)
-rule_value (Allow value) = Some value
-rule_value (Disallow value) = Some value
-rule_value line = None
-
-abbrev pub is_some_that : (List ℕ → Bool) → Option (List ℕ) → Bool
-is_some_that test None = false
-is_some_that test (Some value) = test value
-
 -- the line is a rule with such a value
 abbrev pub is_rule_that : (List ℕ → Bool) → LineValue → Bool
-is_rule_that test line = is_some_that test (rule_value line)
+is_rule_that test (Allow value) = test value
+is_rule_that test (Disallow value) = test value
+is_rule_that test line = false
 
 -- what a warning for this reason says of its line, if it is about one line by itself
 abbrev pub is_so_of : Cause → Label → Bool
@@ -82,14 +77,16 @@ Closes agents labels number about = MatchOption about ⊥
 abbrev pub Says : (all_groups : Bool) → (agents : List (List ℕ)) → (file : List ℕ) → List Label
     → Cause → (number : ℕ) → (about : Option (List ℕ)) → Option Detail → Type 0
 Says all_groups agents file labels cause.GroupPastSizeLimit number about detail =
-    Contains (names_past_limit (lines_of labels) file) number
+    IsPastLimit (lines_of labels) file number
 Says all_groups agents file labels cause.AllowedAndDisallowed number about detail =
     (other : ℕ) × (detail ≡ Some (Line other))
-    × (conflict (is_empty_at labels) agents (lines_of labels) number ≡ Some other)
+    × Any (λ agent. IsConflict (is_empty_at labels) agent (lines_of labels) number other) agents
 Says all_groups agents file labels cause.TwoDelays number about detail =
     Contains (later_delays labels) number × (is_too_large file ≡ false)
+Says all_groups agents file labels cause.TwoDelaysPastLimit number about detail =
+    Contains (later_delays labels) number
 Says all_groups agents file labels cause.ReplacesStar number about detail =
-    Contains (replacing agents (lines_of labels) labels) number
+    IsReplacing agents (lines_of labels) (lines_of labels) number
     × (detail ≡ Some (Rules (star_count (lines_of labels))))
 Says all_groups agents file labels cause.RepeatedRule number about detail =
     Contains (repeated all_groups labels) number × (is_too_large file ≡ false)
@@ -108,9 +105,8 @@ Means all_groups agents file labels warning =
     is_style warning.cause ≡ false → IsOfLine labels warning ⊎ MatchOption warning.line ⊥
     (λ number. Says all_groups agents file labels warning.cause number warning.about warning.detail)
 
--- the warnings that are given exactly if they are so, as the absence of some says something: of a closed site,
--- of an empty Disallow that is overruled, and of a URL that isn't normal
+-- the warnings of which none is missing where they are so, besides those about closed sites, as their absence
+-- says something: of a URL that isn't normal, and of an empty Disallow that is overruled
 abbrev pub telling : (agents urls : List (List ℕ)) → List LineValue → List Label → List WarningValue
 telling agents urls lines labels =
-    site_warnings agents lines labels
-    ++ (flat_map url_warnings urls ++ crawler_warnings (is_empty_at labels) agents lines labels)
+    flat_map url_warnings urls ++ overruled_warnings (is_empty_at labels) agents lines labels

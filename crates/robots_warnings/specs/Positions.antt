@@ -1,19 +1,11 @@
 -- Conditions on the position of a line.
 use Rattle.std.specs.Prelude.{[], ℕ, Bool, true, false, not, ◌||◌, ◌&&◌, List, ◌∷◌, Option, None, ◌++◌}
-use Rattle.std.specs.Prelude.{Some, ◌==◌, bytes_eq, codes, if◌then◌else◌}
+use Rattle.std.specs.Prelude.{Some, ◌==◌, if◌then◌else◌}
 use Rattle.std.specs.{Option.option_or}
 use Rattle.texting_robots.specs.Callers.{CrawlDelay, LineValue, Label, UserAgent}
 use Rattle.texting_robots.specs.{Group.is_member, Line.delay_in}
 use Rattle.texting_robots.specs.declared.labels.Membership.{Membership, TheVariants.Ungrouped}
-use Rattle.robots_warnings.specs.declared.positions.Preceding.{Preceding}
-use Rattle.robots_warnings.specs.declared.positions.Preceding.TheVariants.{Agent, Delay, Other}
 use Rattle.robots_warnings.specs.{Facts.is_rule}
-
--- what precedes the next line: a user-agent line with no rule or delay after it, with only delays, or neither
-abbrev pub preceding_with : Preceding → LineValue → Preceding
-preceding_with preceding (UserAgent value) = Agent
-preceding_with Agent (CrawlDelay delay) = Delay
-preceding_with preceding line = if is_rule line then Other else preceding
 
 -- the first delay of the group of this line; `first` is that of the lines above it
 abbrev pub first_delay : Option ℕ → LineValue → Option ℕ
@@ -26,11 +18,6 @@ abbrev pub begin_with_one : (List ℕ → Bool) → List LineValue → Bool
 begin_with_one test [] = false
 begin_with_one test (UserAgent value ∷ lines) = test value || begin_with_one test lines
 begin_with_one test (line ∷ lines) = not (is_member line) && begin_with_one test lines
-
-abbrev pub name_star : List LineValue → Bool
-name_star [] = false
-name_star (UserAgent value ∷ lines) = bytes_eq value (codes "*") || name_star lines
-name_star (line ∷ lines) = not (is_rule line) && name_star lines
 
 abbrev pub is_outside : Membership → Bool
 is_outside Ungrouped = true

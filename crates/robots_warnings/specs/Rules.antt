@@ -1,8 +1,8 @@
 -- Conditions on the value of an Allow or a Disallow line.
-use Rattle.std.specs.Prelude.{[], ℕ, ◌+◌, ◌-◌, ◌*◌, ◌==◌, nat_eq, Bool, false, not, ◌||◌, ◌&&◌}
-use Rattle.std.specs.Prelude.{List, ◌∷◌, bytes_eq, codes, if◌then◌else◌, slice_index}
+use Rattle.std.specs.Prelude.{[], ℕ, ◌+◌, ◌-◌, ◌*◌, ◌==◌, Bool, false, not, ◌||◌, ◌&&◌}
+use Rattle.std.specs.Prelude.{List, ◌∷◌, codes, if◌then◌else◌, slice_index}
 use Rattle.std.specs.Char.{is_ascii_alphanumeric, is_ascii_hexdigit}
-use Rattle.std.specs.List.{after_first, before_first, list_any, starts_with}
+use Rattle.std.specs.List.{after_first, before_first, list_any}
 use Rattle.std.specs.Str.{byte}
 
 abbrev pub has : ℕ → List ℕ → Bool
@@ -49,9 +49,3 @@ needs_no_escape b = is_ascii_alphanumeric b || has b (codes "-._~")
 -- or query has, nor `'`, which is written `%27` in the query of a URL
 abbrev pub is_delimiter : ℕ → Bool
 is_delimiter b = has b (codes ":/?[]@!&()+,;=")
-
--- a path segment `.` or `..`, which a slash or the end of the URL follows
-abbrev pub begins_dot_segment : List ℕ → Bool
-begins_dot_segment text =
-    starts_with nat_eq text (codes "/./") || starts_with nat_eq text (codes "/../")
-    || bytes_eq text (codes "/.$") || bytes_eq text (codes "/..$")

@@ -1,7 +1,7 @@
 -- Conditions on URLs and paths.
-use Rattle.std.specs.Prelude.{ℕ, Bool, ◌||◌, ◌&&◌, not, List, None}
+use Rattle.std.specs.Prelude.{ℕ, Bool, ◌||◌, List, None}
 use Rattle.std.specs.Prelude.{codes, is_err, length, take}
-use Rattle.std.specs.Str.{is_utf8, str_eq_ignore_ascii_case}
+use Rattle.std.specs.Str.{str_eq_ignore_ascii_case}
 use Rattle.url.specs.{Parser.parse_url}
 
 abbrev pub begins_in_any_case : List ℕ → List ℕ → Bool
@@ -14,7 +14,3 @@ begins_as_url text =
 -- by the specification of `url`
 abbrev pub is_unparsable : List ℕ → Bool
 is_unparsable text = is_err (parse_url None text)
-
--- an absolute http(s) URL, which can be parsed
-abbrev pub is_absolute_url : List ℕ → Bool
-is_absolute_url value = is_utf8 value && (begins_as_url value && not (is_unparsable value))

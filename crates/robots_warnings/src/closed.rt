@@ -1,13 +1,16 @@
 //! Rules that leave nothing, or nearly nothing, of a site to a crawler.
-ghost use Rattle.std.specs.Prelude.{[], ◌≡◌, ◌++◌, ◌||◌, ◌∷◌, Bool, IfOk, List, OnOk, bytes_eq, codes, filter, flat_map, if◌then◌else◌};
-ghost use Rattle.std.specs.Prelude.{is_some, length, map, nat_lt, option_map, slice_get, string_bytes, ℕ};
-ghost use Rattle.std.specs.{HashSet.contains_text, List.filter_map, List.list_any, Str.str_eq_ignore_ascii_case};
+ghost use Rattle.std.specs.Prelude.{[], ◌≡◌, ◌++◌, ◌||◌, ◌∷◌, ◌⊎◌, Bool, Contains, IfOk, List, OnOk};
+ghost use Rattle.std.specs.Prelude.{IsSomeAnd, Option, Some, bytes_eq, codes, is_some, length, map, nat_lt};
+ghost use Rattle.std.specs.Prelude.{string_bytes, true, ℕ};
+ghost use Rattle.std.specs.{BTreeMap.IsOrdered, BTreeMap.get, HashSet.contains_text, List.filter_map};
+ghost use Rattle.std.specs.{List.list_any, Ordering.nat_cmp};
 ghost use Rattle.texting_robots.specs.Callers.{PlacedRule, file_lines, label_by_value, placed_rules};
-ghost use Rattle.robots_warnings.specs.Closed.{closed_at, closes, first_closing, is_closing, is_exempt};
-ghost use Rattle.robots_warnings.specs.Closed.{is_for, is_let_in, is_literally, is_major, is_number, is_rival, leaves_closed};
-ghost use Rattle.robots_warnings.specs.Closed.{lets_in, line_closing_site, line_reported, opened_path, line_closing_part};
-ghost use Rattle.robots_warnings.specs.Internal.{Adds, Rules.HasExempt, Rules.IsNeeded, Rules.agents_at};
-ghost use Rattle.robots_warnings.specs.Warnings.{closing_cause, closing_warnings, others, part_warnings, site_warnings};
+ghost use Rattle.robots_warnings.specs.Closed.{closes, first_closing, is_closing, is_elsewhere, is_exempt};
+ghost use Rattle.robots_warnings.specs.Closed.{is_literally, is_rival, leaves_closed, line_closing_but};
+ghost use Rattle.robots_warnings.specs.Closed.{line_closing_site, opened_path};
+ghost use Rattle.robots_warnings.specs.Internal.{Adds, Tells.Tells};
+ghost use Rattle.robots_warnings.specs.Internal.Closed.{AreClosed, AreNamed, IsNeeded, warning_at};
+ghost use Rattle.robots_warnings.specs.{Means.Means, Read.IsRead, Warnings.HasClosed};
 
 use crate::crawlers::{meant, other_group};
 use crate::own_rules::own_rules;
@@ -20,14 +23,24 @@ use crate::tokens::token_front;
 use crate::warning::{Detail, Found, Warning};
 use std::alloc::{AllocError, Global};
 use std::collections::{BTreeMap, HashSet};
-use texting_robots::labels::LabeledLine;
 use texting_robots::match_target;
 use texting_robots::site::{Site, SiteRule};
 
 type Patterns = HashSet<String>;
 
-/// For the number of a line, the crawlers to which it closes the site.
-type ClosedLines<'a> = BTreeMap<usize, Vec<&'a str>>;
+/// Of a line that closes the site, or its home page, to some crawlers.
+#[derive(Clone, Copy)]
+struct ClosedLine<'a> {
+    /// The first of them for which that is probably a mistake, or else the first.
+    agent: &'a str,
+    /// Whether it is for one of them.
+    is_major: bool,
+    /// How many others there are.
+    detail: Option<Detail>,
+}
+
+/// By the numbers of lines.
+type ClosedLines<'a> = BTreeMap<usize, ClosedLine<'a>>;
 
 /// The crawlers of large search engines, as their documentation calls them: developers.google.com/crawling,
 /// bing.com/webmasters/help, duckduckgo.com/duckduckgo-help-pages, yandex.com/support/webmaster, help.baidu.com
@@ -43,57 +56,34 @@ pub(crate) const SEARCH_ENGINES: [&str; 7] = [
     "Slurp",
 ];
 
-/// What a rule closes to a crawler.
-#[derive(Clone, Copy, PartialEq, Eq)]
-pub enum Part {
-    /// The whole site. An Allow that opens little of it doesn't count.
-    Site,
-    /// The home page.
-    Home,
+#[tactic(auto, using(crate::proofs::ClosedLemmas::whole_site_escaped))]
+fn is_closing(rule: &SiteRule<'_>) -> bool
+    ensures { result ≡ is_closing rule.now }
+{
+    !rule.is_allow && is_whole_site(rule.value.as_bytes())
 }
 
-fn is_for(part: Part, value: &[u8]) -> bool
-    ensures { result ≡ is_for part value.now }
+fn leaves_closed(exempt: &Patterns, pattern: &str) -> bool
+    ensures { result ≡ leaves_closed (contains_text exempt.now) pattern.now }
 {
-    match part {
-        Part::Site => is_whole_site(value),
-        Part::Home => is_home(value),
-    }
-}
-
-#[tactic(auto, using(crate::proofs::ClosedLemmas::part_escaped))]
-fn is_closing(part: Part, rule: &SiteRule<'_>) -> bool
-    ensures { result ≡ is_closing part rule.now }
-{
-    !rule.is_allow && is_for(part, rule.value.as_bytes())
-}
-
-fn leaves_closed(part: Part, exempt: &Patterns, pattern: &str) -> bool
-    ensures { result ≡ leaves_closed part (contains_text exempt.now) pattern.now }
-{
-    match part {
-        Part::Site => exempt.contains(pattern) || opens_little(pattern.as_bytes()),
-        Part::Home => !is_home(pattern.as_bytes()),
-    }
+    exempt.contains(pattern) || opens_little(pattern.as_bytes())
 }
 
 fn raise(
     alloc: Global,
     needed: &mut usize,
-    part: Part,
     exempt: &Patterns,
     rule: &SiteRule<'_>,
 ) -> Result<(), AllocError>
     ensures { OnOk result ((pattern : List ℕ) → nat_lt (length pattern) needed.new
         ≡ (nat_lt (length pattern) needed.old
-        || is_rival (leaves_closed part (contains_text exempt.now)) pattern rule.now)) }
+        || is_rival (leaves_closed (contains_text exempt.now)) pattern rule.now)) }
 {
     if !rule.is_allow {
         return Ok(());
     }
     let pattern = rule.pattern(alloc)?;
-    let is_rival = !leaves_closed(part, exempt, pattern.as_str())
-        && !matches_no_path(pattern.as_bytes());
+    let is_rival = !leaves_closed(exempt, pattern.as_str()) && !matches_no_path(pattern.as_bytes());
     if is_rival && *needed <= pattern.len() {
         *needed = pattern.len() + 1;
     }
@@ -101,45 +91,40 @@ fn raise(
 }
 
 /// The length that a Disallow must have at least to have no rival among these rules.
-fn needed(
-    alloc: Global,
-    part: Part,
-    exempt: &Patterns,
-    rules: &[SiteRule<'_>],
-) -> Result<usize, AllocError>
-    ensures { IfOk result (IsNeeded (leaves_closed part (contains_text exempt.now)) rules.now) }
+fn needed(alloc: Global, exempt: &Patterns, rules: &[SiteRule<'_>]) -> Result<usize, AllocError>
+    ensures { IfOk result (IsNeeded (leaves_closed (contains_text exempt.now)) rules.now) }
 {
     let mut needed = 0;
     for rule in rules {
-        raise(alloc, &mut needed, part, exempt, rule)?;
+        raise(alloc, &mut needed, exempt, rule)?;
     }
     Ok(needed)
 }
 
-fn closes(part: Part, needed: usize, rule: &SiteRule<'_>) -> bool
+fn closes(needed: usize, rule: &SiteRule<'_>) -> bool
     ensures { (is_exempt : List ℕ → Bool) (rules : List PlacedRule) → IsNeeded is_exempt rules needed
-        → result ≡ closes part is_exempt rules rule.now }
+        → result ≡ closes is_exempt rules rule.now }
 {
-    is_closing(part, rule) && rule.value.len() >= needed
+    is_closing(rule) && rule.value.len() >= needed
 }
 
 fn first_closing(
     alloc: Global,
-    part: Part,
     exempt: &Patterns,
     rules: &[SiteRule<'_>],
 ) -> Result<Option<usize>, AllocError>
-    ensures { IfOk result (λ line. line ≡ first_closing part (contains_text exempt.now) rules.now) }
+    ensures { IfOk result (λ line. line ≡ first_closing (contains_text exempt.now) rules.now) }
 {
-    let needed = needed(alloc, part, exempt, rules)?;
+    let needed = needed(alloc, exempt, rules)?;
     for rule in rules {
-        if closes(part, needed, rule) {
+        if closes(needed, rule) {
             return Ok(Some(rule.line));
         }
     }
     Ok(None)
 }
 
+#[tactic(auto, using(crate::proofs::ClosedLemmas::text_added))]
 fn add(patterns: &mut Patterns, text: String) -> Result<(), AllocError>
     ensures { OnOk result ((pattern : List ℕ) → contains_text patterns.new pattern
         ≡ (contains_text patterns.old pattern || bytes_eq (string_bytes text) pattern)) }
@@ -182,7 +167,7 @@ fn add_url(alloc: Global, patterns: &mut Patterns, url: &str) -> Result<(), Allo
 }
 
 fn exempt_patterns(alloc: Global, site: &Site) -> Result<Patterns, AllocError>
-    ensures { IfOk result (HasExempt (file_lines site.now)) }
+    ensures { IfOk result (λ patterns. contains_text patterns ≡ is_exempt (file_lines site.now)) }
 {
     let mut patterns = HashSet::new(alloc);
     add_path(alloc, &mut patterns, "/robots.txt")?;
@@ -193,104 +178,31 @@ fn exempt_patterns(alloc: Global, site: &Site) -> Result<Patterns, AllocError>
     Ok(patterns)
 }
 
+/// The crawler's vendor applies another group, or a line has its name and another one is meant.
+fn is_elsewhere(alloc: Global, site: &Site, agent: &str) -> Result<bool, AllocError>
+    ensures { IfOk result (λ is. is ≡ is_elsewhere (file_lines site.now) agent.now) }
+{
+    if other_group(site, agent).is_some() {
+        return Ok(true);
+    }
+    Ok(site.is_named(agent) && meant(alloc, agent.as_bytes())?.is_some())
+}
+
 /// `exempt` are the exempt patterns of the file.
-fn closing_here(
+fn line_closing_site(
     alloc: Global,
-    part: Part,
     exempt: &Patterns,
     site: &Site,
     agent: &str,
 ) -> Result<Option<usize>, AllocError>
-    requires { HasExempt (file_lines site.now) exempt.now }
     ensures { IfOk result (λ line. line
-        ≡ first_closing part (is_exempt (file_lines site.now)) (placed_rules agent.now (file_lines site.now))) }
+        ≡ line_closing_but (contains_text exempt.now) (file_lines site.now) agent.now) }
 {
+    if is_elsewhere(alloc, site, agent)? {
+        return Ok(None);
+    }
     let rules = own_rules(alloc, site, agent)?;
-    first_closing(alloc, part, exempt, &rules)
-}
-
-/// None if the crawler's vendor applies another group, or a line has its name and another one is meant.
-fn line_closing_part(
-    alloc: Global,
-    part: Part,
-    exempt: &Patterns,
-    site: &Site,
-    agent: &str,
-) -> Result<Option<usize>, AllocError>
-    requires { HasExempt (file_lines site.now) exempt.now }
-    ensures { IfOk result (λ line. line ≡ line_closing_part part (file_lines site.now) agent.now) }
-{
-    if other_group(site, agent).is_some()
-        || (site.is_named(agent) && meant(alloc, agent.as_bytes())?.is_some())
-    {
-        return Ok(None);
-    }
-    closing_here(alloc, part, exempt, site, agent)
-}
-
-fn is_one_of(names: &[&str], agent: &[u8]) -> bool
-    ensures { result ≡ list_any (λ name. str_eq_ignore_ascii_case name.now agent.now) names.now }
-{
-    names
-        .iter()
-        .any(|name| name.as_bytes().eq_ignore_ascii_case(agent))
-}
-
-/// `let_in`: a large search engine may fetch the site.
-fn is_major(let_in: bool, site: &Site, agent: &str) -> bool
-    ensures { result ≡ is_major let_in (file_lines site.now) agent.now }
-{
-    is_one_of(&SEARCH_ENGINES, token_front(agent.as_bytes()))
-        || (!let_in && (agent == "*" || !site.is_named(agent)))
-}
-
-fn line_reported(
-    alloc: Global,
-    part: Part,
-    exempt: &Patterns,
-    site: &Site,
-    agent: &str,
-) -> Result<Option<usize>, AllocError>
-    requires { HasExempt (file_lines site.now) exempt.now }
-    ensures { IfOk result (λ line. line ≡ line_reported part (file_lines site.now) agent.now) }
-{
-    if part != Part::Home {
-        return line_closing_part(alloc, Part::Site, exempt, site, agent);
-    }
-    if !is_major(false, site, agent) {
-        return Ok(None);
-    }
-    if line_closing_part(alloc, Part::Site, exempt, site, agent)?.is_some() {
-        return Ok(None);
-    }
-    line_closing_part(alloc, Part::Home, exempt, site, agent)
-}
-
-/// Whether a group of its own leaves the site open to this crawler.
-#[tactic(auto, unfolding(crate::specs::Closed::is_let_in))]
-fn is_let_in(alloc: Global, exempt: &Patterns, site: &Site, name: &str) -> Result<bool, AllocError>
-    requires { HasExempt (file_lines site.now) exempt.now }
-    ensures { IfOk result (λ is. is ≡ is_let_in (file_lines site.now) name.now) }
-{
-    if !site.is_named(name) {
-        return Ok(false);
-    }
-    Ok(line_closing_part(alloc, Part::Site, exempt, site, name)?.is_none())
-}
-
-/// Whether it does to a large search engine.
-fn lets_in(alloc: Global, exempt: &Patterns, site: &Site) -> Result<bool, AllocError>
-    requires { HasExempt (file_lines site.now) exempt.now }
-    ensures { IfOk result (λ is. is ≡ lets_in (file_lines site.now)) }
-{
-    let mut names: &[&str] = &SEARCH_ENGINES;
-    while let [name, rest @ ..] = names {
-        if is_let_in(alloc, exempt, site, name)? {
-            return Ok(true);
-        }
-        names = rest;
-    }
-    Ok(false)
+    first_closing(alloc, exempt, &rules)
 }
 
 /// Whether a rule closes the site to the crawler.
@@ -298,170 +210,195 @@ pub fn is_closed(alloc: Global, site: &Site, agent: &str) -> Result<bool, AllocE
     ensures { IfOk result (λ is. is ≡ is_some (line_closing_site (file_lines site.now) agent.now)) }
 {
     let exempt = exempt_patterns(alloc, site)?;
-    Ok(line_closing_part(alloc, Part::Site, &exempt, site, agent)?.is_some())
+    Ok(line_closing_site(alloc, &exempt, site, agent)?.is_some())
 }
 
-fn add_closed<'a>(
-    alloc: Global,
-    closed: &mut ClosedLines<'a>,
-    line: Option<usize>,
-    agent: &'a str,
-) -> Result<(), AllocError>
-    ensures { OnOk result ((number : ℕ) → agents_at closed.new number
-        ≡ agents_at closed.old number ++ (if is_number number line then agent.now ∷ [] else [])) }
-{
-    let Some(number) = line else {
-        return Ok(());
-    };
-    let mut agents = match closed.remove(&number) {
-        Some(agents) => agents,
-        None => Vec::new(alloc),
-    };
-    agents.push(agent)?;
-    closed.insert(number, agents)?;
-    Ok(())
-}
-
-/// For each line, those of these crawlers to which it closes this part of the site.
-fn closed_lines<'a>(
-    alloc: Global,
-    part: Part,
-    exempt: &Patterns,
-    site: &Site,
-    agents: &[&'a str],
-) -> Result<ClosedLines<'a>, AllocError>
-    requires { HasExempt (file_lines site.now) exempt.now }
-    ensures { IfOk result (λ closed. (number : ℕ) → agents_at closed number
-        ≡ closed_at part (file_lines site.now) (map (λ agent. agent.now) agents.now) number) }
-{
-    let mut closed = BTreeMap::new(alloc);
-    for agent in agents {
-        let line = line_reported(alloc, part, exempt, site, agent)?;
-        add_closed(alloc, &mut closed, line, agent)?;
-    }
-    Ok(closed)
-}
-
-fn first_major<'a>(let_in: bool, site: &Site, agents: &[&'a str]) -> Option<&'a str>
-    ensures { option_map (λ agent. agent.now) result
-        ≡ slice_get (filter (is_major let_in (file_lines site.now)) (map (λ agent. agent.now) agents.now)) 0 }
-{
-    let mut rest = agents;
-    while let [agent, after @ ..] = rest {
-        if is_major(let_in, site, agent) {
-            return Some(*agent);
+/// The line of the first Disallow of the home page that no Allow of it, at least as long, is a rival of.
+fn first_closing_home(rules: &[SiteRule<'_>]) -> Option<usize> {
+    let mut needed = 0;
+    for rule in rules {
+        let value = rule.value.as_bytes();
+        let opens = rule.is_allow && is_home(value) && !matches_no_path(value);
+        if opens && needed <= value.len() {
+            needed = value.len() + 1;
         }
-        rest = after;
+    }
+    for rule in rules {
+        let value = rule.value.as_bytes();
+        if !rule.is_allow && is_home(value) && value.len() >= needed {
+            return Some(rule.line);
+        }
     }
     None
 }
 
-fn others(count: usize) -> Option<Detail>
-    ensures { result ≡ others count }
-{
-    if count == 0 {
-        return None;
-    }
-    Some(Detail::Others(count))
+/// Closing the site to the crawler is probably a mistake. `let_in`: a group of a large search engine doesn't
+/// close all of it.
+fn is_major(let_in: bool, site: &Site, agent: &str) -> bool {
+    let name = token_front(agent.as_bytes());
+    SEARCH_ENGINES
+        .iter()
+        .any(|engine| engine.as_bytes().eq_ignore_ascii_case(name))
+        || (!let_in && (agent == "*" || !site.is_named(agent)))
 }
 
-fn closing_cause(part: Part, is_major: bool) -> Cause
-    ensures { result ≡ closing_cause part is_major }
+/// The line that closes the home page alone. Reported only for search engines, `*`, and crawlers that aren't
+/// named.
+fn line_closing_home(
+    alloc: Global,
+    exempt: &Patterns,
+    site: &Site,
+    agent: &str,
+) -> Result<Option<usize>, AllocError> {
+    if !is_major(false, site, agent) || is_elsewhere(alloc, site, agent)? {
+        return Ok(None);
+    }
+    let rules = own_rules(alloc, site, agent)?;
+    if first_closing(alloc, exempt, &rules)?.is_some() {
+        return Ok(None);
+    }
+    Ok(first_closing_home(&rules))
+}
+
+/// Whether a group of its own doesn't close the whole site to a large search engine.
+fn lets_in(alloc: Global, exempt: &Patterns, site: &Site) -> Result<bool, AllocError> {
+    for name in &SEARCH_ENGINES {
+        if site.is_named(name) && line_closing_site(alloc, exempt, site, name)?.is_none() {
+            return Ok(true);
+        }
+    }
+    Ok(false)
+}
+
+/// One more crawler for a line.
+fn beside<'a>(line: Option<ClosedLine<'a>>, agent: &'a str, is_major: bool) -> ClosedLine<'a>
+    ensures { (result.agent.now ≡ agent.entry.now)
+        ⊎ IsSomeAnd line.entry (λ line. result.agent.now ≡ line.agent.now) }
 {
-    match (part, is_major) {
-        (Part::Site, true) => Cause::ClosesSite,
-        (Part::Site, false) => Cause::ClosesEverything,
-        (Part::Home, true) => Cause::ClosesHome,
-        (Part::Home, false) => Cause::ClosesHomeToOthers,
+    let Some(line) = line else {
+        return ClosedLine {
+            agent,
+            is_major,
+            detail: None,
+        };
+    };
+    let others = match line.detail {
+        Some(Detail::Others(count)) => count,
+        _ => 0,
+    };
+    ClosedLine {
+        agent: if is_major && !line.is_major {
+            agent
+        } else {
+            line.agent
+        },
+        is_major: is_major || line.is_major,
+        detail: Some(Detail::Others(others.saturating_add(1))),
     }
 }
 
-fn warn_of_agents<'a>(
-    found: &mut Found<'a>,
-    part: Part,
+/// The line, if there is one, closes the site or its home page to the crawler.
+fn add_closed<'a>(
+    closed: &mut ClosedLines<'a>,
     let_in: bool,
     site: &Site,
-    number: usize,
-    agents: &[&'a str],
+    line: Option<usize>,
+    agent: &'a str,
 ) -> Result<(), AllocError>
-    ensures { OnOk result (Adds found.old.items found.new.items
-        (closing_warnings part let_in (file_lines site.now) number (map (λ agent. agent.now) agents.now))) }
+    ensures has { OnOk result ((number : ℕ) → line ≡ Some number
+        → is_some (get nat_cmp closed.new number) ≡ true) }
+    ensures kept { OnOk result ((number : ℕ) → is_some (get nat_cmp closed.old number) ≡ true
+        → is_some (get nat_cmp closed.new number) ≡ true) }
+    ensures named { (line_of : List ℕ → Option ℕ) → (agents : List (List ℕ))
+        → AreNamed line_of agents closed.old → Contains agents agent.entry.now
+        → line ≡ line_of agent.entry.now
+        → OnOk result (AreNamed line_of agents closed.new) }
 {
-    let [agent, rest @ ..] = agents else {
+    let Some(number) = line else {
         return Ok(());
     };
-    let major = first_major(let_in, site, agents);
-    found.push(Warning {
-        line: Some(number),
-        cause: closing_cause(part, major.is_some()),
-        about: major.or(Some(*agent)),
-        detail: others(rest.len()),
-    })?;
+    let is_major = is_major(let_in, site, agent);
+    let line = beside(closed.remove(&number), agent, is_major);
+    closed.insert(number, line)?;
     Ok(())
 }
 
-fn warn_of_number<'a>(
-    found: &mut Found<'a>,
-    part: Part,
+/// The lines that close the site to these crawlers.
+fn closed_sites<'a>(
+    alloc: Global,
+    exempt: &Patterns,
     let_in: bool,
     site: &Site,
-    closed: &ClosedLines<'a>,
-    number: usize,
-) -> Result<(), AllocError>
-    ensures { OnOk result (Adds found.old.items found.new.items
-        (closing_warnings part let_in (file_lines site.now) number (agents_at closed.now number))) }
+    agents: &[&'a str],
+) -> Result<ClosedLines<'a>, AllocError>
+    ensures { IfOk result (AreClosed (line_closing_but (contains_text exempt.now) (file_lines site.now))
+        agents.now) }
 {
-    let Some(agents) = closed.get(&number) else {
-        return Ok(());
-    };
-    warn_of_agents(found, part, let_in, site, number, agents)
+    let mut closed = BTreeMap::new(alloc);
+    for agent in agents {
+        let line = line_closing_site(alloc, exempt, site, agent)?;
+        add_closed(&mut closed, let_in, site, line, agent)?;
+    }
+    Ok(closed)
 }
 
+/// The lines that close the home page alone.
+fn closed_homes<'a>(
+    alloc: Global,
+    exempt: &Patterns,
+    let_in: bool,
+    site: &Site,
+    agents: &[&'a str],
+) -> Result<ClosedLines<'a>, AllocError> {
+    let mut closed = BTreeMap::new(alloc);
+    for agent in agents {
+        let line = line_closing_home(alloc, exempt, site, agent)?;
+        add_closed(&mut closed, let_in, site, line, agent)?;
+    }
+    Ok(closed)
+}
+
+/// The cause is `major` where closing the line is probably a mistake for a crawler, and else `minor`.
 fn warn_of_lines<'a>(
     found: &mut Found<'a>,
-    part: Part,
-    let_in: bool,
-    site: &Site,
-    closed: &ClosedLines<'a>,
-    labels: &[LabeledLine<'_>],
+    major: Cause,
+    minor: Cause,
+    closed: ClosedLines<'a>,
 ) -> Result<(), AllocError>
-    ensures { OnOk result (Adds found.old.items found.new.items
-        (flat_map (λ label. closing_warnings part let_in (file_lines site.now) label.number (agents_at closed.now label.number))
-        (map label_by_value labels.now))) }
+    ensures adds { OnOk result (Adds found.old.items found.new.items
+        (map (warning_at major minor) closed.entry.entries)) }
+    ensures ordered { OnOk result (IsOrdered nat_cmp closed.entry) }
 {
-    for labeled in labels {
-        warn_of_number(found, part, let_in, site, closed, labeled.number)?;
+    for (number, line) in closed {
+        found.push(Warning {
+            line: Some(number),
+            cause: if line.is_major { major } else { minor },
+            about: Some(line.agent),
+            detail: line.detail,
+        })?;
     }
     Ok(())
 }
 
-fn warn_of_part<'a>(
-    alloc: Global,
-    found: &mut Found<'a>,
-    part: Part,
-    exempt: &Patterns,
-    agents: &[&'a str],
-    read: &FileRead<'_>,
-) -> Result<(), AllocError>
-    requires { HasExempt (file_lines read.now.site) exempt.now }
-    ensures { OnOk result (Adds found.old.items found.new.items (part_warnings part (map (λ agent. agent.now) agents.now)
-        (file_lines read.now.site) (map label_by_value read.now.labels.items))) }
-{
-    let let_in = lets_in(alloc, exempt, &read.site)?;
-    let closed = closed_lines(alloc, part, exempt, &read.site, agents)?;
-    warn_of_lines(found, part, let_in, &read.site, &closed, &read.labels)
-}
-
+/// Each line that closes the site to some of these crawlers, and each that closes its home page.
 pub(crate) fn warn_of_closed<'a>(
     alloc: Global,
     found: &mut Found<'a>,
     agents: &[&'a str],
     read: &FileRead<'_>,
 ) -> Result<(), AllocError>
-    ensures { OnOk result (Adds found.old.items found.new.items (site_warnings (map (λ agent. agent.now) agents.now)
-        (file_lines read.now.site) (map label_by_value read.now.labels.items))) }
+    requires { IsRead read.now }
+    ensures so { (all_groups : Bool) → (file : List ℕ) → OnOk result
+        (Tells (Means all_groups (map (λ agent. agent.now) agents.now) file
+        (map label_by_value read.now.labels.items)) [] found.old.items found.new.items) }
+    ensures told { OnOk result (HasClosed (map (λ agent. agent.now) agents.now) (file_lines read.now.site)
+        found.new.items) }
 {
     let exempt = exempt_patterns(alloc, &read.site)?;
-    warn_of_part(alloc, found, Part::Site, &exempt, agents, read)?;
-    warn_of_part(alloc, found, Part::Home, &exempt, agents, read)
+    let let_in = lets_in(alloc, &exempt, &read.site)?;
+    let sites = closed_sites(alloc, &exempt, let_in, &read.site, agents)?;
+    let homes = closed_homes(alloc, &exempt, let_in, &read.site, agents)?;
+    warn_of_lines(found, Cause::ClosesSite, Cause::ClosesEverything, sites)?;
+    warn_of_lines(found, Cause::ClosesHome, Cause::ClosesHomeToOthers, homes)?;
+    Ok(())
 }

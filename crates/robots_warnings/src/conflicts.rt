@@ -1,12 +1,11 @@
 //! Rules that contradict each other.
-ghost use Rattle.std.specs.Prelude.{◌≡◌, ◌==◌, ◌&&◌, ℕ, Bool, IfOk, List, None, OnOk, Some, codes, if◌then◌else◌, true};
-ghost use Rattle.std.specs.Prelude.{map, string_bytes};
-ghost use Rattle.std.specs.HashMap.{get_by_text};
-ghost use Rattle.std.specs.{BTreeMap.get, BTreeSet.contains, Option.option_or, Ordering.nat_cmp, Str.bytes_eq};
-ghost use Rattle.texting_robots.specs.Callers.{PlacedRule, file_lines};
-ghost use Rattle.robots_warnings.specs.Conflicts.{allow_beside, compared, conflict_among, first_line, is_like, line_if};
+ghost use Rattle.std.specs.Prelude.{◌≡◌, ◌==◌, ◌&&◌, ◌⊎◌, ℕ, Contains, IfOk, None, OnOk, Some, codes};
+ghost use Rattle.std.specs.Prelude.{if◌then◌else◌, map, not, string_bytes};
+ghost use Rattle.std.specs.{BTreeMap.get, BTreeSet.contains, Option.option_or, Ordering.nat_cmp};
+ghost use Rattle.texting_robots.specs.Callers.{file_lines};
+ghost use Rattle.robots_warnings.specs.Conflicts.{AreOpposed, compared, first_line, is_like};
 ghost use Rattle.robots_warnings.specs.Conflicts.{overruled_among, overruling};
-ghost use Rattle.robots_warnings.specs.Internal.Rules.{AreOf, HasFirst};
+ghost use Rattle.robots_warnings.specs.Internal.Rules.{AreOf};
 
 use crate::numbers::LineNumbers;
 use crate::own_rules::own_rules;
@@ -14,9 +13,9 @@ use std::alloc::{AllocError, Global};
 use std::collections::{BTreeMap, HashMap};
 use texting_robots::site::{Site, SiteRule};
 
-/// For a pattern, as it is compared, the line of the first Allow with it; or for a sitemap, the first line
-/// that lists it.
-pub(crate) type Lines = HashMap<String, usize>;
+/// For a pattern, as it is compared, the index of the first Allow of it; for a sitemap, the first line that
+/// lists it.
+pub(crate) type Places = HashMap<String, usize>;
 
 /// For the number of a line, another line that contradicts it.
 pub(crate) type Others = BTreeMap<usize, usize>;
@@ -31,46 +30,33 @@ fn compared_pattern(alloc: Global, rule: &SiteRule<'_>) -> Result<String, AllocE
     Ok(pattern)
 }
 
-pub(crate) fn add_first(lines: &mut Lines, pattern: String, number: usize) -> Result<(), AllocError>
-    ensures { OnOk result ((other : List ℕ) → get_by_text lines.new other
-        ≡ option_or (get_by_text lines.old other)
-        (if bytes_eq (string_bytes pattern) other then Some number else None)) }
-{
-    if !lines.contains_key(pattern.as_str()) {
-        lines.insert(pattern, number)?;
+pub(crate) fn add_first(places: &mut Places, text: String, place: usize) -> Result<(), AllocError> {
+    if !places.contains_key(text.as_str()) {
+        places.insert(text, place)?;
     }
     Ok(())
 }
 
-fn add_allow(
-    alloc: Global,
-    lines: &mut Lines,
-    rule: &SiteRule<'_>,
-    empty: &LineNumbers,
-) -> Result<(), AllocError>
-    ensures { OnOk result ((pattern : List ℕ) → get_by_text lines.new pattern
-        ≡ option_or (get_by_text lines.old pattern)
-        (line_if (is_like (contains nat_cmp empty.now) true pattern) rule.now)) }
+/// Whether the rule is an Allow other than an empty Disallow.
+fn is_stated_allow(rule: &SiteRule<'_>, empty: &LineNumbers) -> bool
+    ensures { result ≡ (rule.now.rule.1 && not (contains nat_cmp empty.now rule.now.line)) }
 {
-    if !rule.is_allow || empty.contains(&rule.line) {
-        return Ok(());
-    }
-    add_first(lines, compared_pattern(alloc, rule)?, rule.line)
+    rule.is_allow && !empty.contains(&rule.line)
 }
 
-/// For each pattern, the line of the first Allow with it, other than empty Disallows.
+/// The indexes of the first Allows with each pattern, other than empty Disallows.
 fn first_allows(
     alloc: Global,
     rules: &[SiteRule<'_>],
     empty: &LineNumbers,
-) -> Result<Lines, AllocError>
-    ensures { IfOk result (λ lines. HasFirst (contains nat_cmp empty.now) lines rules.now) }
-{
-    let mut lines = HashMap::new(alloc);
-    for rule in rules {
-        add_allow(alloc, &mut lines, rule, empty)?;
+) -> Result<Places, AllocError> {
+    let mut places = HashMap::new(alloc);
+    for (index, rule) in rules.iter().enumerate() {
+        if is_stated_allow(rule, empty) {
+            add_first(&mut places, compared_pattern(alloc, rule)?, index)?;
+        }
     }
-    Ok(lines)
+    Ok(places)
 }
 
 fn note(others: &mut Others, number: usize, other: Option<usize>) -> Result<(), AllocError>
@@ -86,22 +72,33 @@ fn note(others: &mut Others, number: usize, other: Option<usize>) -> Result<(), 
     Ok(())
 }
 
+/// The line of a Disallow's first Allow of the same, of these rules, if it isn't an empty Disallow.
+#[tactic(auto, using(crate::proofs::RuleLemmas::opposed))]
 fn allow_beside(
     alloc: Global,
-    allowed: &Lines,
+    allowed: &Places,
+    rules: &[SiteRule<'_>],
     rule: &SiteRule<'_>,
+    empty: &LineNumbers,
 ) -> Result<Option<usize>, AllocError>
-    ensures { IfOk result (λ other. (is_empty : ℕ → Bool) → (rules : List PlacedRule) → HasFirst is_empty allowed.now rules
-        → other ≡ allow_beside is_empty rules rule.now) }
+    requires { Contains rules.now rule.now }
+    ensures { IfOk result (λ other. (line : ℕ) → other ≡ Some line
+        → AreOpposed (contains nat_cmp empty.now) rules.now rule.now.line line) }
 {
-    if rule.is_allow {
-        return Ok(None);
-    }
-    if allowed.is_empty() {
+    if rule.is_allow || allowed.is_empty() {
         return Ok(None);
     }
     let pattern = compared_pattern(alloc, rule)?;
-    Ok(allowed.get(pattern.as_str()).copied())
+    let Some(index) = allowed.get(pattern.as_str()) else {
+        return Ok(None);
+    };
+    let Some(other) = rules.get(*index) else {
+        return Ok(None);
+    };
+    if is_stated_allow(other, empty) && compared_pattern(alloc, other)? == pattern {
+        return Ok(Some(other.line));
+    }
+    Ok(None)
 }
 
 #[tactic(auto, using(crate::proofs::RuleLemmas::slash_or_star))]
@@ -153,9 +150,9 @@ fn add_others(
     rules: &[SiteRule<'_>],
     empty: &LineNumbers,
 ) -> Result<(), AllocError>
-    ensures conflicts { OnOk result ((number : ℕ) → get nat_cmp conflicts.new number
-        ≡ option_or (get nat_cmp conflicts.old number)
-        (conflict_among (contains nat_cmp empty.now) rules.now number)) }
+    ensures conflicts { OnOk result ((number other : ℕ) → get nat_cmp conflicts.new number ≡ Some other
+        → (get nat_cmp conflicts.old number ≡ Some other)
+        ⊎ AreOpposed (contains nat_cmp empty.now) rules.now number other) }
     ensures overruled { OnOk result ((number : ℕ) → get nat_cmp overruled.new number
         ≡ option_or (get nat_cmp overruled.old number)
         (overruled_among (contains nat_cmp empty.now) rules.now number)) }
@@ -163,7 +160,7 @@ fn add_others(
     let allowed = first_allows(alloc, rules, empty)?;
     let other = overruling(rules, empty);
     for rule in rules {
-        let allow = allow_beside(alloc, &allowed, rule)?;
+        let allow = allow_beside(alloc, &allowed, rules, rule, empty)?;
         note(conflicts, rule.line, allow)?;
         let disallow = if_empty(rule, other, empty);
         note(overruled, rule.line, disallow)?;
@@ -186,7 +183,8 @@ pub(crate) fn rule_lines(
     agents: &[&str],
     empty: &LineNumbers,
 ) -> Result<RuleLines, AllocError>
-    ensures { IfOk result (AreOf (contains nat_cmp empty.now) (map (λ agent. agent.now) agents.now) (file_lines site.now)) }
+    ensures { IfOk result (AreOf (contains nat_cmp empty.now) (map (λ agent. agent.now) agents.now)
+        (file_lines site.now)) }
 {
     let mut conflicts = BTreeMap::new(alloc);
     let mut overruled = BTreeMap::new(alloc);

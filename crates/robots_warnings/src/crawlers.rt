@@ -6,7 +6,7 @@ ghost use Rattle.robots_warnings.specs.Crawlers.{crawlers, first_at_vendor, gets
 ghost use Rattle.robots_warnings.specs.Crawlers.{ignores_star, is_known, is_meant, is_near, is_row_of, meant};
 ghost use Rattle.robots_warnings.specs.Crawlers.{most_edits, name_at_vendor, name_for, other_group};
 ghost use Rattle.robots_warnings.specs.Crawlers.{value_at_vendor, wrong_names};
-ghost use Rattle.robots_warnings.specs.Internal.{Tells.AddsStyle, row_value};
+ghost use Rattle.robots_warnings.specs.Internal.{row_value};
 
 use crate::file::first;
 use crate::table::Cause;
@@ -334,9 +334,7 @@ fn warn_of_name<'a>(
     line: Option<usize>,
     about: Option<&'a str>,
     name: &[u8],
-) -> Result<(), AllocError>
-    ensures { OnOk result (AddsStyle found.old.items found.new.items) }
-{
+) -> Result<(), AllocError> {
     let Some(crawler) = meant(alloc, name)? else {
         return Ok(());
     };
@@ -359,9 +357,7 @@ pub(crate) fn warn_of_all_names<'a>(
     site: &Site,
     agents: &[&'a str],
     labels: &[LabeledLine<'_>],
-) -> Result<(), AllocError>
-    ensures { OnOk result (AddsStyle found.old.items found.new.items) }
-{
+) -> Result<(), AllocError> {
     for labeled in labels {
         let Line::UserAgent(name) = labeled.line else {
             continue;
@@ -382,9 +378,7 @@ fn warn_of_vendor(
     is_named: bool,
     number: usize,
     crawler: &Crawler,
-) -> Result<(), AllocError>
-    ensures { OnOk result (AddsStyle found.old.items found.new.items) }
-{
+) -> Result<(), AllocError> {
     let (name, group) = *crawler;
     let (cause, detail) = if group.is_empty() {
         (Cause::IgnoresStar, None)
@@ -408,9 +402,7 @@ pub(crate) fn warn_of_vendors(
     site: &Site,
     agents: &[&str],
     rows: &[Crawler],
-) -> Result<(), AllocError>
-    ensures { OnOk result (AddsStyle found.old.items found.new.items) }
-{
+) -> Result<(), AllocError> {
     for (number, crawler) in rows.iter().enumerate() {
         if !is_given(agents, crawler.0) || !gets_other(site, crawler.0, crawler.1) {
             continue;

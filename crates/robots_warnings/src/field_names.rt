@@ -1,9 +1,6 @@
 //! Field names: which one was probably intended in an ignored line, and what is unusual in a directive.
-ghost use Rattle.std.specs.Prelude.{◌≡◌, ◌≤◌, IfOk, IfSome, IsTrue, length};
-ghost use Rattle.std.specs.List.{list_all, position_or_len};
-ghost use Rattle.robots_warnings.specs.{Means.is_style, FieldNames.is_space_or_tab};
-ghost use Rattle.robots_warnings.specs.FieldNames.{trim_blanks_end};
-ghost use Rattle.robots_warnings.specs.FieldNames.{trim_blanks_start};
+ghost use Rattle.std.specs.Prelude.{◌≡◌, ◌≤◌, length};
+ghost use Rattle.robots_warnings.specs.FieldNames.{trim_blanks_end, trim_blanks_start};
 
 use crate::file::first;
 use crate::rules::{after_byte, before_byte, has, somewhere};
@@ -86,8 +83,7 @@ fn name_in<'a>(body: &'a [u8]) -> &'a [u8] {
 }
 
 fn word_len(text: &[u8]) -> usize
-    ensures value { result ≡ position_or_len is_space_or_tab text.now }
-    ensures within { result ≤ length text.now }
+    ensures { result ≤ length text.now }
 {
     text.iter()
         .take_while(|byte| !(**byte == b' ' || **byte == b'\t'))
@@ -138,10 +134,7 @@ fn may_mean(alloc: Global, name: &str, word: &[u8]) -> Result<bool, AllocError> 
     Ok(generic_levenshtein(alloc, &lowered, name.as_bytes())? <= 2)
 }
 
-fn first_in(names: &[(&str, Cause)], name: &[u8], word: &[u8]) -> Option<Cause>
-    requires { IsTrue (list_all (λ row. is_style row.1) names.now) }
-    ensures { IfSome result (λ cause. IsTrue (is_style cause)) }
-{
+fn first_in(names: &[(&str, Cause)], name: &[u8], word: &[u8]) -> Option<Cause> {
     for (known, cause) in names {
         if is_name(known, name) || is_name(known, word) {
             return Some(*cause);
@@ -164,10 +157,7 @@ fn directive_in(
     names: &[(&str, Cause)],
     name: &[u8],
     word: &[u8],
-) -> Result<Option<Cause>, AllocError>
-    requires { IsTrue (list_all (λ row. is_style row.1) names.now) }
-    ensures { IfOk result (λ found. IfSome found (λ cause. IsTrue (is_style cause))) }
-{
+) -> Result<Option<Cause>, AllocError> {
     for (known, cause) in names {
         if may_either_mean(alloc, name, word, known)? {
             return Ok(Some(*cause));
@@ -184,9 +174,7 @@ fn has_host(body: &[u8]) -> bool {
                 || matches!(*byte, b'-' | b'.' | b':')))
 }
 
-pub(crate) fn meant_by(alloc: Global, body: &[u8]) -> Result<Cause, AllocError>
-    ensures { IfOk result (λ cause. IsTrue (is_style cause)) }
-{
+pub(crate) fn meant_by(alloc: Global, body: &[u8]) -> Result<Cause, AllocError> {
     let (name, word) = (name_in(body), first_word(body));
     if somewhere(before_byte(b':', word), begins_unseen) {
         return Ok(Cause::UnseenInName);

@@ -2,6 +2,7 @@
 //! possibly the number of a line, and a message that states what to write instead.
 #![tactic(auto)]
 
+mod candidates;
 pub mod checks;
 pub mod closed;
 mod conflicts;
@@ -11,6 +12,7 @@ pub mod empty_disallows;
 pub mod facts;
 pub mod field_names;
 pub mod file;
+mod known;
 pub mod names;
 mod names_past_limit;
 mod numbers;

@@ -1,7 +1,7 @@
 //! Crawlers that a file names only past the size limit.
-ghost use Rattle.std.specs.Prelude.{◌≡◌, IfOk, map};
+ghost use Rattle.std.specs.Prelude.{All, IfOk, map};
 ghost use Rattle.texting_robots.specs.Callers.{by_value, label_by_value};
-ghost use Rattle.robots_warnings.specs.{File.lines_of, Crawlers.names_past_limit};
+ghost use Rattle.robots_warnings.specs.{File.lines_of, Crawlers.IsPastLimit};
 ghost use Rattle.robots_warnings.specs.Internal.Names.{AddsLine, HasNames};
 
 use crate::names::{Names, add_name};
@@ -11,7 +11,7 @@ use std::collections::BTreeSet;
 use texting_robots::labels::LabeledLine;
 use texting_robots::parser::{Line, file_lines};
 
-/// The result is whether the name of a user-agent line is new; `false` for other lines.
+/// Adds the name of a user-agent line. The result is whether it is new; `false` for other lines.
 fn insert_name(alloc: Global, names: &mut Names, line: Line<'_>) -> Result<bool, AllocError>
     ensures { IfOk result (λ is_new. AddsLine names.old names.new (by_value line.entry) is_new) }
 {
@@ -21,13 +21,14 @@ fn insert_name(alloc: Global, names: &mut Names, line: Line<'_>) -> Result<bool,
     }
 }
 
-#[tactic(auto, using(crate::proofs::SeenLemmas::read_more))]
 fn names_read(alloc: Global, labels: &[LabeledLine<'_>]) -> Result<Names, AllocError>
     ensures { IfOk result (λ names. HasNames names (lines_of (map label_by_value labels.now))) }
 {
     let mut names = BTreeSet::new(alloc);
-    for labeled in labels {
+    let mut rest = labels;
+    while let [labeled, after @ ..] = rest {
         insert_name(alloc, &mut names, labeled.line)?;
+        rest = after;
     }
     Ok(names)
 }
@@ -38,7 +39,8 @@ pub(crate) fn names_past_limit(
     file: &[u8],
     labels: &[LabeledLine<'_>],
 ) -> Result<Vec<usize>, AllocError>
-    ensures { IfOk result (λ found. found.items ≡ names_past_limit (lines_of (map label_by_value labels.now)) file.now) }
+    ensures { IfOk result (λ found. All (IsPastLimit (lines_of (map label_by_value labels.now)) file.now)
+        found.items) }
 {
     let mut names = names_read(alloc, labels)?;
     let mut found = Vec::new(alloc);

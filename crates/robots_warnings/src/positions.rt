@@ -1,13 +1,14 @@
 //! Conditions on the position of a line.
-ghost use Rattle.std.specs.Prelude.{◌≡◌, map};
+ghost use Rattle.std.specs.Prelude.{◌≡◌, IfOk, map};
 ghost use Rattle.texting_robots.specs.Callers.{by_value, label_by_value};
-ghost use Rattle.robots_warnings.specs.{File.lines_of, Positions.first_delay, Positions.is_other_delay};
-ghost use Rattle.robots_warnings.specs.Positions.{name_star, preceding_with};
+ghost use Rattle.robots_warnings.specs.Positions.{first_delay, is_above_agents, is_other_delay, later_delays};
 
 use crate::facts::has_text;
 use crate::field_names::begins_with;
 use crate::file::is_blank;
+use crate::numbers::push_if;
 use crate::rules::{has, somewhere};
+use std::alloc::{AllocError, Global};
 use texting_robots::labels::{LabeledLine, Membership};
 use texting_robots::parser::Line;
 
@@ -21,9 +22,7 @@ pub enum Preceding {
     Delay,
 }
 
-pub(crate) fn preceding_with(preceding: Preceding, line: Line<'_>) -> Preceding
-    ensures { result ≡ preceding_with preceding (by_value line.entry) }
-{
+pub(crate) fn preceding_with(preceding: Preceding, line: Line<'_>) -> Preceding {
     match line {
         Line::UserAgent(_) => Preceding::Agent,
         Line::Allow(_) | Line::Disallow(_) => Preceding::Other,
@@ -36,7 +35,7 @@ pub(crate) fn preceding_with(preceding: Preceding, line: Line<'_>) -> Preceding
 }
 
 /// `first` is the first delay of the group in the lines above this one.
-pub(crate) fn first_delay(first: Option<u64>, line: Line<'_>) -> Option<u64>
+fn first_delay(first: Option<u64>, line: Line<'_>) -> Option<u64>
     ensures { result ≡ first_delay first (by_value line.entry) }
 {
     match line {
@@ -120,15 +119,12 @@ fn begin_with_name(name: &[u8], labels: &[LabeledLine<'_>]) -> bool {
     false
 }
 
-pub(crate) fn name_star(labels: &[LabeledLine<'_>]) -> bool
-    ensures { result ≡ name_star (lines_of (map label_by_value labels.now)) }
-{
-    let mut rest = labels;
-    while let [labeled, after @ ..] = rest {
+pub(crate) fn name_star(labels: &[LabeledLine<'_>]) -> bool {
+    for labeled in labels {
         match labeled.line {
             Line::UserAgent(value) if value == b"*".as_slice() => return true,
             Line::Allow(_) | Line::Disallow(_) => return false,
-            _ => rest = after,
+            _ => {}
         }
     }
     false
@@ -185,13 +181,40 @@ pub(crate) fn is_split(
         }
 }
 
-pub(crate) fn is_other_delay(first: Option<u64>, labeled: &LabeledLine<'_>) -> bool
+fn is_other_delay(first: Option<u64>, labeled: &LabeledLine<'_>) -> bool
     ensures { result ≡ is_other_delay first (label_by_value labeled.now) }
 {
     match (first, labeled.line) {
         (Some(first), Line::CrawlDelay(Some(delay))) => {
             labeled.membership != Membership::Ungrouped && first != delay
         }
+        _ => false,
+    }
+}
+
+/// The numbers of the delays that differ from the first one of their group.
+pub(crate) fn later_delays(
+    alloc: Global,
+    labels: &[LabeledLine<'_>],
+) -> Result<Vec<usize>, AllocError>
+    ensures { IfOk result (λ found. found.items ≡ later_delays (map label_by_value labels.now)) }
+{
+    let mut found = Vec::new(alloc);
+    let mut first = None;
+    let mut rest = labels;
+    while let [labeled, after @ ..] = rest {
+        push_if(&mut found, is_other_delay(first, labeled), labeled.number)?;
+        first = first_delay(first, labeled.line);
+        rest = after;
+    }
+    Ok(found)
+}
+
+pub(crate) fn is_above_agents(labeled: &LabeledLine<'_>) -> bool
+    ensures { result ≡ is_above_agents (label_by_value labeled.now) }
+{
+    match labeled.line {
+        Line::Allow(_) | Line::Disallow(_) => labeled.membership == Membership::Ungrouped,
         _ => false,
     }
 }

@@ -1,10 +1,12 @@
 //! Rules that repeat a rule above them in their group.
-ghost use Rattle.std.specs.Prelude.{[], ◌≡◌, IfOk, map};
+ghost use Rattle.std.specs.Prelude.{[], ◌≡◌, All, Contains, IfOk, false, true, map};
 ghost use Rattle.texting_robots.specs.Callers.{by_value, label_by_value};
-ghost use Rattle.robots_warnings.specs.Internal.Values.{AddsLine, AddsRule, AddsValue, HasSeen};
+ghost use Rattle.texting_robots.specs.{Group.is_agent};
+ghost use Rattle.robots_warnings.specs.Internal.Values.{AddsLine, HasSeen};
 ghost use Rattle.robots_warnings.specs.Repeated.{is_checked, repeated};
 
 use crate::checks::is_in_scope_of;
+use crate::empty_disallows::is_empty_disallow;
 use crate::numbers::push_if;
 use crate::values::{Value, Values};
 use std::alloc::{AllocError, Global};
@@ -28,20 +30,14 @@ pub(crate) fn nothing<'a>(alloc: Global) -> Seen<'a>
     }
 }
 
-/// The result is whether the set had the value already.
-fn add_value<'a>(values: &mut Values<'a>, bytes: &'a [u8]) -> Result<bool, AllocError>
-    ensures { IfOk result (λ is. AddsValue values.old values.new bytes.now is) }
-{
-    Ok(!values.insert(Value { bytes })?)
-}
-
-/// The result is whether the line repeats a rule.
+/// The result is whether the line, if it begins no group, repeats a rule.
 pub(crate) fn add_rule<'a>(seen: &mut Seen<'a>, line: Line<'a>) -> Result<bool, AllocError>
-    ensures { IfOk result (λ is. AddsRule seen.old seen.new (by_value line.entry) is) }
+    ensures { is_agent (by_value line.entry) ≡ false
+        → IfOk result (λ is. AddsLine seen.old seen.new (by_value line.entry) is) }
 {
     match line {
-        Line::Allow(value) => add_value(&mut seen.allows, value),
-        Line::Disallow(value) => add_value(&mut seen.disallows, value),
+        Line::Allow(bytes) => Ok(!seen.allows.insert(Value { bytes })?),
+        Line::Disallow(bytes) => Ok(!seen.disallows.insert(Value { bytes })?),
         _ => Ok(false),
     }
 }
@@ -65,21 +61,39 @@ fn is_checked(all_groups: bool, membership: Membership) -> bool
     is_in_scope_of(all_groups, membership) && membership != Membership::Ungrouped
 }
 
-/// The numbers of the rules that are checked and repeat a rule above them in their group.
-#[tactic(auto, using(crate::proofs::SeenLemmas::found_next))]
+/// An Allow of `/` that is written as such: an empty Disallow is read as one, but is no rule for others.
+fn is_written_allow(labeled: &LabeledLine<'_>) -> bool {
+    matches!(labeled.line, Line::Allow([b'/'])) && !is_empty_disallow(labeled.line, labeled.body)
+}
+
+/// Whether this repeats a rule and is checked, and isn't an Allow of `/` that repeats only empty Disallows.
+fn is_reported(all_groups: bool, repeats: bool, has_allow: bool, labeled: &LabeledLine<'_>) -> bool
+    ensures { result ≡ true → (repeats ≡ true) × (is_checked all_groups labeled.now.membership ≡ true) }
+{
+    repeats
+        && is_checked(all_groups, labeled.membership)
+        && (has_allow || !is_written_allow(labeled))
+}
+
+/// The numbers of rules that are checked and repeat a rule above them in their group.
+#[tactic(auto, using(crate::proofs::RepeatedLemmas::found_next))]
 pub(crate) fn repeated(
     alloc: Global,
     all_groups: bool,
     labels: &[LabeledLine<'_>],
 ) -> Result<Vec<usize>, AllocError>
-    ensures { IfOk result (λ found. found.items ≡ repeated all_groups (map label_by_value labels.now)) }
+    ensures { IfOk result
+        (λ found. All (Contains (repeated all_groups (map label_by_value labels.now))) found.items) }
 {
     let mut seen = nothing(alloc);
     let mut found = Vec::new(alloc);
+    let mut has_allow = false;
     for labeled in labels {
         let repeats = add_line(alloc, &mut seen, labeled.line)?;
-        let is = is_checked(all_groups, labeled.membership) && repeats;
+        let is = is_reported(all_groups, repeats, has_allow, labeled);
         push_if(&mut found, is, labeled.number)?;
+        let is_group = matches!(labeled.line, Line::UserAgent(_));
+        has_allow = is_written_allow(labeled) || has_allow && !is_group;
     }
     Ok(found)
 }

@@ -1,11 +1,10 @@
 //! Groups of crawlers that have none of the Disallow rules of `*`.
-ghost use Rattle.std.specs.Prelude.{All, Contains, ◌≡◌, ◌||◌, ◌&&◌, Bool, IfOk, List, OnOk, bytes_eq, count_by, map, not, ℕ};
-ghost use Rattle.std.specs.{BTreeSet.contains, HashSet.contains_text, List.list_any};
-ghost use Rattle.std.specs.{Str.str_to_ascii_lowercase};
-ghost use Rattle.texting_robots.specs.Callers.{LineValue, by_value, file_lines, label_by_value};
-ghost use Rattle.texting_robots.specs.{Group.is_member};
-ghost use Rattle.robots_warnings.specs.Closed.{denies, is_lacking, is_partial, is_replacing, lacks_all};
-ghost use Rattle.robots_warnings.specs.Closed.{replacing, star_rules};
+ghost use Rattle.std.specs.Prelude.{All, ◌≡◌, ◌||◌, ◌&&◌, Bool, IfOk, List, OnOk, bytes_eq, count_by, map};
+ghost use Rattle.std.specs.Prelude.{not, true, ℕ};
+ghost use Rattle.std.specs.{BTreeSet.contains, HashSet.contains_text, Str.str_to_ascii_lowercase};
+ghost use Rattle.texting_robots.specs.Callers.{LineValue, file_lines, label_by_value};
+ghost use Rattle.robots_warnings.specs.Closed.{IsReplacing, denies, is_lacking, lacks_all, name_lacking};
+ghost use Rattle.robots_warnings.specs.Closed.{star_rules};
 ghost use Rattle.robots_warnings.specs.{File.lines_of, Positions.begin_with_one};
 ghost use Rattle.robots_warnings.specs.Internal.Names.{Key, key_cmp};
 ghost use Rattle.robots_warnings.specs.Internal.Rules.{HasDenied, HasThose, is_kept_in};
@@ -29,19 +28,16 @@ pub(crate) fn disallow_count(rules: &[SiteRule<'_>]) -> usize
     rules.iter().filter(|rule| !rule.is_allow).count()
 }
 
-#[tactic(auto, using(crate::proofs::ClosedLemmas::whole_site_escaped))]
-fn is_partial(rule: &SiteRule<'_>) -> bool
-    ensures { result ≡ is_partial rule.now }
-{
+fn is_partial(rule: &SiteRule<'_>) -> bool {
     !rule.is_allow && !is_whole_site(rule.value.as_bytes())
 }
 
-fn has_partial(rules: &[SiteRule<'_>]) -> bool
-    ensures { result ≡ list_any is_partial rules.now }
-{
+/// Whether some Disallow isn't of the whole site. If none is, letting some crawlers in seems intended.
+fn has_partial(rules: &[SiteRule<'_>]) -> bool {
     rules.iter().any(is_partial)
 }
 
+#[tactic(auto, using(crate::proofs::RuleLemmas::denied_added))]
 fn add_denied(alloc: Global, denied: &mut Patterns, rule: &SiteRule<'_>) -> Result<(), AllocError>
     ensures { OnOk result ((pattern : List ℕ) → contains_text denied.new pattern
         ≡ (contains_text denied.old pattern || denies pattern rule.now)) }
@@ -95,7 +91,8 @@ fn add_lacking(
 ) -> Result<(), AllocError>
     requires { HasDenied denied.now (star_rules (file_lines site.now)) }
     ensures { OnOk result ((key : Key) → contains key_cmp names.new key ≡ (contains key_cmp names.old key
-        || (lacks_all (file_lines site.now) agent.now && bytes_eq (str_to_ascii_lowercase agent.now) key.items))) }
+        || (lacks_all (file_lines site.now) agent.now
+        && bytes_eq (str_to_ascii_lowercase agent.now) key.items))) }
 {
     if lacks_all(alloc, site, denied, agent)? {
         add_name(alloc, names, agent.as_bytes())?;
@@ -111,12 +108,15 @@ fn lacking(
     agents: &[&str],
 ) -> Result<Names, AllocError>
     requires { star.now ≡ star_rules (file_lines site.now) }
-    ensures { IfOk result (λ names. HasThose names (is_lacking (map (λ agent. agent.now) agents.now) (file_lines site.now))) }
+    ensures { IfOk result (λ names. HasThose names
+        (is_lacking (map (λ agent. agent.now) agents.now) (file_lines site.now))) }
 {
     let denied = denied_patterns(alloc, star)?;
     let mut names = BTreeSet::new(alloc);
-    for agent in agents {
+    let mut rest = agents;
+    while let [agent, after @ ..] = rest {
         add_lacking(alloc, &mut names, site, &denied, agent)?;
+        rest = after;
     }
     Ok(names)
 }
@@ -127,7 +127,8 @@ fn begin_with_one(
     labels: &[LabeledLine<'_>],
 ) -> Result<bool, AllocError>
     ensures { IfOk result (λ is. (test : List ℕ → Bool) → HasThose names.now test
-        → is ≡ begin_with_one (λ name. test (str_to_ascii_lowercase name)) (lines_of (map label_by_value labels.now))) }
+        → is ≡ begin_with_one (λ name. test (str_to_ascii_lowercase name))
+        (lines_of (map label_by_value labels.now))) }
 {
     let mut rest = labels;
     while let [labeled, after @ ..] = rest {
@@ -146,34 +147,32 @@ fn begin_with_one(
     Ok(false)
 }
 
-fn is_in_group(labeled: &LabeledLine<'_>) -> bool
-    ensures { result ≡ is_member (by_value labeled.now.line) }
-{
+fn is_in_group(labeled: &LabeledLine<'_>) -> bool {
     matches!(
         labeled.line,
         Line::Allow(_) | Line::Disallow(_) | Line::CrawlDelay(_)
     )
 }
 
-fn have_group(labels: &[LabeledLine<'_>]) -> bool
-    ensures { result ≡ list_any (λ labeled. is_member (by_value labeled.line)) labels.now }
-{
+fn have_group(labels: &[LabeledLine<'_>]) -> bool {
     labels.iter().any(is_in_group)
 }
 
-#[tactic(auto, using(crate::proofs::RuleLemmas::groups_among))]
+/// Whether a group that has a rule or a delay begins here, which names such a crawler and not `*`.
 fn is_replacing(
     alloc: Global,
     names: &Names,
     preceding: Preceding,
-    line: Line<'_>,
     from_here: &[LabeledLine<'_>],
 ) -> Result<bool, AllocError>
     ensures { IfOk result (λ is. (agents : List (List ℕ)) → (lines : List LineValue)
-        → HasThose names.now (is_lacking agents lines)
-        → is ≡ is_replacing agents lines preceding (by_value line.entry) (lines_of (map label_by_value from_here.now))) }
+        → HasThose names.now (is_lacking agents lines) → is ≡ true
+        → name_lacking agents lines (lines_of (map label_by_value from_here.now)) ≡ true) }
 {
-    let is_first = matches!(line, Line::UserAgent(_)) && preceding != Preceding::Agent;
+    let [labeled, ..] = from_here else {
+        return Ok(false);
+    };
+    let is_first = matches!(labeled.line, Line::UserAgent(_)) && preceding != Preceding::Agent;
     if !is_first || !have_group(from_here) {
         return Ok(false);
     }
@@ -201,8 +200,8 @@ pub(crate) fn replacing(
     labels: &[LabeledLine<'_>],
 ) -> Result<Vec<usize>, AllocError>
     requires { star.now ≡ star_rules (file_lines site.now) }
-    ensures { IfOk result (λ found. All (Contains (replacing (map (λ agent. agent.now) agents.now) (file_lines site.now)
-        (map label_by_value labels.now))) found.items) }
+    ensures { IfOk result (λ found. All (IsReplacing (map (λ agent. agent.now) agents.now)
+        (file_lines site.now) (lines_of (map label_by_value labels.now))) found.items) }
 {
     let mut found = Vec::new(alloc);
     if !has_partial(star) {
@@ -213,12 +212,10 @@ pub(crate) fn replacing(
     }
     let names = lacking(alloc, site, star, agents)?;
     let mut preceding = Preceding::Other;
-    let mut rest = labels;
-    while let [labeled, after @ ..] = rest {
-        let is = is_replacing(alloc, &names, preceding, labeled.line, rest)?;
-        push_if(&mut found, is, labeled.number)?;
+    for (index, labeled) in labels.iter().enumerate() {
+        let is = is_replacing(alloc, &names, preceding, &labels[index..])?;
+        push_if(&mut found, is, index + 1)?;
         preceding = preceding_with(preceding, labeled.line);
-        rest = after;
     }
     Ok(found)
 }

@@ -2,7 +2,7 @@
 //! what happens, and what to do, an example, the example without the warning, and for `--explain` when it is given.
 //! The last two may be empty: a condition is with the first warning of a name.
 
-pub(crate) const COUNT: usize = 97;
+pub(crate) const COUNT: usize = 98;
 
 /// The rows, for a macro that takes a column of them.
 #[rattlefmt::skip]
@@ -36,10 +36,10 @@ macro_rules! every_row {
                 "Disallow: /\\{512000 a}" ""
                 "the file has more than 512,000 bytes",
             NoUserAgent Warning "no-user-agent"
-                "there are rules but no User-agent line; valid rules are applied here, but Google ignores them; add User-agent: * above them"
+                "rules are read, but no User-agent line; valid rules are applied here, but Google ignores them; add User-agent: * above them"
                 "Disallow: /a\nDisallow: /b"
                 "User-agent: *\nDisallow: /a\nDisallow: /b"
-                "the file has a rule, but no User-agent line",
+                "a rule is read, but no User-agent line",
             DamagedByteOrderMark Warning "damaged-byte-order-mark"
                 "the file starts with the byte EF, BB or BF, as a damaged byte order mark does; it is skipped here, but other crawlers may not recognize the first line; delete it, and save the file as UTF-8"
                 "\\xEF\\xBBAllow: /"
@@ -107,7 +107,7 @@ macro_rules! every_row {
                 "User-agent: *\n# hello"
                 "the field name of an ignored line is Comment",
             LikeUserAgent Error "unrecognized-line"
-                "the line is ignored, so the rules below it, if any, are part of the group above, and this crawler doesn't get them; did you mean \"User-agent:\"?"
+                "the line is ignored, so it begins no group, and the rules below it, if any, go where the lines above it lead; did you mean \"User-agent:\"?"
                 "User-agent: *\nUser-agnet: a"
                 "User-agent: *\nUser-agent: a\nDisallow: /b"
                 "the line is neither blank nor a comment, and has no known field name; a name is suggested if the text before the colon is Agent, Allowed or Disallowed, or it or the first word begins with the name, with at most one letter more (for Allow and Disallow also - or _), or differs from it in at most two bytes; an invisible character in the name, or = in place of the colon, is named",
@@ -164,12 +164,12 @@ macro_rules! every_row {
                 "User-agent: MJ12bot\nDisallow: /a" ""
                 "the name isn't a product token, but like names that crawlers have: ASCII letters, digits, _, -, dots and spaces, possibly with a single * at the end",
             HashLeavesRoot Error "hash-cuts-rule"
-                "everything from # on is a comment, so what is left of the rule is the whole site, or an empty Disallow, which allows it; rules can't be about the part of a URL after #; write %23 if a path has one, or a space before a comment"
+                "everything from # on is a comment, so what is left of the rule is the whole site, or an empty Disallow, an Allow of / here; rules can't be about the part of a URL after #; write %23 if a path has one, or a space before a comment"
                 "User-agent: *\nDisallow: /#/admin"
                 "User-agent: *\nDisallow: /%23/admin"
                 "a # directly follows a byte of the value of a rule with a colon, or a comment that begins with #/, #!/ or # and a letter or digit is in place of a value; it is an error if the whole site or, before #/ or #!/, an empty Disallow is left; it isn't given if an empty Allow is left, or what is left has an error of its own",
             HashEmptiesRule Warning "hash-cuts-rule"
-                "the # begins a comment, so nothing is left of the rule, and an empty Disallow allows everything; write a path, without a fragment, or a space after the # of a comment"
+                "the # begins a comment, so nothing is left of the rule, and an empty Disallow is an Allow of / here; write a path, without a fragment, or a space after the # of a comment"
                 "User-agent: *\nDisallow: #top"
                 "User-agent: *\nDisallow: # top" "",
             HashCutsRule Warning "hash-cuts-rule"
@@ -177,7 +177,7 @@ macro_rules! every_row {
                 "User-agent: *\nDisallow: /a#b"
                 "User-agent: *\nDisallow: /a # b" "",
             RuleNotUtf8 Warning "rule-not-utf-8"
-                "the rule isn't valid UTF-8 and is ignored; save the file as UTF-8"
+                "the rule isn't valid UTF-8, so it matches nothing and only ends the list of names above it, if any; save the file as UTF-8"
                 "User-agent: *\nDisallow: /\\xE9"
                 "User-agent: *\nDisallow: /%C3%A9"
                 "the value of a rule isn't UTF-8",
@@ -185,13 +185,13 @@ macro_rules! every_row {
                 "the rule matches no path, since = isn't a colon, but the start of its value; write, for example, \"Disallow: /path\""
                 "User-agent: *\nDisallow = /a"
                 "User-agent: *\nDisallow: /a"
-                "the value of a rule begins with neither / nor *, unless it looks like a URL or a regular expression, or has quotes",
+                "the value of a rule begins with neither / nor *, unless it looks like a URL or a regular expression, or gives quoted-rule",
             MissingSlash Error "missing-slash"
                 "the rule doesn't start with / or *, so it matches no path; add a leading /, or /* if it may come later in the path"
                 "User-agent: *\nDisallow: search"
                 "User-agent: *\nDisallow: /search" "",
             UrlInPath Warning "url-as-rule"
-                "the rule matches only paths that begin so, with a slash and a URL or a host; if that isn't meant, keep only the part after the host, for example: /search"
+                "what looks like a URL or a host follows a slash, so the rule matches only paths that begin so; if that isn't meant, keep only the part after the host, for example: /search"
                 "User-agent: *\nDisallow: /https://example.com/a"
                 "User-agent: *\nDisallow: /a"
                 "as an error: the value of a rule begins with http:// or https://; as a warning: such a text, or a host name with a dot and a slash, follows a slash at its start",
@@ -212,7 +212,7 @@ macro_rules! every_row {
                 "the quote at the end is treated as part of the path, so the rule matches only paths with it; remove it, unless that is meant"
                 "User-agent: *\nDisallow: /a\\xE2\\x80\\x9D"
                 "User-agent: *\nDisallow: /a"
-                "as an error: the value of a rule begins with a quote, also a typographic one, or with a straight one and ends with it; as a warning: its last character is its only typographic quote",
+                "as an error: the value of a rule begins with a typographic quote, or begins and ends with the same straight one; as a warning: its last character is its only typographic quote",
             QuotedRule Error "quoted-rule"
                 "the quotes are treated as part of the path, so the rule won't match; remove them"
                 "User-agent: *\nDisallow: \"/a\""
@@ -221,7 +221,7 @@ macro_rules! every_row {
                 "this looks like a regular expression, which robots.txt doesn't support, and it doesn't start with / or *, so it matches no path; write what paths start with, with * for any characters, and a final $ for the end of the URL, for example: /admin"
                 "User-agent: *\nDisallow: ^/admin"
                 "User-agent: *\nDisallow: /admin"
-                "a rule has a bracket with a range such as [a-z], .* at its start, after / or ( or before $, ^ at its start, (?, \\ before a letter or digit, a final + after a dot, ] or ), or (, a vertical bar and ) in this order; or ??; without the latter, it is an error if the rule begins with neither / nor *",
+                "a rule has a bracket with a range such as [a-z], .* at its start, after / or ( or before $, ^ at its start, (?, \\ before a letter or digit, a final + after a dot, ] or ), or (, a vertical bar and ) in this order; or ??; without the latter, it is an error if the rule begins with neither / nor *, and gives neither url-as-rule nor quoted-rule",
             QuestionMarks Warning "regex-syntax"
                 "a ? stands for itself in robots.txt, so ?? matches only two of them; use * for any characters"
                 "User-agent: *\nDisallow: /product-??"
@@ -250,7 +250,7 @@ macro_rules! every_row {
                 "User-agent: *\nDisallow: /a*b"
                 "a rule has %2A or %24, hexadecimal digits in any case",
             EscapedDelimiter Note "escaped-delimiter"
-                "the rule has an escaped delimiter, such as %2F or %3A; here it doesn't match URLs with the plain character, but in some crawlers it may; if these are meant too, add a rule for them"
+                "the rule has an escaped delimiter, such as %2F or %3A; here it doesn't match URLs with the plain character in its place, but in some crawlers it may; if these are meant too, add a rule for them"
                 "User-agent: *\nDisallow: /a%2Fb"
                 "User-agent: *\nDisallow: /a%2Fb\nDisallow: /a/b"
                 "a rule has an escape of one of :/?[]@!&()+,;= ; not if the group has the rule of the same kind with the plain characters, too: /a%2Fb and /a/b",
@@ -292,7 +292,7 @@ macro_rules! every_row {
                 "User-agent: *\nDisallow: /a\nSitemap: https://example.com/s.xml"
                 "the value of a sitemap isn't an http(s) URL that can be parsed",
             SitemapHost Warning "sitemap-host"
-                "the sitemap is at no public host (there is none, an IP address, localhost, undefined or null), so search engines may not fetch it; write the site's own, for example: https://example.com/sitemap.xml"
+                "the sitemap's host isn't a public name (it is missing, an IP address, localhost, undefined or null), so search engines may not fetch it; write the site's own, for example: https://example.com/sitemap.xml"
                 "User-agent: *\nSitemap: http://localhost/s.xml"
                 "User-agent: *\nDisallow: /a\nSitemap: https://example.com/s.xml"
                 "the host of an absolute http(s) URL is an IP address, localhost, undefined or null, or the URL has a third slash in place of a host",
@@ -302,7 +302,7 @@ macro_rules! every_row {
                 "Sitemap: https://example.com/s.xml"
                 "a # directly follows the value of a sitemap with a colon",
             SitemapDenied Note "sitemap-denied"
-                "a rule for * denies this sitemap, if it is on the host of this file, so crawlers aren't allowed to fetch it; allow it by a longer Allow, or correct the rule"
+                "a rule for * denies this sitemap, if it is on the host of this file, so crawlers without a group aren't allowed to fetch it; allow it by a longer Allow, or correct the rule"
                 "User-agent: *\nDisallow: /s\nSitemap: https://example.com/s.xml"
                 "User-agent: *\nDisallow: /s\nAllow: /s.xml\nSitemap: https://example.com/s.xml"
                 "the value of a sitemap is an http(s) URL that can be parsed, and a rule for * denies its path and query; not if the whole site is closed to * or the file is rejected for it; its host isn't compared with that of the file, which isn't known; the number is the line of that rule",
@@ -310,7 +310,10 @@ macro_rules! every_row {
                 "a line above lists the same sitemap, so this one changes nothing; delete it, or correct it if another sitemap is meant"
                 "Sitemap: https://example.com/s.xml\nSitemap: https://example.com/s.xml"
                 "Sitemap: https://example.com/s.xml"
-                "the value of a sitemap, in UTF-8, is that of one above it anywhere in the file; the number is the first such line",
+                "the value of a sitemap, in UTF-8, is that of one above it anywhere in the file; the number is the first such line; in a file of more than 512,000 bytes the message doesn't propose a deletion, since more of the file would be read then",
+            RepeatedSitemapPastLimit Note "repeated-sitemap"
+                "a line above lists the same sitemap, so this one changes nothing"
+                "Sitemap: https://example.com/s.xml\nSitemap: https://example.com/s.xml\n\\{512000 #}" "" "",
             OneLine Error "one-line"
                 "another field name follows in the same line, where it isn't recognized; write each User-agent, Allow, Disallow, Crawl-delay and Sitemap on a line of its own"
                 "User-agent: * Disallow: /"
@@ -336,7 +339,7 @@ macro_rules! every_row {
                 "User-agent: *\nDisallow: /a"
                 "no rule and no delay follows a User-agent line",
             DelayAboveStar Note "delay-splits-group"
-                "only a Crawl-delay ends the group above, so it has none of the rules of * below; crawlers that ignore the delay, such as Google's, apply these to that group too; add to it those meant for it, or, if its names have no other group, an empty Disallow"
+                "only a Crawl-delay ends the group above, so names that only it has get none of the rules of * below; crawlers that ignore the delay, such as Google's, apply these to that group too; add to it those meant for it, or, if its names have no other group, an empty Disallow"
                 "User-agent: a\nCrawl-delay: 1\nUser-agent: *\nDisallow: /b"
                 "User-agent: a\nCrawl-delay: 1\nDisallow: /b\nUser-agent: *\nDisallow: /b"
                 "only delays are between a User-agent line and one above it, and the lower group has rules; not if the only name above is in the lower group, too; it is a note if that group is the one of *",
@@ -367,34 +370,34 @@ macro_rules! every_row {
                 "the delay differs from one above it in the same group, so it isn't used here, but other crawlers may use it; delete all but one"
                 "User-agent: *\nCrawl-delay: 1\nCrawl-delay: 2"
                 "User-agent: *\nCrawl-delay: 1"
-                "the delay differs from the first one below the same User-agent lines; in a file of more than 512,000 bytes the message doesn't propose a deletion, since more of the file would be read then",
+                "the delay differs from the first one below the same User-agent lines, or in a file without any; in a file of more than 512,000 bytes the message doesn't propose a deletion, since more of the file would be read then",
             TwoDelaysPastLimit Warning "two-delays"
                 "the delay differs from one above it in the same group, so it isn't used here, but other crawlers may use it"
                 "User-agent: *\nCrawl-delay: 1\nCrawl-delay: 2\n\\{512000 #}" "" "",
             IgnoredDelay Note "ignored-delay"
-                "the crawler of this group ignores Crawl-delay; delete the line, and see its vendor's help for how to slow it down"
+                "the crawler of this group probably ignores Crawl-delay; see its vendor's help for how to slow it down"
                 "User-agent: Googlebot\nCrawl-delay: 10"
                 "User-agent: Googlebot\nDisallow: /a"
-                "a valid delay below a User-agent line that is the only one since the last rule, and whose name contains google or yandex",
+                "a valid delay below a User-agent line whose name contains google or yandex; no other one is between that line and the last rule above it",
             ClosesSite Warning "closes-everything"
-                "may fetch nothing, or at most the home page and files such as sitemaps or style sheets; if search engines should read the site, delete this rule or add a longer Allow"
+                "may fetch nothing, or only what Allows for the home page, sitemaps or files such as style sheets match; if search engines should read the site, delete this rule or add a longer Allow"
                 "User-agent: *\nDisallow: /"
                 "User-agent: *\nDisallow: /private/"
-                "a Disallow matches every path, and no Allow at least as long opens more than /$, /robots.txt, sitemaps, static files, or what begins with /.well-known or /sitemap; not if the vendor applies another group, or the name gives misspelled-name. A warning for large search engines, and for * and crawlers without a group if no group lets a large search engine in; else a note",
+                "a Disallow matches every path, and each Allow at least as long is /$, /robots.txt or the path of a sitemap of the file, begins with /.well-known or /sitemap, ends as static files do (/*.js, which also matches /a.jsp), or matches no path; not if the vendor applies another group, or the name gives misspelled-name. A warning for large search engines, and for * and crawlers without a group if no group lets a large search engine in; else a note",
             ClosesEverything Note "closes-everything"
-                "may fetch nothing, or at most the home page and files such as sitemaps or style sheets; if that isn't meant, delete this rule or add a longer Allow"
+                "may fetch nothing, or only what Allows for the home page, sitemaps or files such as style sheets match; if that isn't meant, delete this rule or add a longer Allow"
                 "User-agent: GPTBot\nDisallow: /"
                 "User-agent: GPTBot\nDisallow: /\nAllow: /public/" "",
             ClosesHome Warning "closes-home-page"
-                "may fetch only what this rule doesn't match or a longer Allow names, so not the home page; if search engines should read that, delete this rule or add a longer Allow"
+                "may fetch only what this rule doesn't match or an Allow at least as long names, so not the home page; if search engines should read that, delete this rule or add a longer Allow"
                 "User-agent: *\nDisallow: /\nAllow: /blog/"
                 "User-agent: *\nDisallow: /\nAllow: /$\nAllow: /blog/"
-                "a Disallow of *, of a crawler without a group of its own or of a large search engine matches the path /, each Allow that matches it is shorter, and closes-everything isn't given for the crawler; lines count as there; it is a note if none of the crawlers is a large search engine, and a group of its own leaves the site open to one",
+                "a Disallow of *, of a crawler without a group of its own or of a large search engine matches the path /, each Allow that matches it is shorter, and closes-everything isn't given for the crawler; lines count as there; it is a note if none of the crawlers is a large search engine, and a group of its own doesn't close the whole site to one",
             ClosesHomeToOthers Note "closes-home-page"
-                "may fetch only what this rule doesn't match or a longer Allow names, so not the home page, but a large search engine may fetch the site; if that isn't meant, delete this rule or add a longer Allow"
+                "may fetch only what this rule doesn't match or an Allow at least as long names, so not the home page, but a large search engine has a group that doesn't close the whole site; if that isn't meant, delete this rule or add a longer Allow"
                 "User-agent: Googlebot\nAllow: /\nUser-agent: *\nDisallow: /$" "" "",
             ReplacesStar Note "replaces-star"
-                "the group has none of the Disallow rules of *, and a crawler with a group of its own doesn't get them; repeat in this group those that should apply to it"
+                "the group has none of the Disallow rules of *, and a crawler that a group names gets only the rules of such groups; repeat in this group those that should apply to it"
                 "User-agent: *\nDisallow: /a\nUser-agent: FerrisBot\nDisallow: /b"
                 "User-agent: *\nDisallow: /a\nUser-agent: FerrisBot\nDisallow: /a\nDisallow: /b"
                 "a crawler of a group has none of the Disallow rules of *, in any of its groups, and no rule for the whole site, while * has a Disallow for a part of the site; not if only a Crawl-delay is between the group and that of * below; the number is how many Disallows * has",
@@ -402,7 +405,7 @@ macro_rules! every_row {
                 "the same rule is above in the same group, so this one decides no verdict; delete it, or correct it if another path is meant"
                 "User-agent: *\nDisallow: /a\nDisallow: /a"
                 "User-agent: *\nDisallow: /a"
-                "the same rule is above it below the same User-agent lines; an empty Disallow counts as the Allow of / that it means here, so keep an Allow of / below one if there is a Disallow of /, since other crawlers need it; in a file of more than 512,000 bytes the message doesn't propose a deletion, since more of the file would be read then",
+                "the same rule is above it, below the same User-agent lines, or in a file without any; an empty Disallow repeats an Allow of /, as it means that here, but an Allow of / doesn't repeat an empty Disallow, which is no rule for other crawlers; in a file of more than 512,000 bytes the message doesn't propose a deletion, since more of the file would be read then",
             RepeatedPastLimit Note "repeated-rule"
                 "the same rule is above in the same group, so this one decides no verdict"
                 "User-agent: *\nDisallow: /a\nDisallow: /a\n\\{512000 #}" "" "",
@@ -419,7 +422,7 @@ macro_rules! every_row {
                 "the crawler has no group of its own, so its vendor applies that of another one, which may not be the one that is reported here; check the report on that one, or add a group"
                 "# robots_audit robots.txt --agent Googlebot-News\nUser-agent: Googlebot\nDisallow: /a"
                 "# robots_audit robots.txt --agent Googlebot-News\nUser-agent: Googlebot\nUser-agent: Googlebot-News\nDisallow: /a"
-                "a crawler of the report is known to get the group of another one from its vendor, if it has none of its own, and the file names that one, but not this one; a line names a crawler if the letters, _ and - that its value begins with are the name",
+                "a crawler of the report is known to get the group of another one from its vendor, if it has none of its own, and the file names that one, but not this one; a line names a crawler if the letters, _ and - that its value begins with are the name; only the first such line is looked at, and none if a line has exactly the crawler's name",
             IgnoresStar Note "ignores-star"
                 "the crawler has no group of its own, and its vendor doesn't apply the group of * to it, so it may fetch everything; add a group for it"
                 "# robots_audit robots.txt --agent AdsBot-Google\nUser-agent: *\nDisallow: /a"
@@ -429,7 +432,7 @@ macro_rules! every_row {
                 "another rule matches everything that this one matches and takes precedence, so this one never decides for a crawler that gets both, and no other crawler needs it; correct it if it should decide, or delete all needless rules"
                 "# robots_audit robots.txt --needless\nUser-agent: *\nDisallow: /*b\nDisallow: /b"
                 "# robots_audit robots.txt --needless\nUser-agent: *\nDisallow: /*b"
-                "with --needless: no verdict changes if all these rules are deleted, but one may if only some are; that groups could be joined isn't looked for. Allow: / and empty Disallows stay. None is given if the file has over 512,000 bytes or is rejected for a crawler. Crawlers that apply the first matching rule, or read an empty Disallow otherwise, may need them, so mend empty-disallow first",
+                "with --needless: no verdict changes here if all these rules are deleted, but one may if only some are; that groups could be joined isn't looked for. Allow: / and empty Disallows stay. None is given if the file has over 512,000 bytes or is rejected for a crawler. Crawlers that apply the first matching rule, read an empty Disallow otherwise, compare normal forms of escapes, ignore delays, or join groups such as those of Googlebot and Googlebot/2.1, may need them, so mend empty-disallow first",
             MatchesNothing Note "needless-rule"
                 "this rule matches nothing, except perhaps /robots.txt, which is always allowed; correct it, or delete all needless rules"
                 "# robots_audit robots.txt --needless\nUser-agent: *\nDisallow: /a\nDisallow: /$b"

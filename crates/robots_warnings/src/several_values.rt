@@ -1,6 +1,4 @@
 //! Values of a rule or a sitemap that seem to be several ones.
-ghost use Rattle.std.specs.Prelude.{IsTrue};
-ghost use Rattle.robots_warnings.specs.Means.{is_style};
 
 use crate::rules::{from_first, somewhere};
 use crate::table::Cause;
@@ -51,9 +49,7 @@ fn begins_next_value(text: &[u8]) -> bool {
 }
 
 /// The rest of the value seems to begin the next one.
-fn cause_of(rest: &[u8]) -> Cause
-    ensures { IsTrue (is_style result) }
-{
+fn cause_of(rest: &[u8]) -> Cause {
     if begins_list(rest) {
         Cause::CommaInValue
     } else if begins_tag(rest) {
@@ -66,9 +62,7 @@ fn cause_of(rest: &[u8]) -> Cause
 }
 
 /// Whether the value seems to be several ones, and the warning for it.
-pub(crate) fn several_values(value: &[u8]) -> (Cause, bool)
-    ensures { IsTrue (is_style result.0) }
-{
+pub(crate) fn several_values(value: &[u8]) -> (Cause, bool) {
     let rest = from_first(value, begins_next_value);
     (cause_of(rest), !rest.is_empty())
 }

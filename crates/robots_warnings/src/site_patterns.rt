@@ -1,8 +1,9 @@
 //! Patterns of a whole site, of its home page, and of little of it.
 ghost use Rattle.std.specs.Prelude.{◌≡◌, nat_eq};
 ghost use Rattle.std.specs.List.{list_all, list_any, starts_with};
-ghost use Rattle.robots_warnings.specs.Closed.{begins_name_end, is_anything, is_file_end, is_home, is_home_root, is_name_end};
-ghost use Rattle.robots_warnings.specs.Closed.{is_root, is_star_or_dollar, is_whole_site, matches_no_path, opens_little, without_stars};
+ghost use Rattle.robots_warnings.specs.Closed.{are_signs, begins_name_end, is_anything, is_file_end};
+ghost use Rattle.robots_warnings.specs.Closed.{is_name_end, is_root, is_star_or_dollar, is_whole_site};
+ghost use Rattle.robots_warnings.specs.Closed.{matches_no_path, opens_little, without_stars};
 
 use crate::rules::{begins_oddly, has_dollar_inside, somewhere};
 
@@ -89,25 +90,26 @@ fn without_stars<'a>(value: &'a [u8]) -> &'a [u8]
     rest
 }
 
+fn are_signs(value: &[u8]) -> bool
+    ensures { result ≡ are_signs value.now }
+{
+    value
+        .iter()
+        .all(|byte| (*byte == b'*' || *byte == b'$') || *byte == b'/')
+}
+
 pub fn is_whole_site(value: &[u8]) -> bool
     ensures { result ≡ is_whole_site value.now }
 {
-    is_anything(value) || is_root(without_stars(value))
+    are_signs(value) && (is_anything(value) || is_root(without_stars(value)))
 }
 
-fn is_home_root(value: &[u8]) -> bool
-    ensures { result ≡ is_home_root value.now }
-{
-    match value {
+/// It matches the path `/`: `/$` does, and so does every pattern of the whole site.
+pub(crate) fn is_home(value: &[u8]) -> bool {
+    match without_stars(value) {
         [b'/', rest @ ..] => are_stars_or_dollars(rest),
-        _ => false,
+        _ => is_anything(value),
     }
-}
-
-pub(crate) fn is_home(value: &[u8]) -> bool
-    ensures { result ≡ is_home value.now }
-{
-    is_anything(value) || is_home_root(without_stars(value))
 }
 
 pub(crate) fn matches_no_path(pattern: &[u8]) -> bool

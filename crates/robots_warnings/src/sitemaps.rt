@@ -1,6 +1,6 @@
 //! Sitemaps that a file lists twice.
 
-use crate::conflicts::{Lines, add_first};
+use crate::conflicts::{Places, add_first};
 use crate::urls::as_text;
 use std::alloc::{AllocError, Global};
 use std::collections::HashMap;
@@ -16,7 +16,7 @@ fn listed<'a>(line: Line<'a>) -> Option<&'a str> {
 
 fn add_listed(
     alloc: Global,
-    lines: &mut Lines,
+    lines: &mut Places,
     labeled: &LabeledLine<'_>,
 ) -> Result<(), AllocError> {
     let Some(sitemap) = listed(labeled.line) else {
@@ -26,7 +26,7 @@ fn add_listed(
 }
 
 /// For each sitemap, the first line that lists it.
-pub(crate) fn listings(alloc: Global, labels: &[LabeledLine<'_>]) -> Result<Lines, AllocError> {
+pub(crate) fn listings(alloc: Global, labels: &[LabeledLine<'_>]) -> Result<Places, AllocError> {
     let mut lines = HashMap::new(alloc);
     for labeled in labels {
         add_listed(alloc, &mut lines, labeled)?;
@@ -35,7 +35,7 @@ pub(crate) fn listings(alloc: Global, labels: &[LabeledLine<'_>]) -> Result<Line
 }
 
 /// The first line that lists the sitemap of this line, if it is another one.
-pub(crate) fn line_before(lines: &Lines, labeled: &LabeledLine<'_>) -> Option<usize> {
+pub(crate) fn line_before(lines: &Places, labeled: &LabeledLine<'_>) -> Option<usize> {
     let Some(sitemap) = listed(labeled.line) else {
         return None;
     };

@@ -41,7 +41,8 @@ fn has_other_escape(spelling: Spelling, value: &[u8]) -> bool {
 }
 
 fn begins_escape(text: &[u8]) -> bool
-    ensures value { result ≡ is_escape (slice_index text.now 0) (slice_index text.now 1) (slice_index text.now 2) }
+    ensures value { result
+        ≡ is_escape (slice_index text.now 0) (slice_index text.now 1) (slice_index text.now 2) }
     ensures within { result ≡ true → 2 < length text.now }
 {
     match text {

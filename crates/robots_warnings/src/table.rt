@@ -1,6 +1,6 @@
 //! The warnings: the level of each, its name, which is shown in `[..]` and is the `name` in JSON, and its
 //! message. The conditions are in `checks` and, of warnings that compare lines or look at all of a crawler's
-//! rules, in the functions that `warnings` calls. Only `robots_audit` gives those about sitemaps that are
+//! rules, in those that `candidates` calls. Only `robots_audit` gives those about sitemaps that are
 //! denied, and about rules that can be deleted, which `robots_needless` finds.
 ghost use Rattle.std.specs.Prelude.{◌≡◌, ◌<◌, length, map};
 ghost use Rattle.robots_warnings.specs.Internal.{IsRowAt};
@@ -92,6 +92,7 @@ pub enum Cause {
     HashCutsSitemap,
     SitemapDenied,
     RepeatedSitemap,
+    RepeatedSitemapPastLimit,
     // any line
     OneLine,
     ControlInComment,

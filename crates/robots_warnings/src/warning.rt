@@ -56,6 +56,21 @@ impl<'a> Warning<'a> {
             detail: self.detail,
         }
     }
+
+    /// What it is about, if it isn't about a line alone.
+    pub fn kind(&self) -> &'static str {
+        match self.cause {
+            Cause::ClosesSite
+            | Cause::ClosesEverything
+            | Cause::ClosesHome
+            | Cause::ClosesHomeToOthers
+            | Cause::VendorGroup
+            | Cause::IgnoresStar
+            | Cause::WrongName
+            | Cause::MisspelledName => "crawler",
+            _ => "URL",
+        }
+    }
 }
 
 impl fmt::Display for Detail {
@@ -82,17 +97,7 @@ impl fmt::Display for Detail {
 impl<'a> fmt::Display for Warning<'a> {
     fn fmt<W: fmt::Write>(&self, f: &mut fmt::Formatter<W>) -> fmt::Result {
         if let Some(name) = self.about {
-            let kind = match self.cause {
-                Cause::ClosesSite
-                | Cause::ClosesEverything
-                | Cause::ClosesHome
-                | Cause::ClosesHomeToOthers
-                | Cause::VendorGroup
-                | Cause::IgnoresStar
-                | Cause::WrongName
-                | Cause::MisspelledName => "crawler",
-                _ => "URL",
-            };
+            let kind = self.kind();
             write!(f, "{kind} '{name}': ")?;
         }
         f.write_str(self.cause.text())?;

@@ -4,7 +4,7 @@ pub use Rattle.texting_robots.proofs.CutLemmas.{byte_cases, cut_nil, is_cut, onl
 pub use Rattle.texting_robots.proofs.CrLfLemmas.{body_byte, body_return, body_step, step}
 pub use Rattle.texting_robots.proofs.TrimLemmas.{blanks_skipped, each_append, graphic_trim, is_trimmed}
 pub use Rattle.texting_robots.proofs.TrimLemmas.{same_trim, trailing_blanks, trimmed_is_trim, white_scalar}
-pub use Rattle.texting_robots.proofs.StatementLemmas.{NoBlank, found_statement, kept, one_statement}
+pub use Rattle.texting_robots.proofs.StatementLemmas.{NoBlank, found_statement, kept}
 pub use Rattle.texting_robots.proofs.StatementLemmas.{skip_front, statement_found}
 pub use Rattle.texting_robots.proofs.DelayLemmas.{is_delay_of, one_delay, rounded_rounds}
 pub use Rattle.texting_robots.proofs.LineLemmas.{each_text_has_its_lines, front_is_end, front_read, line_raw}

@@ -2,7 +2,7 @@
 use Rattle.std.specs.Prelude.{is_some}
 use Rattle.std.proofs.{lemmas.Slice.Eq.bytes_eq-Decides}
 use Rattle.std.proofs.{lemmas.List.Elements.All-contains}
-use Rattle.std.proofs.Common.{rules, Some, bytes_eq, if◌then◌else◌, ◌∙◌, ◌≡◌, ℕ, ◌==◌, ◌&&◌, ◌||◌, []}
+use Rattle.std.proofs.Common.{rules, Some, bytes_eq, if◌then◌else◌, ◌∙◌, ◌≡◌, ℕ, ◌&&◌, ◌||◌, []}
 use Rattle.std.proofs.Common.{Bool, true, false, List, ◌∷◌, Contains, append-nil, ap, arith, inl, inr, length}
 use Rattle.std.proofs.Common.{not, refl, subst, suc, sym, ◌⊎◌, Any, None, Option, ◌≢◌, ◌<◌, ◌++◌, All, nat_eq}
 use Rattle.std.proofs.Common.{nat_le}
@@ -15,9 +15,7 @@ use Rattle.robots_warnings.specs.Closed.{closes, is_exempt, is_literally, is_sta
 use Rattle.robots_warnings.specs.Closed.{is_whole_site}
 use Rattle.robots_warnings.specs.Closed.{is_rival, line_closing_site, matches_no_path, opened_paths}
 use Rattle.robots_warnings.specs.{Closed.leaves_closed, Closed.opens_little}
-use Rattle.robots_warnings.specs.declared.closed.Part.TheVariants as part
-use Rattle.robots_warnings.specs.Conflicts.{IsConflict, allow_beside, at_line, compared, conflict_for}
-use Rattle.robots_warnings.specs.Conflicts.{first_line, first_of, is_like, line_if}
+use Rattle.robots_warnings.specs.Conflicts.{IsConflict, compared, first_line, first_of, is_like, line_if}
 use Rattle.robots_warnings.specs.{Contents.is_cut_to_root}
 use Rattle.robots_warnings.proofs.{ClosedLemmas.whole_site_stays}
 use Rattle.texting_robots.proofs.Shared.{computed_are, placed_of, in_front, plain_wildcards}
@@ -58,14 +56,6 @@ pub first_some : {X : Type 0} (f : X → Option ℕ) (xs : List X) (x : X) → C
 first_some f xs x (k, below, at) is =
     sym (any_some f xs) ∙ list_any-from_Any (λ x. is_some (f x)) xs (k, x, below, at, is)
 
-pub if_found : (a : Bool) (x : Option ℕ) (n : ℕ) → (if a then x else None) ≡ Some n
-    → (a ≡ true) × (x ≡ Some n)
-if_found a x n h = grind arith
-
-pub unless_found : (a : Bool) (x : Option ℕ) (n : ℕ) → (if a then None else x) ≡ Some n
-    → (a ≡ false) × (x ≡ Some n)
-unless_found a x n h = grind arith
-
 pub like_found : (is_empty : ℕ → Bool) (rules : List PlacedRule) (is_allow : Bool) (pattern : List ℕ)
     (other : ℕ) → first_line (is_like is_empty is_allow pattern) rules ≡ Some other
     → (one : PlacedRule) × Contains rules one × (one.rule.1 ≡ is_allow) × (compared one.rule.0 ≡ pattern)
@@ -90,27 +80,6 @@ pub listed : (rules : List PlacedRule) (placed : PlacedRule) (is_allow : Bool) (
     → Contains rules placed → placed.rule.1 ≡ is_allow → placed.line ≡ number
     → Contains rules (record { rule = (placed.rule.0, is_allow); line = number })
 listed rules placed is_allow number has kind at = grind arith
-
-pub conflict_is : (is_empty : ℕ → Bool) (lines : List LineValue) (number other : ℕ) (agent : List ℕ)
-    → conflict_for is_empty lines number agent ≡ Some other → IsConflict is_empty agent lines number other
-conflict_is is_empty lines number other agent holds =
-    let rules = placed_rules agent lines in
-    let (k, placed, below, at, gives) =
-    first_found (at_line number (allow_beside is_empty rules)) rules other holds in
-    let (here, beside) = if_found (placed.line == number) _ other gives in
-    let (denies, found) = unless_found placed.rule.1 _ other beside in
-    let pattern = compared placed.rule.0 in
-    let (allow, has, permits, same, stated, line) = like_found is_empty rules true pattern other found in
-    record {
-      rules = rules;
-      are = computed_are agent lines;
-      pattern = placed.rule.0;
-      allowed = allow.rule.0;
-      same = same;
-      disallow = grind arith;
-      allow = listed rules allow true other has permits line;
-      stated = stated;
-    }
 
 -- the second pattern matches what the first one matches, and is as long
 pub Wins : (pattern other text : List ℕ) → Type 0
@@ -141,7 +110,7 @@ one_rule agent lines place rule other one two = grind arith
 
 pub conflict_never_decides : (is_empty : ℕ → Bool) (agent : List ℕ) (lines : List LineValue)
     (rules : List PlacedRule) (number other : ℕ) (text : List ℕ)
-    (is : IsConflict is_empty agent lines number other) → Wins is.pattern is.allowed text
+    (is : IsConflict is_empty agent lines number other) → Wins is.opposed.pattern is.opposed.allowed text
     → AreRulesFor agent lines rules → ¬ IsDecidingLine rules text (Some number)
 unfolding Wins
 conflict_never_decides is_empty agent lines rules number other text is wins are (
@@ -150,13 +119,14 @@ conflict_never_decides is_empty agent lines rules number other text is wins are 
   decides,
   at,
 ) =
+    let two = is.opposed in
     let (here, on, holds) = (are.held placed).0 decides.listed in
-    let (there, also, denies) = (are.held _).0 (also_listed is.are are _ is.disallow) in
+    let (there, also, denies) = (are.held _).0 (also_listed is.are are _ two.disallow) in
     let place : here ≡ there = omega arith in
-    let same = one_rule agent lines there placed.rule (is.pattern, false)
+    let same = one_rule agent lines there placed.rule (two.pattern, false)
     (subst (λ place. HoldsRule agent lines place placed.rule) place holds) denies in
-    decides.best (record { rule = (is.allowed, true); line = other })
-    (also_listed is.are are _ is.allow)
+    decides.best (record { rule = (two.allowed, true); line = other })
+    (also_listed is.are are _ two.allow)
     (wins.0 (subst (λ (rule : Rule). Matches rule.0 text) same decides.matches))
     (grind arith)
 
@@ -174,7 +144,7 @@ is_shorter n m isnt = grind arith
 
 pub closed_denies : (leaves : List ℕ → Bool) (agent : List ℕ) (lines : List LineValue)
     (rules : List PlacedRule) (text : List ℕ)
-    → is_some (first_line (closes part.Site leaves (placed_rules agent lines)) (placed_rules agent lines))
+    → is_some (first_line (closes leaves (placed_rules agent lines)) (placed_rules agent lines))
     ≡ true
     → AreRulesFor agent lines rules
     → byte "/" ∷ text ≢ robots_file
@@ -183,7 +153,7 @@ pub closed_denies : (leaves : List ℕ → Bool) (agent : List ℕ) (lines : Lis
     → IsDenied (unplaced rules) (byte "/" ∷ text)
 closed_denies leaves agent lines rules text is are differs opens =
     let all = placed_rules agent lines in
-    let test = closes part.Site leaves all in
+    let test = closes leaves all in
     let (k, placed, below, at, some) =
     Any-from_list_any (λ placed. is_some (line_if test placed)) all (any_some (line_if test) all ∙ is) in
     let (closing, alone) = and_parts _ _ (sym (line_given test placed) ∙ some) in
@@ -247,7 +217,7 @@ pub closes_everything : (agent : List ℕ) (lines : List LineValue) (rules : Lis
     → ¬ Matches pattern (byte "/" ∷ text))
     → IsDenied (unplaced rules) (byte "/" ∷ text)
 closes_everything agent lines rules number text is are none opens =
-    closed_denies (leaves_closed part.Site (is_exempt lines)) agent lines rules text
+    closed_denies (leaves_closed (is_exempt lines)) agent lines rules text
     (ap is_some (closed_by _ _ is)) are
     (grind arith)
     (λ pattern has exempt matches. elim (or_cases (is_exempt lines pattern) _ exempt) [

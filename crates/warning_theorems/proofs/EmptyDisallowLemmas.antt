@@ -1,90 +1,24 @@
 -- Which lines are empty Disallows, what `empty-disallow` says of rules, and what it means if no line has it.
-use Rattle.std.specs.Prelude.{is_some}
+use Rattle.std.specs.Prelude.{is_some, option_map}
 use Rattle.std.proofs.lemmas.Bool.{and_parts, cases_lt, false≢true, cases_Bool}
 use Rattle.std.proofs.lemmas.Bool.{eqb-true, or_cases}
-use Rattle.std.proofs.Common.{rules, ◌≡◌, ◌↔◌, ◌==◌, ◌&&◌, ℕ, Bool, true, false, List, [], ◌∷◌, None}
-use Rattle.std.proofs.Common.{Some, ap, arith, codes, inl, inr, map, refl, slice_get, subst}
+use Rattle.std.proofs.Common.{◌≡◌, ◌↔◌, ◌==◌, ◌&&◌, ℕ, Bool, true, false, List, [], ◌∷◌, None}
+use Rattle.std.proofs.Common.{Some, ap, arith, codes, inl, inr, refl, slice_get, subst}
 use Rattle.std.proofs.Common.{suc, sym, zero, ◌∙◌, ◌<◌, Contains, Option, length, not}
-use Rattle.std.proofs.lemmas.{Option.option_and_then_some, Option.same_Some}
-use Rattle.std.proofs.lemmas.Slice.Zip.{AllZip-left, AllZip-right}
-use Rattle.texting_robots.specs.Callers.{Allow, AreLabelsOf, Disallow, IsLineOf, Label, LineValue, lines_read}
+use Rattle.std.proofs.lemmas.{Option.same_Some, Option.slice_get-map, Slice.Zip.AllZip-left}
+use Rattle.texting_robots.specs.Callers.{AreLabelsOf, Disallow, IsLineOf, Label, lines_read}
 use Rattle.texting_robots.specs.Callers.{bodies_in, bodies_read, escaped, placed_rules, unplaced, AreRulesFor}
-use Rattle.texting_robots.specs.Callers.{IsDenied}
-use Rattle.texting_robots.specs.Callers.{IsVerdict, Matches, PlacedRule, Rule}
-use Rattle.texting_robots.specs.Internal.Statement.{kind_by, skip_blanks, statement_of}
-use Rattle.texting_robots.proofs.Shared.{one_statement, statement_found, computed_are, lines_of_file_bodies}
-use Rattle.texting_robots.proofs.Shared.{placed_of}
-use Rattle.robots_warnings.specs.Conflicts.{IsEmptyDisallow, begins_with_d, is_empty_at, is_empty_disallow}
+use Rattle.texting_robots.specs.Callers.{IsDenied, IsVerdict, Matches, PlacedRule, Rule}
+use Rattle.texting_robots.specs.{Internal.Line.line_of, Pattern.MatchesWith}
+use Rattle.texting_robots.proofs.Shared.{computed_are, lines_of_file_bodies, placed_of}
+use Rattle.robots_warnings.specs.Conflicts.{IsEmptyDisallow, is_empty_at, is_empty_disallow}
 use Rattle.robots_warnings.specs.Conflicts.{stated_rules, at_line, compared, first_line, is_like}
 use Rattle.robots_warnings.specs.Conflicts.{overruled_by, overruled_for}
-use Rattle.robots_warnings.specs.{FieldNames.trim_blanks_start}
-use Rattle.warning_theorems.proofs.{WarningLemmas.is_stated}
-use Rattle.texting_robots.specs.{Pattern.MatchesWith, Statement.IsStatement}
+use Rattle.audit_core.proofs.EmptyLemmas.{empty_allows, empty_stated, stated_empty}
 use Rattle.robots_needless.proofs.TogetherLemmas.{in_filter, to_filter, unplaced_of}
 use Rattle.warning_theorems.proofs.ConflictLemmas.{first_some, like_found, like_holds, listed}
 use Rattle.warning_theorems.proofs.ConflictLemmas.{also_listed, path_wins}
 use Rattle.std.specs.{Option.IsSomeAnd, List.AllZip}
-use Rattle.texting_robots.specs.declared.parser.statement.{Kind.Kind}
-use Rattle.texting_robots.specs.declared.parser.statement.Kind.TheVariants as kind
-
-skipped : (body : List ℕ) → trim_blanks_start body ≡ skip_blanks body
-skipped body = grind arith
-
-selects_d : (text : List ℕ) → kind_by text ≡ Some kind.Disallow → begins_with_d text ≡ true
-selects_d text is = grind arith
-
-selected : (kind : Kind) (value body : List ℕ) → IsStatement kind value body
-    → kind_by (skip_blanks body) ≡ Some kind
-unfolding statement_of
-selected kind value body is =
-    let text = skip_blanks body in
-    option_and_then_some _ (kind_by text) (kind, value) (statement_found kind value body is) (grind arith)
-
-pub empty_is_allow : (line : LineValue) (body : List ℕ) → IsLineOf line body
-    → IsStatement kind.Disallow [] body → line ≡ Allow (codes "/")
-empty_is_allow line body (inl (k, value, is, line_is)) empty =
-    let (kind_same, value_same) = one_statement k kind.Disallow value [] body is empty in
-    (grind arith)
-empty_is_allow line body (inr (none, line_is)) empty = absurd (none kind.Disallow [] empty)
-
-empty_stated : (line : LineValue) (body : List ℕ) → IsLineOf line body → is_empty_disallow line body ≡ true
-    → IsStatement kind.Disallow [] body
-empty_stated (Allow own) body of_body holds = elim (is_stated (Allow own) body of_body) [
-  | inr (same, is) ↦ is
-  | inl is ↦
-      (grind (arith, selected))
-]
-empty_stated line body of_body holds = cc
-
-empty_holds : (line : LineValue) (body : List ℕ) → IsLineOf line body → IsStatement kind.Disallow [] body
-    → is_empty_disallow line body ≡ true
-empty_holds line body of_body is =
-    let d : begins_with_d (trim_blanks_start body) ≡ true =
-    cc (skipped body, selects_d (skip_blanks body) (selected kind.Disallow [] body is)) in
-    rw (empty_is_allow line body of_body is) d
-
-abbrev OfBody : Label → List ℕ → Type 0
-OfBody label body = IsLineOf label.line body
-
-labels_zip : (labels : List Label) (bodies : List (List ℕ))
-    → AllZip IsLineOf (map (λ (label : Label). label.line) labels) bodies → AllZip OfBody labels bodies
-labels_zip [] [] all = tt
-labels_zip [] (body ∷ bodies) all = absurd all
-labels_zip (label ∷ labels) [] all = absurd all
-labels_zip (label ∷ labels) (body ∷ bodies) all = (all.0, labels_zip labels bodies all.1)
-
-some_there : {Y : Type 0} (o : Option Y) (P : Y → Type 0) → IsSomeAnd o P → (y : Y) × (o ≡ Some y) × P y
-some_there o P h = grind arith
-
-right_at : {X Y : Type 0} (R : X → Y → Type 0) (xs : List X) (ys : List Y) (i : ℕ) (x : X)
-    → AllZip R xs ys → slice_get xs i ≡ Some x → (y : Y) × (slice_get ys i ≡ Some y) × R x y
-right_at R xs ys i x all at =
-    some_there (slice_get ys i) (R x) (rw at at (AllZip-left R xs ys all i))
-
-left_at : {X Y : Type 0} (R : X → Y → Type 0) (xs : List X) (ys : List Y) (i : ℕ) (y : Y)
-    → AllZip R xs ys → slice_get ys i ≡ Some y → (x : X) × (slice_get xs i ≡ Some x) × R x y
-left_at R xs ys i y all at =
-    some_there (slice_get xs i) (λ x. R x y) (rw at at (AllZip-right R xs ys all i))
 
 abbrev IsFound : List Label → ℕ → Type 0
 IsFound labels number = (i : ℕ) × (label : Label) × (slice_get labels i ≡ Some label)
@@ -110,42 +44,51 @@ at_found (first ∷ labels) number zero label at same empty = grind arith
 at_found (first ∷ labels) number (suc i) label at same empty =
     grind (arith, at_found labels number i label at same empty)
 
-pub zips : (file : List ℕ) → AllZip IsLineOf (lines_read file) (bodies_read file)
-zips file = search (rules, lines_of_file_bodies)
-
 body_at : (labels : List Label) (i : ℕ) (label : Label) → slice_get labels i ≡ Some label
     → slice_get (bodies_in labels) i ≡ Some label.body
 body_at [] i label at = cc
 body_at (first ∷ labels) zero label at = cc
 body_at (first ∷ labels) (suc i) label at = body_at labels i label at
 
+label_at : (labels : List Label) (i : ℕ) (body : List ℕ) → slice_get (bodies_in labels) i ≡ Some body
+    → (label : Label) × (slice_get labels i ≡ Some label) × (label.body ≡ body)
+label_at [] i body at = cc
+label_at (first ∷ labels) zero body at = (first, refl, cc)
+label_at (first ∷ labels) (suc i) body at = label_at labels i body at
+
+-- the line of each content
+line_at : (file : List ℕ) (i : ℕ) (body : List ℕ) → slice_get (bodies_read file) i ≡ Some body
+    → slice_get (lines_read file) i ≡ Some (line_of body)
+line_at file i body at = slice_get-map line_of (bodies_read file) i ∙ ap (option_map line_of) at
+
 pub empty_disallows : (name file : List ℕ) (labels : List Label) (number : ℕ)
     → AreLabelsOf name (lines_read file) labels → bodies_in labels ≡ bodies_read file
     → (is_empty_at labels number ≡ true) ↔ IsEmptyDisallow (bodies_read file) number
 empty_disallows name file labels number are hold = (
   λ is.
-      let (i, label, at, same, empty) = found_at labels number is in
-      let (own, also, of_body) = right_at OfBody labels bodies i label pairs at in
-      let beside = there i label at in
-      grind (arith, empty_stated),
+      let (i, label, at, same, empty) = found_at labels number is in (
+        i,
+        label.body,
+        sym same ∙ (are.each i label at).0,
+        there i label at,
+        empty_stated label.body (rw (line i label at) at empty),
+      ),
   λ (i, body, is, beside, stated).
-      let (label, at, of_body) = left_at OfBody labels bodies i body pairs beside in
-      let one = same_Some _ _ (sym beside ∙ there i label at) in
+      let (label, at, same) = label_at labels i body (rw hold beside) in
       at_found labels number i label at ((are.each i label at).0 ∙ sym is)
-      (subst (λ body. is_empty_disallow label.line body ≡ true) one
-      (empty_holds label.line body of_body stated)),
+      (rw (line i label at) (stated_empty label.body (rw same stated))),
 )
   where
-    bodies : List (List ℕ)
-    bodies = bodies_read file
+    there : (i : ℕ) (label : Label) → slice_get labels i ≡ Some label
+        → slice_get (bodies_read file) i ≡ Some label.body
+    there i label at = rw (← hold) (body_at labels i label at)
 
-    there : (i : ℕ) (label : Label) → slice_get labels i ≡ Some label → slice_get bodies i ≡ Some label.body
-    there i label at = ap (λ (all : List (List ℕ)). slice_get all i) (sym hold) ∙ body_at labels i label at
-
-    pairs : AllZip OfBody labels bodies
-    pairs =
-        labels_zip labels bodies
-        (subst (λ lines. AllZip IsLineOf lines bodies) (sym are.lines_are) (zips file))
+    line : (i : ℕ) (label : Label) → slice_get labels i ≡ Some label → label.line ≡ line_of label.body
+    line i label at =
+        let own = slice_get-map (λ (label : Label). label.line) labels i
+        ∙ ap (option_map (λ (label : Label). label.line)) at in
+        same_Some _ _ (sym own ∙ ap (λ lines. slice_get lines i) are.lines_are
+        ∙ line_at file i label.body (there i label at))
 
 abbrev pub root : List ℕ
 root = codes "/"
@@ -176,10 +119,8 @@ module _ (agent file : List ℕ) (rules : List PlacedRule)
       → placed.rule ≡ (root, true)
   rule_there placed has (position, body, is, at, stated) =
       let (here, on, holds) = (are.held placed).0 has in
-      let (own, also, of_body) = right_at IsLineOf (lines_read file) bodies here _
-      (zips file) holds.line.0 in
-      let one : own ≡ body = grind arith in
-      let line = empty_is_allow _ body (subst (IsLineOf _) one of_body) stated in
+      let line = line_at file position body at ∙ ap Some (empty_allows body stated) in
+      let same : here ≡ position = omega arith in
       grind arith
 
   some_escaped : (b : ℕ) (value : List ℕ) → 0 < length (escaped (b ∷ value))
@@ -189,12 +130,19 @@ module _ (agent file : List ℕ) (rules : List PlacedRule)
       → Contains rules (record { rule = (pattern, false); line = line }) → 0 < length pattern
   some_bytes pattern line has =
       let (here, on, holds) = (are.held _).0 has in
-      let (own, also, of_body) = right_at IsLineOf (lines_read file) bodies here _
-      (zips file) holds.line.0 in
-      rw holds.pattern (by holds.value own of_body)
+      let (body, beside, of_body) = some_there (slice_get bodies here) (IsLineOf (Disallow holds.value))
+      (rw (holds.line.0) at (AllZip-left IsLineOf (lines_read file) bodies lines_zip here)) in
+      rw holds.pattern (by holds.value body of_body)
     where
+      some_there : {Y : Type 0} (o : Option Y) (P : Y → Type 0) → IsSomeAnd o P
+          → (y : Y) × (o ≡ Some y) × P y
+      some_there o P h = grind arith
+
+      lines_zip : AllZip IsLineOf (lines_read file) bodies
+      lines_zip = search lines_of_file_bodies
+
       by : (value body : List ℕ) → IsLineOf (Disallow value) body → 0 < length (escaped value)
-      by [] body is = grind (arith, is_stated)
+      by [] body is = grind arith
       by (b ∷ value) body is = some_escaped b value
 
   module _ (is_empty : ℕ → Bool)

@@ -1,9 +1,9 @@
 -- Warnings about groups. Lines with `two-delays` can be deleted: the delay of every crawler stays the same. A
 -- line with `replaces-star` is in the group of a crawler that has no Disallow of `*`.
 use Rattle.std.proofs.lemmas.{Option.slice_get-map}
-use Rattle.std.proofs.Common.{rules, codes, if◌then◌else◌, inl, inr, refl, subst, sym, ◌≤◌, ◌-◌, ◌≡◌, ◌+◌, ℕ}
+use Rattle.std.proofs.Common.{rules, codes, inl, inr, refl, subst, sym, ◌≤◌, ◌-◌, ◌≡◌, ◌+◌, ℕ}
 use Rattle.std.proofs.Common.{◌∙◌, suc, zero, Bool, true, false, not, List, [], ◌∷◌, All, Contains, map}
-use Rattle.std.proofs.Common.{Option, None, Some, filter, slice_get, take, ap, arith, length}
+use Rattle.std.proofs.Common.{Option, None, Some, drop, filter, slice_get, take, ap, arith, length}
 use Rattle.std.specs.List.{enumerate_from, fold, list_any, count_by}
 use Rattle.std.proofs.lemmas.Bool.{and_parts, cases_Bool, false≢true, cases_lt, not-true, or_cases, or_right}
 use Rattle.std.proofs.lemmas.List.{Elements.Contains-append_cases}
@@ -17,21 +17,18 @@ use Rattle.texting_robots.specs.Internal.Group.{if_captured, start_of, step}
 use Rattle.texting_robots.proofs.Shared.{delays_are, given_captured, taken_decides, before_agent}
 use Rattle.texting_robots.proofs.Shared.{before_agents, first_more, computed_are, one_list}
 use Rattle.robots_warnings.specs.Positions.{are_different, begin_with_one, first_delay, is_other_delay}
-use Rattle.robots_warnings.specs.Positions.{later_delays, later_delays_from, preceding_with}
-use Rattle.warning_theorems.proofs.RepeatedLemmas.{holds_among, AreFrom, IsFrom, all_labels, here}
-use Rattle.warning_theorems.proofs.RepeatedLemmas.{first_or_later, labels_next, same_left}
+use Rattle.robots_warnings.specs.Positions.{later_delays, later_delays_from}
+use Rattle.warning_theorems.proofs.RepeatedLemmas.{IsFrom, here, holds_among, same_left}
 use Rattle.warning_theorems.proofs.{WarningLemmas.below_agent}
 use Rattle.std.proofs.lemmas.List.Folds.{Any-from_list_any, list_any-from_Any}
 use Rattle.texting_robots.specs.{Labels.AreOneGroup, Labels.IsInOwnGroup, Line.delay_in}
-use Rattle.robots_warnings.specs.declared.positions.Preceding.TheVariants.{Other}
-use Rattle.robots_warnings.specs.Closed.{is_first_name, is_partial, is_replacing, lacks_all}
-use Rattle.robots_warnings.specs.Closed.{replacing, replacing_from, star_count, star_rules}
+use Rattle.robots_warnings.specs.Closed.{IsReplacing, is_lacking, lacks_all, name_lacking, star_count}
 use Rattle.std.specs.{Option.option_or, Str.str_to_ascii_lowercase}
 use Rattle.std.proofs.lemmas.Slice.{Eq.bytes_eq-Decides}
 use Rattle.texting_robots.specs.declared.groups.{GroupTracker.GroupTracker}
 use Rattle.robots_needless.specs.{Blocks.IsLeftOf, Blocks.begin_with_mark, Needless.lines_without}
 use Rattle.robots_needless.proofs.{BlockLemmas.among}
-use Rattle.robots_warnings.specs.{declared.positions.Preceding.Preceding, File.lines_of}
+use Rattle.robots_warnings.specs.{File.lines_of}
 
 -- `first` is the first delay of the group above these lines
 abbrev first_after : Option ℕ → List Label → Option ℕ
@@ -290,73 +287,48 @@ one_group {lines} {position} {rest} from is k group = elim (cases_lt k position)
   ]
 ]
 
-first_agent : (before : Preceding) (line : LineValue) → is_first_name before line ≡ true
-    → (value : List ℕ) × (line ≡ UserAgent value)
-first_agent before line is = grind arith
+from_drop : (lines : List LineValue) (position i : ℕ)
+    → slice_get lines (position + i) ≡ slice_get (drop position lines) i
+from_drop lines zero i = let same : 0 + i ≡ i = omega arith in ap (slice_get lines) same
+from_drop [] (suc position) i = refl
+from_drop (line ∷ lines) (suc position) i =
+    let same : suc position + i ≡ suc (position + i) = omega arith in
+    ap (slice_get (line ∷ lines)) same ∙ from_drop lines position i
 
-record IsFound (agents : List (List ℕ)) (lines : List LineValue) (number : ℕ) : Type 0 where
-  position : ℕ
-  line : LineValue
-  rest : List LineValue
-  before : Preceding
-  number_is : number ≡ position + 1
-  from : IsFrom lines position (line ∷ rest)
-  passes : is_replacing agents lines before line (line ∷ rest) ≡ true
-
-found_from : (agents : List (List ℕ)) (lines : List LineValue) (before : Preceding) (position : ℕ)
-    (labels : List Label) (number : ℕ) → AreFrom lines position labels
-    → Contains (replacing_from agents lines before labels) number → IsFound agents lines number
-found_from agents lines before position [] number are (k, below, at) = absurd (omega arith)
-found_from agents lines before position (label ∷ labels) number are has =
-    let after = preceding_with before label.line in
-    let rest = lines_of labels in
-    elim (first_or_later (is_replacing agents lines before label.line (label.line ∷ rest)) label.number number
-    (replacing_from agents lines after labels) has) [
-      | inl (is, same) ↦ record {
-        position = position;
-        line = label.line;
-        rest = rest;
-        before = before;
-        number_is = omega (arith, are.numbers 0 label refl);
-        from = are.from;
-        passes = is;
-      }
-      | inr later ↦ found_from agents lines after (position + 1) labels number (labels_next are) later
-    ]
-
-if_any : (some : Bool) (numbers : List ℕ) (number : ℕ) → Contains (if some then numbers else []) number
-    → Contains numbers number
-if_any some numbers number has = grind arith
-
-pub replaces_star : (agents : List (List ℕ)) (name : List ℕ) (lines : List LineValue) (labels : List Label)
-    (number : ℕ) → AreLabelsOf name lines labels → Contains (replacing agents lines labels) number
+pub replaces_star : (agents : List (List ℕ)) (lines : List LineValue) (number : ℕ)
+    → IsReplacing agents lines lines number
     → (position : ℕ) × (value agent : List ℕ) × (number ≡ position + 1)
     × (slice_get lines position ≡ Some (UserAgent value)) × Contains agents agent
     × IsInOwnGroup (str_to_ascii_lowercase agent) lines position × HasNone agent lines
-replaces_star agents name lines labels number labeled has =
-    let listed = if_any (list_any is_partial (star_rules lines)) _ number has in
-    let found = found_from agents lines Other 0 labels number (all_labels labeled) listed in
-    let (first, names) = and_parts _ _ found.passes in
-    let (value, is) = first_agent found.before found.line (and_parts _ _ first).0 in
-    let by = named _ (found.line ∷ found.rest) (and_parts _ _ names).0 in
-    let (k, agent, below, at, passes) = Any-from_list_any _ agents by.passes in
-    let (lacks, same) = and_parts _ _ passes in
-    let spelling = str_to_ascii_lowercase by.value in
-    let on = here found.from ∙ ap Some is in (
-      found.position,
-      value,
-      agent,
-      found.number_is,
-      on,
-      (k, below, at),
-      inr (
-        rw on refl,
-        found.position + by.position,
-        grind (arith, bytes_eq-Decides, spelling),
-        one_group found.from by,
-      ),
-      has_none agent lines lacks,
-    )
+replaces_star agents lines number (position, number_is, passes) =
+    at (drop position lines) (record { each = from_drop lines position }) passes
+  where
+    at : (rest : List LineValue) → IsFrom lines position rest → name_lacking agents lines rest ≡ true
+        → (position : ℕ) × (value agent : List ℕ) × (number ≡ position + 1)
+        × (slice_get lines position ≡ Some (UserAgent value)) × Contains agents agent
+        × IsInOwnGroup (str_to_ascii_lowercase agent) lines position × HasNone agent lines
+    at (UserAgent value ∷ rest) from names =
+        let test : List ℕ → Bool = λ name. is_lacking agents lines (str_to_ascii_lowercase name) in
+        let by = named test (UserAgent value ∷ rest) names in
+        let (k, agent, below, there, passes) = Any-from_list_any _ agents by.passes in
+        let (lacks, same) = and_parts _ _ passes in
+        let spelling = str_to_ascii_lowercase by.value in
+        let on = here from in (
+          position,
+          value,
+          agent,
+          number_is,
+          on,
+          (k, below, there),
+          inr (
+            rw on refl,
+            position + by.position,
+            grind (arith, bytes_eq-Decides, spelling),
+            one_group from by,
+          ),
+          has_none agent lines lacks,
+        )
+    at rest from names = cc
 
 pub star_disallows : (lines : List LineValue) (rules : List PlacedRule) → AreRulesFor (codes "*") lines rules
     → star_count lines ≡ count_by (λ (placed : PlacedRule). not placed.rule.1) rules

@@ -44,10 +44,6 @@ pub record AreFrom (lines : List LineValue) (position : ℕ) (labels : List Labe
   pub numbers : (i : ℕ) (label : Label) → slice_get labels i ≡ Some label → label.number ≡ position + i + 1
   pub from : IsFrom lines position (lines_of labels)
 
-pub all_labels : {name : List ℕ} {lines : List LineValue} {labels : List Label}
-    → AreLabelsOf name lines labels → AreFrom lines 0 labels
-all_labels {lines} are = grind arith
-
 pub labels_next : {lines : List LineValue} {position : ℕ} {label : Label} {labels : List Label}
     → AreFrom lines position (label ∷ labels) → AreFrom lines (position + 1) labels
 labels_next are = record {

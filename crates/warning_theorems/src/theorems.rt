@@ -1,5 +1,5 @@
 //! Theorems about the specification, each written as the contract of an empty function.
-ghost use Rattle.std.specs.Prelude.{◌&&◌, ◌||◌, [], All, Any, Bool, codes, Contains, false, if◌then◌else◌, ℕ};
+ghost use Rattle.std.specs.Prelude.{◌&&◌, ◌||◌, [], All, Bool, codes, Contains, false, if◌then◌else◌, ℕ};
 ghost use Rattle.std.specs.Prelude.{IfOk, IsTrue, List, nat_eq, not, slice_get, Some, take, true};
 ghost use Rattle.std.specs.Prelude.{◌+◌, ◌↔◌, ◌∷◌, ◌≡◌, ◌≢◌, ◌≤◌, length};
 ghost use Rattle.std.specs.List.{count_by, list_any, starts_with};
@@ -8,18 +8,19 @@ ghost use Rattle.texting_robots.specs.{Callers.Allow, Labels.IsInOwnGroup};
 ghost use Rattle.texting_robots.specs.Callers.{AreLabelsOf, AreRulesFor, Disallow, escaped, HoldsRule, Label};
 ghost use Rattle.texting_robots.specs.Callers.{file_limit, file_lines, is_named, IsDecidingLine, IsDenied};
 ghost use Rattle.texting_robots.specs.Callers.{IsFileRejected, IsRobotOfFile, IsVerdict, LineValue, Matches};
-ghost use Rattle.texting_robots.specs.Callers.{Rule, PlacedRule, RobotValue, agents_in, bodies_in, delay_for, file_bodies};
+ghost use Rattle.texting_robots.specs.Callers.{Rule, PlacedRule, RobotValue, agents_in, bodies_in, delay_for};
+ghost use Rattle.texting_robots.specs.Callers.{file_bodies};
 ghost use Rattle.texting_robots.specs.Callers.{lines_read, bodies_read, rules_for, unplaced, UserAgent};
 ghost use Rattle.robots_needless.specs.Blocks.{HaveSameRobot, IsLeftOf, begin_with_mark};
 ghost use Rattle.robots_needless.specs.Needless.{lines_without, numbers_of};
 ghost use Rattle.rfc9309.specs.Rfc9309.{Group, IsFile, IsProductToken};
 ghost use Rattle.rfc9309.specs.Matching.{all_stay, normal_uri};
 ghost use Rattle.warning_theorems.specs.{Syntax.IsRobotStated, Verdict.IsStandardVerdict};
-ghost use Rattle.robots_warnings.specs.Conflicts.{IsConflict, conflict, is_empty_at};
+ghost use Rattle.robots_warnings.specs.Conflicts.{IsConflict, is_empty_at};
 ghost use Rattle.robots_warnings.specs.Conflicts.{overruled_for, IsEmptyDisallow, stated_rules};
 ghost use Rattle.robots_warnings.specs.Closed.{line_closing_site, opened_paths, opens_little};
-ghost use Rattle.robots_warnings.specs.Closed.{replacing, star_count};
-ghost use Rattle.robots_warnings.specs.{Contents.is_cut_to_root, Crawlers.names_past_limit};
+ghost use Rattle.robots_warnings.specs.Closed.{IsReplacing, star_count};
+ghost use Rattle.robots_warnings.specs.{Contents.is_cut_to_root, Crawlers.IsPastLimit};
 ghost use Rattle.robots_warnings.specs.Positions.{is_above_agents, later_delays};
 ghost use Rattle.robots_warnings.specs.{Repeated.repeated, Targets.has_odd_target};
 ghost use Rattle.robots_warnings.specs.{Targets.written_target, Urls.is_unparsable, Urls.begins_as_url};
@@ -76,7 +77,7 @@ pub fn syntax_is_that_of_the_standard()
         → IsRobotStated agent file robot }
 {}
 
-/// If a report says that verdicts are those of RFC 9309, the verdict of each crawler with a product token, on
+/// If an audit says that verdicts are those of RFC 9309, the verdict of each crawler with a product token, on
 /// each path and query in normal form, is the standard's, if reserved octets stay (`verdicts`), and the file
 /// isn't rejected for it (`accepted`).
 pub fn verdicts_are_those_of_the_standard()
@@ -113,17 +114,14 @@ pub fn examples_of_syntax()
     ensures { example.syntax }
 {}
 
-/// A line with `allowed-and-disallowed` has a Disallow that applies to one of the crawlers reported on, and an
-/// Allow with the same pattern applies to that crawler too, where `/` and `*` are the same (`given`). That
-/// Disallow decides no verdict for the crawler: none at all if the patterns are equal (`same`), and none on a
-/// path if they are `/` and `*` (`path`).
+/// A line with `allowed-and-disallowed` has a Disallow that applies to one of the crawlers reported on, and
+/// an Allow with the same pattern applies to that crawler too, where `/` and `*` are the same. That Disallow
+/// decides no verdict for the crawler: none at all if the patterns are equal (`same`), and none on a path if
+/// they are `/` and `*` (`path`).
 pub fn allowed_and_disallowed_never_decides()
-    ensures given { (is_empty : ℕ → Bool) (agents : List (List ℕ)) (lines : List LineValue) (number other : ℕ)
-        → conflict is_empty agents lines number ≡ Some other
-        → Any (λ agent. IsConflict is_empty agent lines number other) agents }
     ensures same { (is_empty : ℕ → Bool) (agent : List ℕ) (lines : List LineValue) (rules : List PlacedRule)
         (number other : ℕ) (text : List ℕ) → (is : IsConflict is_empty agent lines number other)
-        → is.allowed ≡ is.pattern → AreRulesFor agent lines rules
+        → is.opposed.allowed ≡ is.opposed.pattern → AreRulesFor agent lines rules
         → ¬ IsDecidingLine rules text (Some number) }
     ensures path { (is_empty : ℕ → Bool) (agent : List ℕ) (lines : List LineValue) (rules : List PlacedRule)
         (number other : ℕ) (path : List ℕ) → IsConflict is_empty agent lines number other
@@ -192,9 +190,8 @@ pub fn hash_cuts_rule()
 /// crawler that is reported on. No Disallow that applies to this crawler has the pattern of a Disallow that
 /// applies to `*`. The number in the message is how many Disallows `*` has.
 pub fn replaces_star()
-    ensures group { (agents : List (List ℕ)) (name : List ℕ) (lines : List LineValue) (labels : List Label)
-        (number : ℕ)
-        → AreLabelsOf name lines labels → Contains (replacing agents lines labels) number
+    ensures group { (agents : List (List ℕ)) (lines : List LineValue) (number : ℕ)
+        → IsReplacing agents lines lines number
         → (position : ℕ) × (value agent : List ℕ) × (number ≡ position + 1)
         × (slice_get lines position ≡ Some (UserAgent value)) × Contains agents agent
         × IsInOwnGroup (str_to_ascii_lowercase agent) lines position
@@ -219,7 +216,7 @@ pub fn two_delays()
 /// limit has.
 pub fn group_past_size_limit()
     ensures { (read : List LineValue) (file : List ℕ) (number : ℕ)
-        → Contains (names_past_limit read file) number
+        → IsPastLimit read file number
         → (position : ℕ) × (value : List ℕ) × (number ≡ position + 1)
         × (slice_get (file_lines file) position ≡ Some (UserAgent value)) × (is_named value read ≡ false) }
 {}

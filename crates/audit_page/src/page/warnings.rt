@@ -23,7 +23,7 @@ fn level_front(level: Level) -> &'static str {
 /// The lines are those of all that are written as one.
 fn write_warning(page: &mut Page, together: Together<'_>, lines: &[usize], warning: &Warning<'_>) {
     let (level, name) = (level_front(warning.cause.level()), warning.cause.name());
-    let (message, also) = (Message(warning, together), AlsoIn(lines));
+    let (message, also) = (Message(warning, together), AlsoIn(lines, warning));
     put_text!(page, "{level}: {message}{also} [{name}]");
 }
 
@@ -130,10 +130,8 @@ pub(crate) fn write_warning_entry(
     page.open("dd");
     write_counts(page, &audit.warnings);
     if let Some(agent) = request.agent {
-        put_text!(
-            page,
-            " (rules for crawlers other than {agent} aren't checked)"
-        );
+        let others = request.for_others();
+        put_text!(page, " (rules for crawlers other than {agent} {others})");
     }
     write_findings(alloc, page, audit.labels.len(), together, shown)?;
     page.close();

@@ -1,10 +1,15 @@
--- How lists of warnings grow.
-use Rattle.std.specs.Prelude.{[], ◌≡◌, Bool, IsTrue, not, ◌||◌, List, ◌++◌, All, Contains, Option, Some, ℕ, false}
-use Rattle.std.specs.List.{list_all}
-use Rattle.texting_robots.specs.Callers.{Label}
-use Rattle.robots_warnings.specs.declared.table.Cause.TheVariants.{TwoDelays}
-use Rattle.robots_warnings.specs.{Positions.is_other_delay}
-use Rattle.robots_warnings.specs.{Checks.Check, Message.WarningValue, Means.is_style, Means.is_so_of}
+-- How lists of warnings grow, and what is known of a file for a request.
+use Rattle.std.specs.Prelude.{◌≡◌, ℕ, All, Contains, List, ◌++◌, Option, map}
+use Rattle.std.specs.{BTreeMap.get, Ordering.nat_cmp}
+use Rattle.texting_robots.specs.Callers.{Label, label_by_value}
+use Rattle.robots_warnings.specs.declared.table.Cause.TheVariants.{AllowedAndDisallowed, EmptyDisallow}
+use Rattle.robots_warnings.specs.{declared.conflicts.RuleLines.RuleLines, Warnings.beside}
+use Rattle.robots_warnings.specs.{declared.known.Known.Known, declared.table.Cause.Cause}
+use Rattle.robots_warnings.specs.{declared.warning.Detail.Detail, Message.WarningValue, Means.Means}
+use Rattle.robots_warnings.specs.{Means.Says}
+use Rattle.robots_warnings.specs.Closed.{IsReplacing, star_count}
+use Rattle.robots_warnings.specs.{Crawlers.IsPastLimit, Facts.is_too_large, File.lines_of}
+use Rattle.robots_warnings.specs.{Positions.later_delays, Repeated.repeated}
 
 -- the old warnings, and then others, all of which are so, and which have the told ones
 pub record Tells (IsSo : WarningValue → Type 0) (told old new : List WarningValue) : Type 0 where
@@ -13,29 +18,35 @@ pub record Tells (IsSo : WarningValue → Type 0) (told old new : List WarningVa
   pub all : All IsSo added
   pub given : All (Contains added) told
 
-abbrev pub IsStyle : WarningValue → Type 0
-IsStyle warning = IsTrue (is_style warning.cause)
+abbrev pub agents_in : Known → List (List ℕ)
+agents_in known = map (λ agent. agent.now) known.agents.now
 
--- only warnings about style are added
-abbrev pub AddsStyle : (old new : List WarningValue) → Type 0
-AddsStyle old new = Tells IsStyle [] old new
+abbrev pub labels_in : Known → List Label
+labels_in known = map label_by_value known.read.now.labels.items
 
--- a warning about this line, and what it says is so if it is about this line by itself
-abbrev pub IsSoOf : Label → WarningValue → Type 0
-IsSoOf label warning =
-    (warning.line ≡ Some label.number) × IsTrue (is_style warning.cause || is_so_of warning.cause label)
+-- a warning about style, or what it says of the file is so
+abbrev pub IsSo : Known → WarningValue → Type 0
+IsSo known = Means known.all_groups (agents_in known) known.read.now.bytes.now (labels_in known)
 
--- a warning about this line, a delay that differs from the first one of its group
-abbrev pub IsOtherDelay : (is_too_large : Bool) → (first : Option ℕ) → Label → WarningValue → Type 0
-IsOtherDelay is_too_large first label warning =
-    is_style warning.cause ≡ false
-    → (warning.line ≡ Some label.number) × (warning.cause ≡ TwoDelays) × (is_too_large ≡ false)
-    × IsTrue (is_other_delay first label)
+abbrev pub SaysSo : Known → Cause → (number : ℕ) → (about : Option (List ℕ)) → Option Detail → Type 0
+SaysSo known = Says known.all_groups (agents_in known) known.read.now.bytes.now (labels_in known)
 
-abbrev pub are_style : List Check → Bool
-are_style checks = list_all (λ check. is_style check.0) checks
+-- each of the numbers that were found
+abbrev pub Each : (found : List ℕ) → (ℕ → Type 0) → Type 0
+Each found Is = (number : ℕ) → Contains found number → Is number
 
--- those whose condition holds are so of this line
-abbrev pub are_so_of : Label → List Check → Bool
-are_so_of label checks =
-    list_all (λ check. not check.1 || (is_style check.0 || is_so_of check.0 label)) checks
+pub record IsKnown (known : Known) : Type 0 where
+  pub size_is : known.read.now.facts.is_too_large ≡ is_too_large known.read.now.bytes.now
+  pub past_limit : Each known.past_limit.items
+      (IsPastLimit (lines_of (labels_in known)) known.read.now.bytes.now)
+  pub delays : known.delays.items ≡ later_delays (labels_in known)
+  pub replacing : Each known.replacing.items
+      (IsReplacing (agents_in known) (lines_of (labels_in known)) (lines_of (labels_in known)))
+  pub star_count : known.star_count ≡ star_count (lines_of (labels_in known))
+  pub repeated : Each known.repeated.items (Contains (repeated known.all_groups (labels_in known)))
+
+-- what is found about the rule in the line with this number
+abbrev pub rule_warnings : RuleLines → (number : ℕ) → List WarningValue
+rule_warnings lines number =
+    beside AllowedAndDisallowed number (get nat_cmp lines.conflicts number)
+    ++ beside EmptyDisallow number (get nat_cmp lines.overruled number)

@@ -8,4 +8,16 @@ same_names one other same = ap (λ (names : List (Bor (List ℕ))). map (λ name
 pub returns-clause-ok : goal.returns-clause-ok
 returns-clause-ok c = record {
   all = rw (same_names _ _ c.deref.ensures.value ∙ c.in_ok-agents.ensures) at c.in_ok-crawlers.ensures.ok;
+  removed_are = rw (
+    c.deref-2.ensures.value,
+    c.deref-3.ensures.value,
+    c.requires.older.lines_are,
+    c.requires.newer.lines_are,
+  ) at c.in_ok-removed.ensures;
+  added_are = rw (
+    c.deref-4.ensures.value,
+    c.deref-5.ensures.value,
+    c.requires.older.lines_are,
+    c.requires.newer.lines_are,
+  ) at c.in_ok-added.ensures;
 }

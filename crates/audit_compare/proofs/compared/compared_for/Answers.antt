@@ -7,6 +7,7 @@ returns-clause-ok c = record {
   older_is = c.in_ok-older_audit.ensures.ok;
   newer_is = c.in_ok-newer_audit.ensures.ok;
   rules_are = c.in_ok-rules.ensures;
+  changes_are = c.in_ok-changes.ensures;
   verdicts_are = c.in_ok-verdicts.ensures.ok;
   vendor_is = c.in_ok-vendor.ensures.ok;
 }

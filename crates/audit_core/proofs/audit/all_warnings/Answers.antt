@@ -19,8 +19,9 @@ returns-clause-ok c =
     let urls = map (λ url. url.now) c.deref.result.now in
     let labels = map label_by_value read.labels.items in
     let told = rw c.requires.site_is at c.in_ok-found.ensures.given in
+    let closed = rw c.requires.site_is at c.in_ok-found.ensures.closed in
     let added = more_none c.in_ok-add_needless.ensures c.in_ok-warn_of_sitemaps.ensures.ok in
     let found = all_found c.is_none-all_groups.result agents urls read.bytes.now labels
-    c.in_ok-found.ensures.so told added in
+    c.in_ok-found.ensures.so told closed added in
     rw (sym (mapped (λ agent. agent.now) c.args.request.now.agent _ c.is_none-all_groups.ensures))
     (rw c.deref.ensures.value at found)

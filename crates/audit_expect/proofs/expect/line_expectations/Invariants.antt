@@ -6,4 +6,5 @@ use Rattle.audit_expect.proofs.expect.line_expectations.Given as goal
 abbrev pub invariant-loop-line : goal.invariant-loop-line
 invariant-loop-line l =
     length l.malformed.items ≡ 0
-    → expected_by l.found.items ≡ flat_map line_expects (map (λ line. line.now) (take l.line-index l.line-items))
+    → expected_by l.found.items
+    ≡ flat_map line_expects (map (λ line. line.now) (take l.line-index l.line-items))

@@ -14,7 +14,8 @@ loop-expectation-preserved c =
           (sym c.in_ok-latest.ensures.agent_is) c.in_ok-latest.ensures.reading;
       hold = λ none.
           let (before, passes) = c.in_ok-add_if_failing.ensures none in
-          All-more (λ (one : Expectation). Holds file (expectation_value one)) _ _ _ c.loop-expectation-test.true
+          All-more (λ (one : Expectation). Holds file (expectation_value one)) _ _ _
+          c.loop-expectation-test.true
           (c.loop-expectation.invariant.hold before) (c.in_ok-checked.ensures passes);
     }
 

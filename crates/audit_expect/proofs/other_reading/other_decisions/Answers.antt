@@ -19,13 +19,15 @@ decision_of-requires-2 c =
 pub returns-clause-other : goal.returns-clause-other
 returns-clause-other c =
     let file = c.args.read.now.bytes.now in
-    decided_otherwise (bodies_read file) (placed_rules c.args.agent.now (lines_read file)) _ c.in_ok-other.other
+    decided_otherwise (bodies_read file) (placed_rules c.args.agent.now (lines_read file)) _
+    c.in_ok-other.other
     (rw (c.deref.ensures.value, c.in_ok-rules.ensures, c.deref-2.ensures, c.in_ok-target.ensures)
     at c.in_ok-other.ensures)
 
 pub returns-clause-normal : goal.returns-clause-normal
 returns-clause-normal c =
     let file = c.args.read.now.bytes.now in
-    decided_normally (bodies_read file) (placed_rules c.args.agent.now (lines_read file)) _ c.in_ok-normal.normal
+    decided_normally (bodies_read file) (placed_rules c.args.agent.now (lines_read file)) _
+    c.in_ok-normal.normal
     (rw (c.deref-4.ensures.value, c.in_ok-rules-2.ensures, c.deref-3.ensures.value, c.in_ok-rules.ensures)
     at c.in_ok-normal.ensures)

@@ -1,7 +1,8 @@
 use Rattle.std.proofs.Common.{◌≡◌, ◌↔◌, ℕ, Bool, true, false, List, ap, map, not, refl, subst, sym}
 use Rattle.std.specs.Prelude.{IsTrue}
 use Rattle.std.proofs.lemmas.List.Elements.{filter_agree}
-use Rattle.texting_robots.specs.Callers.{IsVerdict, PlacedRule, bodies_read, lines_read, placed_rules, unplaced}
+use Rattle.texting_robots.specs.Callers.{IsVerdict, PlacedRule, bodies_read, lines_read, placed_rules}
+use Rattle.texting_robots.specs.Callers.{unplaced}
 use Rattle.texting_robots.proofs.Shared.{one_verdict}
 use Rattle.audit_expect.specs.OtherReading.{AreOthers, IsNormalVerdict, normal_rule}
 use Rattle.audit_expect.specs.Expectations.{HoldsFor}

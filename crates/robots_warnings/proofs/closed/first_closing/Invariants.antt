@@ -1,12 +1,12 @@
 use Rattle.std.proofs.Common.{◌≡◌, drop}
 use Rattle.std.specs.HashSet.{contains_text}
 use Rattle.robots_warnings.specs.Closed.{closes, first_closing, leaves_closed}
-use Rattle.robots_warnings.specs.{Conflicts.first_line, Internal.Rules.IsNeeded}
+use Rattle.robots_warnings.specs.{Conflicts.first_line, Internal.Closed.IsNeeded}
 use Rattle.robots_warnings.proofs.closed.first_closing.Given as goal
 
 abbrev pub invariant-loop-rule : goal.invariant-loop-rule
 invariant-loop-rule l = record {
-  needed : IsNeeded (leaves_closed l.part (contains_text l.exempt)) l.rules l.needed;
-  all : first_line (closes l.part (leaves_closed l.part (contains_text l.exempt)) l.rules)
-      (drop l.rule-index l.rules) ≡ first_closing l.part (contains_text l.exempt) l.rules;
+  needed : IsNeeded (leaves_closed (contains_text l.exempt)) l.rules l.needed;
+  all : first_line (closes (leaves_closed (contains_text l.exempt)) l.rules) (drop l.rule-index l.rules)
+      ≡ first_closing (contains_text l.exempt) l.rules;
 }

@@ -6,6 +6,5 @@ use Rattle.robots_warnings.proofs.closed.needed.Given as goal
 abbrev pub invariant-loop-rule : goal.invariant-loop-rule
 invariant-loop-rule l = (pattern : List ℕ)
     → (nat_lt (length pattern) l.needed
-    || list_any (is_rival (leaves_closed l.part (contains_text l.exempt)) pattern)
-    (drop l.rule-index l.rules))
-    ≡ list_any (is_rival (leaves_closed l.part (contains_text l.exempt)) pattern) l.rules
+    || list_any (is_rival (leaves_closed (contains_text l.exempt)) pattern) (drop l.rule-index l.rules))
+    ≡ list_any (is_rival (leaves_closed (contains_text l.exempt)) pattern) l.rules

@@ -1,4 +1,5 @@
-use Rattle.std.proofs.Common.{[], append-nil, refl, ◌∙◌}
+use Rattle.std.proofs.Common.{sym, ◌∙◌}
+use Rattle.std.proofs.lemmas.{List.Elements.All-nil}
 use Rattle.robots_warnings.proofs.SeenLemmas.{found_more}
 use Rattle.robots_warnings.proofs.names_past_limit.names_past_limit.Goals as goal
 
@@ -8,18 +9,17 @@ loop-index-init c =
     rw (
       c.into_iter-index-iterator.ensures.into_iter_gives,
       items.count,
-      items.source ∙ c.file_lines.ensures.value,
       c.new-found.ensures.items,
     ) (record {
-      before = [];
-      count = refl;
-      parts = refl;
-      has = rw append-nil c.in_ok-names.ensures;
-      all = refl;
+      left = sym (items.source ∙ c.file_lines.ensures.value);
+      has = c.in_ok-names.ensures;
+      are = All-nil _;
     })
 
 pub loop-index-preserved : goal.loop-index-preserved
 loop-index-preserved c =
     let (next, here, further, _) = c.in-Some.ensures.steps in
     let added = rw here at c.in_ok-push_if.ensures in
-    rw further (found_more (rw next at c.loop-index.invariant) c.in_ok-insert_name.ensures added)
+    let was = c.loop-index.invariant in
+    rw further (found_more _ c.args.file.now _ _ _ (rw next at was.left) was.has was.are
+    c.in_ok-insert_name.ensures added)
