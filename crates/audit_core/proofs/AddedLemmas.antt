@@ -4,23 +4,24 @@ use Rattle.std.proofs.Common.{◌++◌}
 use Rattle.std.proofs.Common.{MatchOption, Option, None, Some, ap, ap₂, append-nil, append_assoc, codes}
 use Rattle.std.proofs.Common.{filter}
 use Rattle.std.proofs.Common.{flat_map, if◌then◌else◌, inl, inr, length, option_to_list, refl, slice_index_or}
-use Rattle.std.proofs.Common.{Any, sym, take}
-use Rattle.std.specs.{Bool.⊤}
+use Rattle.std.proofs.Common.{sym, take}
 use Rattle.std.proofs.lemmas.Bool.{cases_Bool, false≢true}
 use Rattle.std.proofs.lemmas.List.{Concat.flat_map-append, map-append, take_more}
 use Rattle.std.proofs.lemmas.List.Elements.{All-append, All-cons, All-filter, All-head, All-nil, All-tail}
 use Rattle.std.proofs.lemmas.List.Elements.{All-weaker, Contains-append_left, filter_passes}
-use Rattle.texting_robots.specs.Callers.{Label, LineValue, lines_read}
+use Rattle.texting_robots.specs.Callers.{Label, lines_read}
 use Rattle.robots_needless.proofs.TogetherLemmas.{to_filter}
 use Rattle.robots_needless.specs.{Needless.numbers_of, declared.needless.NeedlessRule.NeedlessRule}
-use Rattle.robots_warnings.specs.{Means.Means, Means.is_style, Means.telling, Message.WarningValue}
-use Rattle.robots_warnings.specs.Warnings.{HasClosed, IsClosing, is_closing_cause}
-use Rattle.robots_warnings.specs.{Closed.line_closing_site}
+use Rattle.robots_warnings.specs.{Means.Means, Means.is_style, Message.WarningValue}
+use Rattle.robots_warnings.proofs.TellsLemmas.{each_stays}
+use Rattle.robots_warnings.specs.Conflicts.{is_empty_at, overrules_for_one}
+use Rattle.robots_warnings.specs.Warnings.{ClosesToOne, HasClosed, HasEach, HasOverruling, is_closing_cause}
+use Rattle.robots_warnings.specs.Warnings.{is_empty_cause, url_warnings}
 use Rattle.robots_warnings.specs.{Table.name_of, declared.table.Cause.Cause, declared.warning.Detail.Detail}
 use Rattle.robots_warnings.specs.declared.table.Cause.TheVariants as causes
-use Rattle.audit_core.specs.{Audit.IsSo, Chosen.chosen, Chosen.is_chosen, Internal.AddsNeedless}
-use Rattle.audit_core.specs.{Internal.AreFoundFor, Internal.is_plain, Together.is_needless}
-use Rattle.audit_core.specs.{Together.needless_line}
+use Rattle.audit_core.specs.Internal.{AddsNeedless, AreFoundFor, is_plain}
+use Rattle.audit_core.specs.Together.{is_needless, needless_line}
+use Rattle.audit_core.specs.{Audit.IsSo, Chosen.chosen, Chosen.is_chosen}
 
 abbrev IsPlain : WarningValue → Type 0
 IsPlain warning = is_plain warning ≡ true
@@ -111,27 +112,16 @@ told_chosen test found told are k other below =
     to_filter test found _ (All-filter test (Contains found) told are k other below)
     (filter_passes test told k other below)
 
--- ---- Closed sites.
+-- ---- Lines of which each has a warning.
 
-abbrev HasAt : List WarningValue → Option ℕ → Type 0
-HasAt warnings line = MatchOption line ⊤ (λ number. Any (IsClosing number) warnings)
-
-abbrev Includes : List WarningValue → List WarningValue → Type 0
-Includes found new = (warning : WarningValue) → is_closing_cause warning.cause ≡ true → Contains found warning
-    → Contains new warning
-
-still_at : (found new : List WarningValue) → Includes found new → (line : Option ℕ) → HasAt found line
-    → HasAt new line
-still_at found new into None has = has
-still_at found new into (Some number) (k, warning, below, at, is) =
-    let (place, within, there) = into warning is.1 (k, below, at) in (place, warning, within, there, is)
-
-closed_in : (agents : List (List ℕ)) (lines : List LineValue) (found new : List WarningValue)
-    → Includes found new → HasClosed agents lines found → HasClosed agents lines new
-closed_in agents lines found new into closed =
-    All-weaker (λ agent. HasAt found (line_closing_site lines agent))
-    (λ agent. HasAt new (line_closing_site lines agent))
-    (λ agent. still_at found new into (line_closing_site lines agent)) agents closed
+each_chosen : (is_reason : Cause → Bool) (IsIn : ℕ → Type 0) (name : List ℕ)
+    → ((cause : Cause) → is_reason cause ≡ true → name_of cause ≡ name) → (only ignored : List (List ℕ))
+    (found : List WarningValue) → HasEach is_reason IsIn found → is_chosen only ignored name ≡ true
+    → HasEach is_reason IsIn (chosen only ignored found)
+each_chosen is_reason IsIn name named only ignored found has shown =
+    let test = λ (warning : WarningValue). is_chosen only ignored (name_of warning.cause) in
+    each_stays is_reason IsIn found (filter test found) (λ warning reason among.
+    to_filter test found warning among (ap (is_chosen only ignored) (named warning.cause reason) ∙ shown)) has
 
 closing_name : (cause : Cause) → is_closing_cause cause ≡ true → name_of cause ≡ codes "closes-everything"
 unfolding name_of
@@ -139,13 +129,10 @@ closing_name causes.ClosesSite is = refl
 closing_name causes.ClosesEverything is = refl
 closing_name cause is = absurd (false≢true is)
 
-closed_chosen : (agents : List (List ℕ)) (lines : List LineValue) (only ignored : List (List ℕ))
-    (found : List WarningValue) → is_chosen only ignored (codes "closes-everything") ≡ true
-    → HasClosed agents lines found → HasClosed agents lines (chosen only ignored found)
-closed_chosen agents lines only ignored found shown =
-    let test = λ (warning : WarningValue). is_chosen only ignored (name_of warning.cause) in
-    closed_in agents lines found (filter test found) (λ warning closing has. to_filter test found warning has
-    (ap (is_chosen only ignored) (closing_name warning.cause closing) ∙ shown))
+empty_name : (cause : Cause) → is_empty_cause cause ≡ true → name_of cause ≡ codes "empty-disallow"
+unfolding name_of
+empty_name causes.EmptyDisallow is = refl
+empty_name cause is = absurd (false≢true is)
 
 no_line : (line : Option ℕ) → MatchOption line ⊥ (λ number. ⊥) → ⊥
 no_line None says = says
@@ -186,19 +173,25 @@ module _ (all_groups : Bool) (agents urls : List (List ℕ)) (file : List ℕ) (
       → IsSo all_groups agents file labels warning
   plain_so warning plain isnt style = absurd (false≢true (rw (style, isnt) at plain))
 
+  abbrev IsOverruling : ℕ → Type 0
+  IsOverruling number = overrules_for_one (is_empty_at labels) agents (lines_read file) number ≡ true
+
   pub all_found : {lines : List ℕ} {old new : List WarningValue} → All Says old
-      → All (Contains old) (telling agents urls (lines_read file) labels)
-      → HasClosed agents (lines_read file) old → AddsNeedless lines old new
-      → AreFoundFor all_groups agents urls file labels lines new
-  all_found {lines} {old} {new} are told closed all = record {
+      → All (Contains old) (flat_map url_warnings urls)
+      → HasClosed agents (lines_read file) old
+      → HasOverruling (is_empty_at labels) agents (lines_read file) old
+      → AddsNeedless lines old new → AreFoundFor all_groups agents urls file labels lines new
+  all_found {lines} {old} {new} are told closed overruling all = record {
     are = rw all.appended (All-append (IsSo all_groups agents file labels) old all.added
         (λ k other below _. are k other below)
         (All-weaker IsPlain (IsSo all_groups agents file labels) plain_so all.added all.plain));
     in_lines = ap (flat_map needless_line) all.appended ∙ flat_map-append needless_line old all.added
         ∙ ap (λ front. front ++ flat_map needless_line all.added) (none_needless old are) ∙ all.in_lines;
     told = λ k other below. rw all.appended (Contains-append_left old all.added _ (told k other below));
-    closed = closed_in agents (lines_read file) old new
+    closed = each_stays is_closing_cause (ClosesToOne agents (lines_read file)) old new
         (λ warning _ has. rw all.appended (Contains-append_left old all.added warning has)) closed;
+    overruling = each_stays is_empty_cause IsOverruling old new
+        (λ warning _ has. rw all.appended (Contains-append_left old all.added warning has)) overruling;
   }
 
   pub chosen_so : (only ignored : List (List ℕ)) (lines : List ℕ) (found new : List WarningValue)
@@ -206,8 +199,10 @@ module _ (all_groups : Bool) (agents urls : List (List ℕ)) (file : List ℕ) (
       → All (IsSo all_groups agents file labels) new
       × (flat_map needless_line new
       ≡ (if is_chosen only ignored (codes "needless-rule") then lines else []))
-      × All (Contains new) (chosen only ignored (telling agents urls (lines_read file) labels))
+      × All (Contains new) (chosen only ignored (flat_map url_warnings urls))
       × (is_chosen only ignored (codes "closes-everything") ≡ true → HasClosed agents (lines_read file) new)
+      × (is_chosen only ignored (codes "empty-disallow") ≡ true
+      → HasOverruling (is_empty_at labels) agents (lines_read file) new)
   chosen_so only ignored lines found new is same =
       let test = λ (warning : WarningValue). is_chosen only ignored (name_of warning.cause) in
       let shown = is_chosen only ignored (codes "needless-rule") in
@@ -216,6 +211,9 @@ module _ (all_groups : Bool) (agents urls : List (List ℕ)) (file : List ℕ) (
         lines_kept test shown (λ warning needless. ap (is_chosen only ignored)
             (name_is warning.cause needless)) found
             ∙ ap (λ (lines : List ℕ). if shown then lines else []) is.in_lines,
-        told_chosen test found (telling agents urls (lines_read file) labels) is.told,
-        λ shown. closed_chosen agents (lines_read file) only ignored found shown is.closed,
+        told_chosen test found (flat_map url_warnings urls) is.told,
+        each_chosen is_closing_cause (ClosesToOne agents (lines_read file)) (codes "closes-everything")
+            closing_name only ignored found is.closed,
+        each_chosen is_empty_cause IsOverruling (codes "empty-disallow") empty_name only ignored found
+            is.overruling,
       )

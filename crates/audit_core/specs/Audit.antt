@@ -5,22 +5,24 @@ use Rattle.std.specs.Prelude.{is_some, length, map, take}
 use Rattle.std.specs.{List.AllZip, List.list_all, List.list_any, List.position_from, Str.is_utf8}
 use Rattle.texting_robots.specs.Callers.{IsFirstOverlong, IsRejected, Label, LineValue, PlacedRule, UserAgent}
 use Rattle.texting_robots.specs.Callers.{delay_for, file_limit, group_name, is_agent_named, is_named}
-use Rattle.texting_robots.specs.Callers.{lines_read}
-use Rattle.texting_robots.specs.Callers.{placed_rules}
+use Rattle.texting_robots.specs.Callers.{lines_read, placed_rules}
 use Rattle.texting_robots.specs.{Agents.is_among, Group.is_agent, Decision.IsDecisionOn}
-use Rattle.texting_robots.specs.{declared.decision.Decision.Decision}
-use Rattle.audit_core.specs.{declared.group.Group.Group, declared.group.AtVendor.AtVendor}
+use Rattle.texting_robots.specs.declared.decision.Decision.{Decision}
+use Rattle.audit_core.specs.declared.group.{Group.Group, AtVendor.AtVendor}
 use Rattle.audit_core.specs.{Request.RequestValue, Target.asked_target, Chosen.chosen, Chosen.is_chosen}
-use Rattle.audit_core.specs.Together.{is_needless, needless_line}
-use Rattle.rfc9309.specs.{Conformance.conformance_of, declared.conformance.Conformance.Conformance}
+use Rattle.audit_core.specs.{Together.is_needless, Together.needless_line, Reach.IsReach}
+use Rattle.rfc9309.specs.Conformance.{conformance_of}
+use Rattle.rfc9309.specs.declared.conformance.Conformance.{Conformance}
 use Rattle.audit_core.specs.declared.group.AtVendor.TheVariants.{NoGroup, OtherGroup, Same}
 use Rattle.audit_core.specs.declared.group.Group.TheVariants.{Everyone, Named, Nobody, Star}
-use Rattle.robots_needless.specs.{Blocks.AreFoundIn, Needless.NeedlessValue, Needless.nothing}
-use Rattle.robots_needless.specs.{Needless.numbers_of}
+use Rattle.robots_needless.specs.Blocks.{AreFoundIn}
+use Rattle.robots_needless.specs.Needless.{NeedlessValue, nothing, numbers_of}
 use Rattle.robots_warnings.specs.Crawlers.{Row, crawlers, ignores_star, other_group}
-use Rattle.audit_core.specs.{Reach.IsReach, declared.reach.Reach.Reach, declared.reach.Reach.TheVariants.Part}
-use Rattle.robots_warnings.specs.{Facts.is_too_large, File.labels_for, Means.Means, Means.telling}
-use Rattle.robots_warnings.specs.{Message.WarningValue, Warnings.HasClosed}
+use Rattle.robots_warnings.specs.Message.{WarningValue}
+use Rattle.robots_warnings.specs.Warnings.{HasClosed, HasOverruling, url_warnings}
+use Rattle.robots_warnings.specs.{Facts.is_too_large, File.labels_for, Means.Means, Conflicts.is_empty_at}
+use Rattle.audit_core.specs.declared.reach.Reach.{Reach}
+use Rattle.audit_core.specs.declared.reach.Reach.TheVariants.{Part}
 
 -- a name is appended if it is new and UTF-8, as a crawler's name is a string
 abbrev pub with_name : List (List ℕ) → LineValue → List (List ℕ)
@@ -156,12 +158,15 @@ pub record IsAuditOf (requested : RequestValue) (file : List ℕ) (audit : Audit
   pub warnings_are : All (IsSo (is_none requested.agent) (agents_requested requested.agents (lines_read file))
       file (labels_requested requested file)) audit.warnings
   pub in_lines : flat_map needless_line audit.warnings ≡ needless_shown requested needless
-  pub told : All (Contains audit.warnings) (chosen requested.only requested.ignored
-      (telling (agents_requested requested.agents (lines_read file)) requested.urls (lines_read file)
-      (labels_requested requested file)))
+  pub told : All (Contains audit.warnings)
+      (chosen requested.only requested.ignored (flat_map url_warnings requested.urls))
   -- the line that closes the site to a crawler has a warning
   pub closed : is_chosen requested.only requested.ignored (codes "closes-everything") ≡ true
       → HasClosed (agents_requested requested.agents (lines_read file)) (lines_read file) audit.warnings
+  -- and so has an empty Disallow that overrules a Disallow for a crawler
+  pub overruling : is_chosen requested.only requested.ignored (codes "empty-disallow") ≡ true
+      → HasOverruling (is_empty_at (labels_requested requested file))
+      (agents_requested requested.agents (lines_read file)) (lines_read file) audit.warnings
   pub syntax_is : audit.syntax ≡ conformance_of file
 
 abbrev pub allows_all : List VerdictValue → Bool

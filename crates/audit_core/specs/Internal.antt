@@ -4,7 +4,8 @@ pub mod Views
 use Rattle.std.specs.Prelude.{◌≡◌, ◌++◌, ◌||◌, ℕ, All, Bool, true, Contains, List, flat_map, take}
 use Rattle.texting_robots.specs.Callers.{IsFirstOverlong, IsRobotWithoutSitemaps, Label, file_limit}
 use Rattle.texting_robots.specs.Callers.{lines_read, placed_rules}
-use Rattle.robots_warnings.specs.{Means.is_style, Means.telling, Message.WarningValue, Warnings.HasClosed}
+use Rattle.robots_warnings.specs.{Conflicts.is_empty_at, Means.is_style, Message.WarningValue}
+use Rattle.robots_warnings.specs.Warnings.{HasClosed, HasOverruling, url_warnings}
 use Rattle.audit_core.specs.{Audit.IsSo, Together.is_needless, Together.needless_line}
 use Rattle.audit_core.specs.declared.audit.Reading.{Reading, TheVariants.Accepted, TheVariants.Rejected}
 
@@ -29,5 +30,6 @@ pub record AreFoundFor (all_groups : Bool) (agents urls : List (List ℕ)) (file
     (lines : List ℕ) (found : List WarningValue) : Type 0 where
   pub are : All (IsSo all_groups agents file labels) found
   pub in_lines : flat_map needless_line found ≡ lines
-  pub told : All (Contains found) (telling agents urls (lines_read file) labels)
+  pub told : All (Contains found) (flat_map url_warnings urls)
   pub closed : HasClosed agents (lines_read file) found
+  pub overruling : HasOverruling (is_empty_at labels) agents (lines_read file) found

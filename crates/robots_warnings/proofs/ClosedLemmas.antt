@@ -1,46 +1,33 @@
 -- Closed sites, product tokens, and the tables of warnings.
-use Rattle.std.specs.Prelude.{slice_get}
+use Rattle.std.specs.{Prelude.slice_get, Prelude.Any, Prelude.MatchOption, Global.Global}
+use Rattle.std.specs.{HashSet.contains_text, String.string_eq, List.filter_map, List.list_any, Str.byte}
+use Rattle.std.specs.{Str.str_to_ascii_lowercase, BTreeSet.BTreeSet, BTreeSet.Updates, BTreeSet.contains}
 use Rattle.std.proofs.Common.{[], ◌≡◌, ℕ, ◌+◌, ◌==◌, Bool, false, true, List, ◌∷◌, ap, arith, inl, inr, refl}
-use Rattle.std.proofs.Common.{suc, sym, ◌∙◌, ◌&&◌, ◌||◌, nat_le, nat_lt, not, ◌++◌, ◌<◌, Bor, Option}
-use Rattle.std.proofs.Common.{String, cond, length, map, slice_index_or, string_bytes}
-use Rattle.std.proofs.Common.{bytes_eq, zero, Some, None, get_or, Contains, All, is_some}
-use Rattle.std.specs.Prelude.{Any, MatchOption, ⊤}
-use Rattle.std.specs.{BTreeMap.IsOrdered, BTreeMap.get, Ordering.nat_cmp, Cmp.nat_cmp_total}
-use Rattle.std.proofs.lemmas.List.Elements.{All-map, All-nil}
-use Rattle.std.proofs.lemmas.List.Elements.{Contains-append_right, Contains-get_or}
-use Rattle.std.proofs.lemmas.Map.{Lookups.exact_unsigned, Views.All-found, Views.btree_map_get_iff}
-use Rattle.std.proofs.lemmas.List.{Elements.filter_map-append, Folds.list_any-append}
-use Rattle.std.proofs.lemmas.List.{FromFn.get_or-range_with_len}
-use Rattle.std.proofs.lemmas.Bool.{and_parts, cases_Bool, false≢true, ne_eqb}
-use Rattle.std.proofs.lemmas.{Bool.Decides.nat_tests, Map.Text.is_eq-slice_cmp, Simd.map-map}
-use Rattle.std.proofs.lemmas.{Map.Text.hash_set_updates_text}
-use Rattle.std.specs.{Global.Global, HashSet.contains_text, String.string_eq}
-use Rattle.std.specs.HashSet as hash
-use Rattle.std.specs.{List.filter_map, List.list_any, Str.byte, BTreeSet.BTreeSet}
-use Rattle.std.specs.{BTreeSet.Updates, BTreeSet.contains, Str.str_to_ascii_lowercase, List.range_with_len}
-use Rattle.texting_robots.specs.Callers as callers
+use Rattle.std.proofs.Common.{suc, sym, ◌∙◌, ◌&&◌, ◌||◌, nat_le, nat_lt, not, ◌++◌, Bor, Option, String, cond}
+use Rattle.std.proofs.Common.{length, map, slice_index_or, string_bytes, bytes_eq, zero, None, Some, Contains}
+use Rattle.std.proofs.Common.{All}
+use Rattle.std.proofs.lemmas.List.Elements.{All-contains, All-map, All-weaker, Contains-append_right}
+use Rattle.std.proofs.lemmas.List.Elements.{filter_map-append}
+use Rattle.std.proofs.lemmas.List.{get_or-map, length-map, Folds.list_any-append}
+use Rattle.std.proofs.lemmas.Bool.{and_parts, cases_Bool, false≢true, ne_eqb, Decides.nat_tests}
+use Rattle.std.proofs.lemmas.Map.Text.{is_eq-slice_cmp, hash_set_updates_text}
 use Rattle.texting_robots.specs.Callers.{AreSitemapsOf, Label, LineValue, PlacedRule, escaped, file_lines}
 use Rattle.texting_robots.specs.Callers.{sitemaps_in}
-use Rattle.texting_robots.specs.{Escape.is_escaped, Line.AreFileLinesOf, Line.nul_as_lf}
+use Rattle.texting_robots.specs.Escape.{is_escaped}
+use Rattle.texting_robots.specs.Line.{AreFileLinesOf, nul_as_lf}
 use Rattle.texting_robots.proofs.Shared.{each_text_has_its_lines, of_lines, sitemaps_are_computed}
-use Rattle.robots_warnings.specs.{Closed.closes}
-use Rattle.robots_warnings.specs.Closed.{are_signs, is_closing, is_rival, is_star_or_dollar, is_literally}
-use Rattle.robots_warnings.specs.Closed.{is_whole_site, line_closing_site, opened_path}
-use Rattle.robots_warnings.specs.{File.lines_of, Means.Closes, Means.Means, Message.WarningValue}
-use Rattle.robots_warnings.specs.Warnings.{HasClosed, IsClosing, is_closing_cause}
-use Rattle.robots_warnings.specs.declared.closed.ClosedLine.{ClosedLine}
-use Rattle.robots_warnings.specs.declared.table.Cause.TheVariants.{ClosesEverything, ClosesHome}
-use Rattle.robots_warnings.specs.declared.table.Cause.TheVariants.{ClosesHomeToOthers, ClosesSite}
-use Rattle.robots_warnings.specs.Internal.{Closed.AreNamed, Closed.HasLine, Closed.Lines, Closed.warning_at}
-use Rattle.robots_warnings.specs.Internal.{Closed.IsNeeded, Names.AddsName, Names.Key, Names.key_cmp, IsAt}
-use Rattle.robots_warnings.specs.Internal.{Rules.Patterns, Tells.Tells}
-use Rattle.std.proofs.Math.{Bool.or-false}
-use Rattle.robots_warnings.specs.contracts.table.{Cause.the_type}
-use Rattle.robots_warnings.specs.declared.table.{Cause.Cause, TheConstants.WARNINGS}
-use Rattle.robots_warnings.specs.Table.{number_of, all_causes}
-use borrow.Enum.Match.{tag_small}
-use denote.Enum.Bare.{tag_one}
-use native.Mathlib.Nat.{zero-add}
+use Rattle.robots_warnings.specs.Closed.{closes, are_signs, is_closing, is_rival, is_star_or_dollar}
+use Rattle.robots_warnings.specs.Closed.{is_literally, is_whole_site, line_closing_site, opened_path}
+use Rattle.robots_warnings.specs.{Message.WarningValue, File.lines_of, Internal.IsAt, Internal.Rules.Patterns}
+use Rattle.robots_warnings.specs.Warnings.{HasClosed, IsAbout, IsTold, is_closing_cause}
+use Rattle.robots_warnings.specs.Means.{Closes, Means}
+use Rattle.robots_warnings.specs.declared.{table.Cause.Cause, warning.Detail.Detail}
+use Rattle.robots_warnings.specs.declared.table.Cause.TheVariants.{ClosesEverything, ClosesSite}
+use Rattle.robots_warnings.specs.Internal.Closed.{IsClosed, IsNeeded}
+use Rattle.robots_warnings.specs.Internal.Names.{AddsName, Key, key_cmp}
+use Rattle.std.proofs.{Math.Bool.or-false}
+use Rattle.std.specs.HashSet as hash
+use Rattle.texting_robots.specs.Callers as callers
 
 -- ---- Rules that leave nothing, or nearly nothing, of a site to a crawler.
 
@@ -112,89 +99,72 @@ closes_if is_exempt rules needed placed value closing same is =
     at_least : (m n : ℕ) (rival : Bool) → rival ≡ nat_lt n m → nat_le m n ≡ not rival
     at_least m n rival is = rw is (grind (arith, nat_tests))
 
-contains_map : {X Y : Type 0} (f : X → Y) (xs : List X) (x : X) → Contains xs x → Contains (map f xs) (f x)
-contains_map f [] x (k, below, at) = absurd (omega arith)
-contains_map f (y ∷ xs) x (zero, below, at) = (0, omega arith, ap f at)
-contains_map f (y ∷ xs) x (suc k, below, at) =
-    let (later, there, is) = contains_map f xs x (k, omega arith, at) in
-    (suc later, omega arith, is)
+abbrev row_of : List LineValue → Bor (List ℕ) → Option ℕ × Bor (List ℕ)
+row_of lines agent = (line_closing_site lines agent.now, agent)
 
-pub agent_within : (agents : List (Bor (List ℕ))) (at : ℕ) (other : Bor (List ℕ)) → at < length agents
-    → Contains (map (λ agent. agent.now) agents) (slice_index_or agents at other).now
-agent_within agents at other below =
-    contains_map (λ (agent : Bor (List ℕ)). agent.now) agents _ (Contains-get_or agents at other below)
+abbrev IsRow : (agents : List (List ℕ)) → List LineValue → Option ℕ × Bor (List ℕ) → Type 0
+IsRow agents lines row = Contains agents row.1.now × (line_closing_site lines row.1.now ≡ row.0)
 
-abbrev of_site : ℕ × ClosedLine → WarningValue
-of_site entry = warning_at ClosesSite ClosesEverything entry
+are_rows : (agents : List (Bor (List ℕ))) (lines : List LineValue)
+    → All (IsRow (map (λ agent. agent.now) agents) lines) (map (row_of lines) agents)
+are_rows agents lines =
+    All-map (IsRow (map (λ agent. agent.now) agents) lines) (row_of lines) agents (λ k agent below. (
+      (
+        k,
+        omega (arith, length-map agents (λ agent. agent.now), below),
+        get_or-map (λ (agent : Bor (List ℕ)). agent.now) agents k agent _ below,
+      ),
+      refl,
+    ))
 
-abbrev of_home : ℕ × ClosedLine → WarningValue
-of_home entry = warning_at ClosesHome ClosesHomeToOthers entry
+pub told_of : (agents : List (Bor (List ℕ))) (lines : List LineValue) (found : List WarningValue)
+    → All (λ row. IsTold found row.0) (map (row_of lines) agents)
+    → HasClosed (map (λ agent. agent.now) agents) lines found
+told_of agents lines found told number (k, agent, below, at, is) =
+    rw is at (All-contains (λ agent. IsTold found (line_closing_site lines agent))
+    (map (λ agent. agent.now) agents) agent
+    (All-map (λ agent. IsTold found (line_closing_site lines agent)) (λ (agent : Bor (List ℕ)). agent.now)
+    agents
+    (λ k agent below. rw (get_or-map (row_of lines) agents k agent (row_of lines agent) below)
+    at (told k (row_of lines agent) (omega (arith, length-map agents (row_of lines), below)))))
+    (k, below, at))
 
-module _ (all_groups : Bool) (agents : List (List ℕ)) (file : List ℕ) (labels : List Label) where
-  abbrev So : WarningValue → Type 0
-  So = Means all_groups agents file labels
+pub told_last : (old : List WarningValue) (warning : WarningValue) (number : ℕ) → warning.line ≡ Some number
+    → is_closing_cause warning.cause ≡ true
+    → Any (IsAbout is_closing_cause number) (old ++ warning ∷ [])
+told_last old warning number line closing =
+    let (k, below, at) = Contains-append_right old (warning ∷ []) warning (0, omega arith, refl) in
+    (k, warning, below, at, (line, closing))
 
-  site_means : (entry : ℕ × ClosedLine) → Closes agents labels entry.0 (Some entry.1.agent.now)
-      → So (of_site entry)
-  site_means entry closes = elim (cases_Bool entry.1.is_major) [
-    | inl major ↦ rw major (λ isnt. inr closes)
-    | inr minor ↦ rw minor (λ isnt. inr closes)
-  ]
+module _ (all_groups : Bool) (asked : List (Bor (List ℕ))) (file : List ℕ) (labels : List Label) where
+  closes_to : (number : ℕ) (about : Option (List ℕ))
+      → Any (λ row. (row.0 ≡ Some number) × (about ≡ Some row.1.now)) (map (row_of (lines_of labels)) asked)
+      → Closes (map (λ agent. agent.now) asked) labels number about
+  closes_to number about (k, row, below, there, (line, name)) =
+      let lines = lines_of labels in
+      let is = All-contains (IsRow (map (λ agent. agent.now) asked) lines) (map (row_of lines) asked) row
+      (are_rows asked lines) (k, below, there) in
+      rw name (is.0, is.1 ∙ line)
 
-  home_means : (entry : ℕ × ClosedLine) → So (of_home entry)
-  home_means entry = elim (cases_Bool entry.1.is_major) [
-    | inl major ↦ rw major (λ isnt. absurd (false≢true (sym isnt)))
-    | inr minor ↦ rw minor (λ isnt. absurd (false≢true (sym isnt)))
-  ]
+  closed_means : (warning : WarningValue) → IsClosed (map (row_of (lines_of labels)) asked) warning
+      → Means all_groups (map (λ agent. agent.now) asked) file labels warning
+  closed_means warning is = so warning.cause warning.line warning.about warning.detail is.0 is.1
+    where
+      so : (cause : Cause) (line : Option ℕ) (about : Option (List ℕ)) (detail : Option Detail)
+          → is_closing_cause cause ≡ true
+          → MatchOption line ⊥ (λ number. Any (λ row. (row.0 ≡ Some number) × (about ≡ Some row.1.now))
+          (map (row_of (lines_of labels)) asked))
+          → Means all_groups (map (λ agent. agent.now) asked) file labels
+          (record { line = line; cause = cause; about = about; detail = detail })
+      so ClosesSite (Some number) about detail closing is = λ isnt. inr (closes_to number about is)
+      so ClosesEverything (Some number) about detail closing is = λ isnt. inr (closes_to number about is)
+      so cause None about detail closing is = absurd is
+      so cause line about detail closing is = absurd (false≢true closing)
 
-  tells_all : {X : Type 0} (f : X → WarningValue) (xs : List X) {old new : List WarningValue}
-      → All (λ x. So (f x)) xs → new ≡ old ++ map f xs → Tells So [] old new
-  tells_all f xs all is =
-      record { added = map f xs; is = is; all = All-map So f xs all; given = All-nil (Contains (map f xs)) }
-
-  pub sites_tell : (sites : Lines) {old new : List WarningValue} → IsOrdered nat_cmp sites
-      → AreNamed (line_closing_site (lines_of labels)) agents sites → new ≡ old ++ map of_site sites.entries
-      → Tells So [] old new
-  sites_tell sites ordered named = tells_all of_site sites.entries (λ k entry below.
-      let one = get_or sites.entries k entry in
-      site_means one (rw (All-found nat_cmp_total sites ordered k entry below) at (named one.0)))
-
-  pub homes_tell : (homes : Lines) {old new : List WarningValue} → new ≡ old ++ map of_home homes.entries
-      → Tells So [] old new
-  homes_tell homes = tells_all of_home homes.entries
-      (λ k entry below. home_means (get_or homes.entries k entry))
-
-module _ (old new : List WarningValue) (sites : Lines) (ordered : IsOrdered nat_cmp sites)
-    (is : new ≡ old ++ map of_site sites.entries) where
-  closing : (entry : ℕ × ClosedLine) → is_closing_cause (of_site entry).cause ≡ true
-  closing entry = elim (cases_Bool entry.1.is_major) [
-    | inl major ↦ rw major refl
-    | inr minor ↦ rw minor refl
-  ]
-
-  warned : (number : ℕ) (found : Option ClosedLine) → get nat_cmp sites number ≡ found
-      → is_some found ≡ true → Any (IsClosing number) new
-  warned number None at some = absurd (false≢true some)
-  warned number (Some line) at some =
-      let among = (btree_map_get_iff nat_cmp_total exact_unsigned sites ordered number line).0 at in
-      let (k, below, there) : Contains new (of_site (number, line)) =
-      rw is (Contains-append_right old (map of_site sites.entries) _
-      (contains_map of_site sites.entries (number, line) among)) in
-      (k, of_site (number, line), below, there, (refl, closing (number, line)))
-
-  told : (line : Option ℕ)
-      → ((number : ℕ) → line ≡ Some number → is_some (get nat_cmp sites number) ≡ true)
-      → MatchOption line ⊤ (λ number. Any (IsClosing number) new)
-  told None has = tt
-  told (Some line) has = warned line (get nat_cmp sites line) refl (has line refl)
-
-  pub closed_told : (lines : List LineValue) (agents : List (Bor (List ℕ)))
-      → All (HasLine (line_closing_site lines) sites) agents
-      → HasClosed (map (λ agent. agent.now) agents) lines new
-  closed_told lines agents has =
-      All-map (λ agent. MatchOption (line_closing_site lines agent) ⊤ (λ number. Any (IsClosing number) new))
-      (λ (agent : Bor (List ℕ)). agent.now) agents
-      (λ k agent below. told (line_closing_site lines (get_or agents k agent).now) (has k agent below))
+  pub all_mean : (found : List WarningValue) → All (IsClosed (map (row_of (lines_of labels)) asked)) found
+      → All (Means all_groups (map (λ agent. agent.now) asked) file labels) found
+  all_mean = All-weaker (IsClosed (map (row_of (lines_of labels)) asked))
+      (Means all_groups (map (λ agent. agent.now) asked) file labels) closed_means
 
 -- ---- Sets of names in lower case.
 
@@ -232,7 +202,7 @@ pub any_last : {X : Type 0} (test : X → Bool) (xs : List X) (x : X)
 any_last test xs x =
     list_any-append test xs (x ∷ []) ∙ ap (λ is. list_any test xs || is) (or-false (test x))
 
--- ---- The rows of the tables of warnings and of their examples.
+-- ---- The rows of tables.
 
 -- a field of the row at an index is at this index in the list of that field of all rows
 at_place : {R X : Type 0} (part : R → X) (rows : List R) (at : ℕ) (row : R) (other : X)
@@ -241,29 +211,7 @@ at_place part [] at row other found = cc
 at_place part (first ∷ rows) zero row other found = ap part cc
 at_place part (first ∷ rows) (suc at) row other found = at_place part rows at row other found
 
-pub part_at : {R X : Type 0} (part : R → X) {rows : List R} {at : ℕ} {row : R} (other : X)
-    → IsAt rows at row → slice_index_or (map part rows) at other ≡ part row
-part_at part {rows} {at} {row} other is = at_place part rows at row other is.found
-
 pub part_in : {R X : Type 0} (part : R → X) {rows : List R} {at : ℕ} {row : R} {all : List X} (other : X)
     → IsAt rows at row → map part rows ≡ all → part row ≡ slice_index_or all at other
 part_in part {rows} {at} {row} other is same =
     sym (at_place part rows at row other is.found) ∙ ap (λ all. slice_index_or all at other) same
-
-pub any_part : {R X : Type 0} (test : X → Bool) (part : R → X) (rows : List R)
-    → list_any test (map part rows) ≡ list_any (λ row. test (part row)) rows
-any_part test part [] = refl
-any_part test part (row ∷ rows) = rw (any_part test part rows) refl
-
-in_order : map number_of all_causes ≡ range_with_len 0 (length WARNINGS)
-unfolding all_causes
-in_order = refl
-
-pub own_row : {R : Type 0} (cause_of : R → Cause) {rows : List R} {row : R} (cause : Cause)
-    → IsAt rows (number_of cause) row → map cause_of rows ≡ all_causes → cause_of row ≡ cause
-own_row cause_of {rows} {row} cause is same =
-    let at = number_of cause in
-    let numbers = sym (map-map number_of cause_of rows) ∙ ap (map number_of) same ∙ in_order in
-    tag_one the_type tt (cause_of row) cause (sym (part_at (λ row. number_of (cause_of row)) 0 is)
-    ∙ ap (λ (numbers : List ℕ). get_or numbers at 0) numbers
-    ∙ get_or-range_with_len 0 (length WARNINGS) at 0 (tag_small the_type cause) ∙ zero-add at)

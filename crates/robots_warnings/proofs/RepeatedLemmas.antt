@@ -1,14 +1,12 @@
 -- How rules are found that repeat a rule above them in their group.
-use Rattle.std.specs.Prelude.{Contains}
-use Rattle.std.proofs.Common.{[], ◌≡◌, ℕ, ◌+◌, ◌<◌, Bool, true, List, ◌∷◌, ◌++◌, arith}
-use Rattle.std.proofs.Common.{drop, if◌then◌else◌, length, map, refl, slice_index_or}
-use Rattle.std.proofs.lemmas.List.{drop_more}
-use Rattle.std.proofs.lemmas.List.Elements.{Contains-append_right}
-use Rattle.texting_robots.specs.{declared.labels.LabeledLine.LabeledLine}
+use Rattle.std.{specs.Prelude.Contains}
+use Rattle.std.proofs.Common.{[], ◌≡◌, ℕ, ◌+◌, ◌<◌, Bool, true, List, ◌∷◌, ◌++◌, arith, drop, if◌then◌else◌}
+use Rattle.std.proofs.Common.{length, map, refl, slice_index_or}
+use Rattle.std.proofs.lemmas.List.{drop_more, Elements.Contains-append_right}
+use Rattle.texting_robots.specs.declared.labels.LabeledLine.{LabeledLine}
 use Rattle.texting_robots.specs.Callers.{Label, by_value, label_by_value}
-use Rattle.robots_warnings.specs.{declared.repeated.Seen.Seen}
+use Rattle.robots_warnings.{specs.declared.repeated.Seen.Seen, proofs.SeenLemmas.all_pushed}
 use Rattle.robots_warnings.specs.Internal.Values.{AddsLine, IsFoundUpto}
-use Rattle.robots_warnings.proofs.SeenLemmas.{all_pushed}
 use Rattle.robots_warnings.specs.Repeated.{above_next, is_checked, repeated}
 
 -- loop step: one more line was added, and its number was taken at most if it repeats a rule

@@ -1,14 +1,11 @@
 -- How names and the values of rules are remembered, and how lines are found by them.
 use Rattle.std.specs.Prelude.{All, Some, slice_get, slice_index}
-use Rattle.std.proofs.Common.{[], ◌≡◌, ℕ, ◌+◌, ◌<◌, Bool, true, false, List, ◌∷◌, ◌++◌, ◌∙◌, ap, arith}
-use Rattle.std.proofs.Common.{drop, if◌then◌else◌, length, refl, suc, sym, zero}
-use Rattle.std.proofs.Common.{add-one, append-nil, ◌||◌}
-use Rattle.std.proofs.lemmas.List.Elements.{All-push}
-use Rattle.std.specs.{BTreeSet.BTreeSet}
+use Rattle.std.proofs.Common.{[], ◌≡◌, ℕ, ◌+◌, ◌<◌, Bool, true, false, List, ◌∷◌, ◌++◌, ◌∙◌, ap, arith, drop}
+use Rattle.std.proofs.Common.{if◌then◌else◌, length, refl, suc, sym, zero, add-one, append-nil, ◌||◌}
+use Rattle.std.{proofs.lemmas.List.Elements.All-push, specs.BTreeSet.BTreeSet}
 use Rattle.texting_robots.specs.Callers.{LineValue, file_lines}
 use Rattle.robots_warnings.specs.{declared.spellings.Spelling.Spelling, Crawlers.IsPastLimit}
-use Rattle.robots_warnings.specs.Spellings.{is_escape}
-use Rattle.robots_warnings.specs.Spellings.{spelled, spelled_escape}
+use Rattle.robots_warnings.specs.Spellings.{is_escape, spelled, spelled_escape}
 use Rattle.robots_warnings.specs.Internal.Names.{Key, AddsLine, HasNames}
 
 pub next_escape : (spelling : Spelling) (text : List ℕ) → 2 < length text

@@ -1,16 +1,15 @@
 -- What is closed to a crawler.
 use Rattle.std.specs.Prelude.{[], ℕ, ◌==◌, Bool, false, not, ◌||◌, ◌&&◌, List, ◌∷◌, ◌++◌, Option, Some, None}
-use Rattle.std.specs.Prelude.{bytes_eq, codes, count_by, drop, if◌then◌else◌, is_some}
-use Rattle.std.specs.Prelude.{length, nat_eq, nat_le, nat_lt, true, ◌≡◌, ◌+◌}
+use Rattle.std.specs.Prelude.{bytes_eq, codes, count_by, drop, if◌then◌else◌, is_some, length, nat_eq, nat_le}
+use Rattle.std.specs.Prelude.{nat_lt, true, ◌≡◌, ◌+◌}
 use Rattle.std.specs.List.{filter_map, list_all, list_any, starts_with}
-use Rattle.std.specs.Str.{byte, str_to_ascii_lowercase}
+use Rattle.std.specs.{Option.option_or, Str.byte, Str.str_to_ascii_lowercase}
 use Rattle.texting_robots.specs.Callers.{LineValue, PlacedRule, is_named, placed_rules, prepared, robots_file}
 use Rattle.texting_robots.specs.Callers.{sitemaps_in}
+use Rattle.texting_robots.specs.Group.{is_agent}
 use Rattle.robots_warnings.specs.declared.site_patterns.TheConstants.{STATIC_FILES, WELL_KNOWN}
-use Rattle.robots_warnings.specs.{Conflicts.first_line, Positions.begin_with_one}
-use Rattle.robots_warnings.specs.Crawlers.{meant, other_group}
 use Rattle.robots_warnings.specs.Rules.{begins_oddly, has_dollar_inside, somewhere}
-use Rattle.texting_robots.specs.{Group.is_agent}
+use Rattle.robots_warnings.specs.{Positions.begin_with_one, Crawlers.meant, Crawlers.other_group}
 
 -- ---- Rules that leave nothing, or nearly nothing, of a site to a crawler.
 
@@ -79,6 +78,16 @@ closes is_exempt rules placed = is_closing placed && not (list_any (is_rival is_
 abbrev pub leaves_closed : (is_exempt : List ℕ → Bool) → List ℕ → Bool
 leaves_closed is_exempt pattern = is_exempt pattern || opens_little pattern
 
+abbrev pub first_of : {X : Type 0} → (X → Option ℕ) → List X → Option ℕ
+first_of f [] = None
+first_of f (x ∷ xs) = option_or (f x) (first_of f xs)
+
+abbrev pub line_if : (PlacedRule → Bool) → PlacedRule → Option ℕ
+line_if test placed = if test placed then Some placed.line else None
+
+abbrev pub first_line : (PlacedRule → Bool) → List PlacedRule → Option ℕ
+first_line test rules = first_of (line_if test) rules
+
 -- the line of the first of these rules that closes the site
 abbrev pub first_closing : (is_exempt : List ℕ → Bool) → List PlacedRule → Option ℕ
 first_closing is_exempt rules = first_line (closes (leaves_closed is_exempt) rules) rules
@@ -108,13 +117,10 @@ abbrev pub is_elsewhere : List LineValue → List ℕ → Bool
 is_elsewhere lines agent =
     is_some (other_group lines agent) || (is_named agent lines && is_some (meant agent))
 
--- the line of the first rule that closes the site to the crawler, where Allows of these patterns are exempt
-abbrev pub line_closing_but : (is_exempt : List ℕ → Bool) → List LineValue → List ℕ → Option ℕ
-line_closing_but is_exempt lines agent =
-    if is_elsewhere lines agent then None else first_closing is_exempt (placed_rules agent lines)
-
+-- the line of the first rule that closes the site to the crawler
 abbrev pub line_closing_site : List LineValue → List ℕ → Option ℕ
-line_closing_site lines agent = line_closing_but (is_exempt lines) lines agent
+line_closing_site lines agent =
+    if is_elsewhere lines agent then None else first_closing (is_exempt lines) (placed_rules agent lines)
 
 -- ---- Groups of crawlers that have none of the Disallow rules of `*`.
 
@@ -140,7 +146,7 @@ lacks_all lines agent = not (list_any (is_kept (star_rules lines)) (placed_rules
 -- this name, which is in lower case, is that of a crawler that has none of the Disallows of `*`
 abbrev pub is_lacking : List (List ℕ) → List LineValue → List ℕ → Bool
 is_lacking agents lines name =
-    list_any (λ agent. lacks_all lines agent && bytes_eq (str_to_ascii_lowercase agent) name) agents
+    list_any (λ agent. bytes_eq (str_to_ascii_lowercase agent) name && lacks_all lines agent) agents
 
 -- the first of these lines is a user-agent line, and its list of user-agent lines names such a crawler
 abbrev pub name_lacking : List (List ℕ) → List LineValue → (from_here : List LineValue) → Bool

@@ -1,11 +1,11 @@
 -- Rules that contradict each other, and empty Disallows.
-use Rattle.std.specs.Prelude.{[], ℕ, Bool, false, filter, slice_get, Contains, bytes_eq, Option}
-use Rattle.std.specs.Prelude.{if◌then◌else◌}
-use Rattle.std.specs.Prelude.{is_some, ◌≡◌, ◌+◌, ◌==◌, not, ◌||◌, ◌&&◌, List, ◌∷◌, Some, true, None, codes}
-use Rattle.std.specs.{Str.byte, Option.option_or}
+use Rattle.std.specs.Prelude.{[], ℕ, Bool, false, filter, slice_get, Contains, bytes_eq}
+use Rattle.std.specs.Prelude.{if◌then◌else◌, length}
+use Rattle.std.specs.Prelude.{◌≡◌, ◌+◌, ◌==◌, not, ◌||◌, ◌&&◌, List, ◌∷◌, Some, true, codes}
+use Rattle.std.specs.{Str.byte, List.list_any}
 use Rattle.texting_robots.specs.Callers.{Allow, Label, LineValue, PlacedRule, AreRulesFor, placed_rules}
 use Rattle.texting_robots.specs.{Statement.IsStatement, declared.parser.statement.Kind.TheVariants.Disallow}
-use Rattle.robots_warnings.specs.{FieldNames.trim_blanks_start}
+use Rattle.robots_warnings.specs.{Closed.is_whole_site, FieldNames.trim_blanks_start}
 
 -- ---- Empty Disallows. Each is an Allow of `/` here, and no rule for RFC 9309 and Google.
 
@@ -57,42 +57,30 @@ pub record IsConflict (is_empty : ℕ → Bool) (agent : List ℕ) (lines : List
   pub are : AreRulesFor agent lines rules
   pub opposed : AreOpposed is_empty rules number other
 
-abbrev pub first_of : {X : Type 0} → (X → Option ℕ) → List X → Option ℕ
-first_of f [] = None
-first_of f (x ∷ xs) = option_or (f x) (first_of f xs)
+-- the pattern is `/` or `*`: it matches the whole site, and has one byte
+abbrev pub is_of_all : List ℕ → Bool
+is_of_all pattern = is_whole_site pattern && length pattern == 1
 
-abbrev pub line_if : (PlacedRule → Bool) → PlacedRule → Option ℕ
-line_if test placed = if test placed then Some placed.line else None
+abbrev pub closes_all : PlacedRule → Bool
+closes_all placed = not placed.rule.1 && is_of_all placed.rule.0
 
-abbrev pub first_line : (PlacedRule → Bool) → List PlacedRule → Option ℕ
-first_line test rules = first_of (line_if test) rules
+-- an Allow, and not an empty Disallow
+abbrev pub opens_all : (is_empty : ℕ → Bool) → PlacedRule → Bool
+opens_all is_empty placed = (placed.rule.1 && not (is_empty placed.line)) && is_of_all placed.rule.0
 
--- a rule of this kind whose pattern is compared as this one, and which isn't an empty Disallow
-abbrev pub is_like : (is_empty : ℕ → Bool) → (is_allow : Bool) → List ℕ → PlacedRule → Bool
-is_like is_empty is_allow pattern placed =
-    not (is_empty placed.line)
-    && ((if is_allow then placed.rule.1 else not placed.rule.1) && bytes_eq (compared placed.rule.0) pattern)
+-- a Disallow of `/` or `*` is among these rules, but no Allow of these
+abbrev pub are_closed : (ℕ → Bool) → List PlacedRule → Bool
+are_closed is_empty rules = list_any closes_all rules && not (list_any (opens_all is_empty) rules)
 
--- the line of the first Disallow of `/` or `*`, unless there is such an Allow of these
-abbrev pub overruling : (ℕ → Bool) → List PlacedRule → Option ℕ
-overruling is_empty rules =
-    if is_some (first_line (is_like is_empty true (codes "/")) rules) then None
-    else first_line (is_like is_empty false (codes "/")) rules
+abbrev pub is_empty_rule : (is_empty : ℕ → Bool) → (number : ℕ) → PlacedRule → Bool
+is_empty_rule is_empty number placed = is_empty placed.line && placed.line == number
 
--- for an empty Disallow: this line
-abbrev pub overruled_by : (ℕ → Bool) → List PlacedRule → PlacedRule → Option ℕ
-overruled_by is_empty rules placed =
-    if placed.rule.1 && is_empty placed.line then overruling is_empty rules else None
+-- an empty Disallow in the line with this number overrules such a Disallow
+abbrev pub is_overruling : (ℕ → Bool) → (number : ℕ) → List PlacedRule → Bool
+is_overruling is_empty number rules =
+    are_closed is_empty rules && list_any (is_empty_rule is_empty number) rules
 
-abbrev pub at_line : ℕ → (PlacedRule → Option ℕ) → PlacedRule → Option ℕ
-at_line number other placed = if placed.line == number then other placed else None
-
--- the Disallow that the empty Disallow in the line with this number overrules
-abbrev pub overruled_among : (ℕ → Bool) → List PlacedRule → ℕ → Option ℕ
-overruled_among is_empty rules number = first_of (at_line number (overruled_by is_empty rules)) rules
-
-abbrev pub overruled_for : (ℕ → Bool) → List LineValue → ℕ → List ℕ → Option ℕ
-overruled_for is_empty lines number agent = overruled_among is_empty (placed_rules agent lines) number
-
-abbrev pub overruled : (ℕ → Bool) → List (List ℕ) → List LineValue → ℕ → Option ℕ
-overruled is_empty agents lines number = first_of (overruled_for is_empty lines number) agents
+-- it does so for one of these crawlers
+abbrev pub overrules_for_one : (ℕ → Bool) → List (List ℕ) → List LineValue → (number : ℕ) → Bool
+overrules_for_one is_empty agents lines number =
+    list_any (λ agent. is_overruling is_empty number (placed_rules agent lines)) agents

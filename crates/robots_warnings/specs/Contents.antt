@@ -1,11 +1,9 @@
 -- What the content of a directive has besides its value: white space, a comment, and the text of a delay. Raw
 -- values are those of directives with a colon.
 use Rattle.std.specs.Prelude.{ℕ, ◌==◌, nat_eq, Bool, not, ◌||◌, ◌&&◌, List, codes, drop, length}
-use Rattle.std.specs.List.{ends_with, position_or_len, starts_with}
-use Rattle.std.specs.{Str.byte}
+use Rattle.std.specs.{List.ends_with, List.position_or_len, List.starts_with, Str.byte}
 use Rattle.robots_warnings.specs.FieldNames.{trim_blanks_end, trim_blanks_start}
-use Rattle.robots_warnings.specs.Rules.{after_byte, before_byte}
-use Rattle.robots_warnings.specs.{Closed.is_whole_site, File.hash}
+use Rattle.robots_warnings.specs.{Rules.after_byte, Rules.before_byte, Closed.is_whole_site, File.hash}
 
 -- what is between the first colon and the comment
 abbrev pub tail_of : List ℕ → List ℕ

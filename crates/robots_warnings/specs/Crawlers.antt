@@ -4,7 +4,7 @@ use Rattle.std.specs.Prelude.{◌+◌, if◌then◌else◌, take, ◌∷◌, Opt
 use Rattle.std.specs.Prelude.{map, nat_le, nat_lt, option_map, slice_index_or, unwrap_or, false}
 use Rattle.std.specs.Prelude.{◌≡◌, slice_get, true}
 use Rattle.std.specs.Str.{byte, str_eq_ignore_ascii_case, is_utf8, str_to_ascii_lowercase}
-use Rattle.std.specs.List.{before_first, list_any, position_from}
+use Rattle.std.specs.List.{before_first, position_from}
 use Rattle.std.specs.{Char.is_ascii_alphabetic, Option.option_or}
 use Rattle.strsim.specs.{Edits.damerau}
 use Rattle.texting_robots.specs.Callers.{LineValue, UserAgent, is_named, file_lines}
@@ -31,15 +31,15 @@ crawlers = map (λ row. (row.0.now, row.1.now)) CRAWLERS
 abbrev pub row_at : ℕ → Row
 row_at number = slice_index_or crawlers number ([], [])
 
-unfoldable pub is_known : List ℕ → Bool
-is_known name = list_any (λ (row : Row). str_eq_ignore_ascii_case name row.0) crawlers
-
 unfoldable pub is_row_of : List ℕ → Row → Bool
 is_row_of value row = str_eq_ignore_ascii_case row.0 value
 
 -- the second name in the first of these rows that has this one
 abbrev pub name_for : List ℕ → List Row → Option (List ℕ)
 name_for value rows = option_map (λ (row : Row). row.1) (find (is_row_of value) rows)
+
+abbrev pub is_known : List ℕ → Bool
+is_known name = is_some (name_for name crawlers)
 
 -- the value, if a vendor reads the name of this crawler in it: the letters, `_` and `-` that it starts with,
 -- such as `Googlebot` of `Googlebot/2.1` and of `Googlebot*`

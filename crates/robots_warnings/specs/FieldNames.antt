@@ -1,8 +1,6 @@
 -- White space around field names and values.
-use Rattle.std.specs.Prelude.{[], ℕ, ◌==◌, Bool, ◌||◌, List, ◌∷◌}
-use Rattle.std.specs.Prelude.{if◌then◌else◌}
-use Rattle.std.specs.Prelude.{reverse}
-use Rattle.robots_warnings.specs.{File.space, File.tab}
+use Rattle.std.specs.Prelude.{[], ℕ, ◌==◌, Bool, ◌||◌, List, ◌∷◌, if◌then◌else◌, reverse}
+use Rattle.robots_warnings.specs.File.{space, tab}
 
 abbrev pub is_space_or_tab : ℕ → Bool
 is_space_or_tab b = b == space || b == tab

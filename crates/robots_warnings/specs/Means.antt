@@ -1,20 +1,18 @@
 -- What warnings state. Where `--explain` prints a sentence about those that are given as proved, a warning is
--- so; of one about style, nothing is stated. And which warnings are never missing where they are so, as their
--- absence says something.
-use Rattle.std.specs.Prelude.{◌≡◌, ℕ, ◌⊎◌, Bool, false, true, IsTrue, not, List, ◌++◌, Contains}
-use Rattle.std.specs.Prelude.{Any, MatchOption, Option, Some, flat_map}
+-- so; of one about style, nothing is stated.
+use Rattle.std.specs.Prelude.{◌≡◌, ℕ, ◌⊎◌, Bool, false, true, IsTrue, not, List, Contains}
+use Rattle.std.specs.Prelude.{Any, MatchOption, Option, Some}
 use Rattle.std.specs.Str.{is_utf8}
 use Rattle.texting_robots.specs.Callers.{Allow, Disallow, LineValue, Label}
 use Rattle.robots_warnings.specs.{declared.table.Cause.Cause, declared.warning.Detail.Detail}
 use Rattle.robots_warnings.specs.declared.warning.Detail.TheVariants.{Line, Rules}
 use Rattle.robots_warnings.specs.declared.table.Cause.TheVariants as cause
 use Rattle.robots_warnings.specs.Closed.{IsReplacing, line_closing_site, star_count}
-use Rattle.robots_warnings.specs.Conflicts.{IsConflict, is_empty_at}
 use Rattle.robots_warnings.specs.Contents.{comment_of, is_cut_to_root, tail_of}
-use Rattle.robots_warnings.specs.{Crawlers.IsPastLimit, Facts.is_too_large, File.lines_of}
-use Rattle.robots_warnings.specs.{Message.WarningValue, Positions.is_above_agents, Positions.later_delays}
-use Rattle.robots_warnings.specs.{Repeated.repeated, Rules.begins_oddly, Rules.has_dollar_inside}
-use Rattle.robots_warnings.specs.Warnings.{overruled_warnings, url_warnings}
+use Rattle.robots_warnings.specs.Positions.{is_above_agents, later_delays}
+use Rattle.robots_warnings.specs.Rules.{begins_oddly, has_dollar_inside}
+use Rattle.robots_warnings.specs.{Conflicts.IsConflict, Conflicts.is_empty_at, Crawlers.IsPastLimit}
+use Rattle.robots_warnings.specs.{Facts.is_too_large, File.lines_of, Message.WarningValue, Repeated.repeated}
 
 -- nothing is stated of a warning for this reason: it is about style, or `--explain` prints as proved what its
 -- absence says, or what holds of such a rule by itself
@@ -104,9 +102,3 @@ abbrev pub Means : (all_groups : Bool) → (agents : List (List ℕ)) → (file 
 Means all_groups agents file labels warning =
     is_style warning.cause ≡ false → IsOfLine labels warning ⊎ MatchOption warning.line ⊥
     (λ number. Says all_groups agents file labels warning.cause number warning.about warning.detail)
-
--- the warnings of which none is missing where they are so, besides those about closed sites, as their absence
--- says something: of a URL that isn't normal, and of an empty Disallow that is overruled
-abbrev pub telling : (agents urls : List (List ℕ)) → List LineValue → List Label → List WarningValue
-telling agents urls lines labels =
-    flat_map url_warnings urls ++ overruled_warnings (is_empty_at labels) agents lines labels

@@ -1,6 +1,6 @@
 -- Warnings.
 use Rattle.std.specs.Prelude.{ℕ, List, Option}
-use Rattle.robots_warnings.specs.{declared.table.Cause.Cause, declared.warning.Detail.Detail}
+use Rattle.robots_warnings.specs.declared.{table.Cause.Cause, warning.Detail.Detail}
 
 -- a warning: the number of its line, if it is about one; the reason; the URL or the crawler's name, if its
 -- message begins with one; and what its message ends with, besides its text

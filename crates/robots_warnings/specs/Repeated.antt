@@ -1,10 +1,9 @@
 -- Rules that repeat a rule above them in their group, and sitemaps that are listed twice.
 use Rattle.std.specs.Prelude.{[], ℕ, Bool, true, false, not, ◌&&◌, List, ◌∷◌, ◌++◌, if◌then◌else◌}
-use Rattle.std.specs.{List.list_any}
+use Rattle.std.specs.List.{list_any}
 use Rattle.texting_robots.specs.Callers.{Allow, Disallow, LineValue, Label}
 use Rattle.texting_robots.specs.{Group.is_agent, declared.labels.Membership.Membership}
-use Rattle.robots_warnings.specs.{File.is_in_scope_of, Positions.is_outside}
-use Rattle.robots_warnings.specs.{Spellings.is_rule_with}
+use Rattle.robots_warnings.specs.{File.is_in_scope_of, Positions.is_outside, Spellings.is_rule_with}
 
 -- one of the lines above it in its group is a rule of the same kind with the same value
 abbrev pub is_repeated : List LineValue → LineValue → Bool

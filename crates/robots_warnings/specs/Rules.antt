@@ -1,9 +1,8 @@
 -- Conditions on the value of an Allow or a Disallow line.
-use Rattle.std.specs.Prelude.{[], ℕ, ◌+◌, ◌-◌, ◌*◌, ◌==◌, Bool, false, not, ◌||◌, ◌&&◌}
-use Rattle.std.specs.Prelude.{List, ◌∷◌, codes, if◌then◌else◌, slice_index}
-use Rattle.std.specs.Char.{is_ascii_alphanumeric, is_ascii_hexdigit}
+use Rattle.std.specs.Prelude.{[], ℕ, ◌+◌, ◌-◌, ◌*◌, ◌==◌, Bool, false, not, ◌||◌, ◌&&◌, List, ◌∷◌, codes}
+use Rattle.std.specs.Prelude.{if◌then◌else◌, slice_index}
 use Rattle.std.specs.List.{after_first, before_first, list_any}
-use Rattle.std.specs.Str.{byte}
+use Rattle.std.specs.{Char.is_ascii_alphanumeric, Char.is_ascii_hexdigit, Str.byte}
 
 abbrev pub has : ℕ → List ℕ → Bool
 has b text = list_any (λ c. c == b) text

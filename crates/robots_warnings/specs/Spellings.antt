@@ -1,10 +1,9 @@
 -- Rules with percent escapes that a spelling doesn't have, and that their group lacks in that spelling.
 use Rattle.std.specs.Prelude.{[], ℕ, ◌+◌, ◌*◌, ◌==◌, Bool, false, not, ◌&&◌, List, ◌∷◌, ◌++◌, bytes_eq}
 use Rattle.std.specs.Prelude.{if◌then◌else◌}
-use Rattle.std.specs.Char.{digit_value, is_ascii_hexdigit, to_ascii_uppercase}
-use Rattle.std.specs.{Str.byte}
+use Rattle.std.specs.{Char.digit_value, Char.is_ascii_hexdigit, Char.to_ascii_uppercase, Str.byte}
 use Rattle.texting_robots.specs.Callers.{Allow, Disallow, LineValue}
-use Rattle.robots_warnings.specs.{declared.spellings.Spelling.Spelling}
+use Rattle.robots_warnings.specs.declared.spellings.Spelling.{Spelling}
 use Rattle.robots_warnings.specs.declared.spellings.Spelling.TheVariants.{Plain, Standard}
 use Rattle.robots_warnings.specs.Rules.{is_delimiter, needs_no_escape}
 

@@ -10,10 +10,7 @@ use denote.Enum.Declared.{tag_of}
 abbrev pub number_of : Cause → ℕ
 number_of cause = tag_of the_type cause
 
-unfoldable pub all_causes : List Cause
-all_causes = map (λ row. row.0) WARNINGS
-
--- their levels, names, as in `[..]`, messages, and examples
+-- their levels, and their names, as in `[..]`
 abbrev pub all_levels : List Level
 all_levels = map (λ row. row.1) WARNINGS
 

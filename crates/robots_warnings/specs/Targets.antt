@@ -7,8 +7,8 @@ use Rattle.url.specs.{Parts.Parts, Parser.parse_url}
 use Rattle.texting_robots.specs.{Address.is_web, Prepared.prepared, Prepared.with_delimiter}
 use Rattle.robots_warnings.specs.Rules.{after_byte, before_byte, begins_lone_percent, from_first, somewhere}
 use Rattle.robots_warnings.specs.{Spellings.spelled, declared.targets.TheConstants.IN_TARGETS}
-use Rattle.robots_warnings.specs.{Urls.begins_as_url, Urls.is_unparsable}
-use Rattle.robots_warnings.specs.declared.spellings.Spelling.{TheVariants.Standard}
+use Rattle.robots_warnings.specs.{declared.spellings.Spelling.TheVariants.Standard}
+use Rattle.robots_warnings.specs.Urls.{begins_as_url, is_unparsable}
 
 -- without escapes of bytes that need none, with the others in uppercase, and with each byte of the set
 -- escaped

@@ -1,8 +1,7 @@
 -- Conditions on URLs and paths.
-use Rattle.std.specs.Prelude.{ℕ, Bool, ◌||◌, List, None}
-use Rattle.std.specs.Prelude.{codes, is_err, length, take}
+use Rattle.std.specs.Prelude.{ℕ, Bool, ◌||◌, List, None, codes, is_err, length, take}
 use Rattle.std.specs.Str.{str_eq_ignore_ascii_case}
-use Rattle.url.specs.{Parser.parse_url}
+use Rattle.url.specs.Parser.{parse_url}
 
 abbrev pub begins_in_any_case : List ℕ → List ℕ → Bool
 begins_in_any_case front text = str_eq_ignore_ascii_case (take (length front) text) front

@@ -1,11 +1,11 @@
 -- The warnings whose absence says something: none is missing where it is so.
-use Rattle.std.specs.Prelude.{[], ◌≡◌, ℕ, Bool, IsTrue, All, Any, List, ◌∷◌, Option, Some, None, flat_map, ⊤}
-use Rattle.std.specs.Prelude.{MatchOption, false, if◌then◌else◌, true}
-use Rattle.texting_robots.specs.Callers.{LineValue, Label}
+use Rattle.std.specs.Prelude.{[], ◌≡◌, ℕ, Bool, IsTrue, Any, List, ◌∷◌, Some, None, Option}
+use Rattle.std.specs.Prelude.{MatchOption, ⊤, false, if◌then◌else◌, true}
+use Rattle.texting_robots.specs.Callers.{LineValue}
 use Rattle.robots_warnings.specs.declared.table.Cause.{Cause, TheVariants.ClosesEverything}
 use Rattle.robots_warnings.specs.declared.table.Cause.TheVariants.{ClosesSite, EmptyDisallow, UrlNotNormal}
-use Rattle.robots_warnings.specs.declared.warning.Detail.{TheVariants.Line}
-use Rattle.robots_warnings.specs.{Closed.line_closing_site, Conflicts.overruled, Message.WarningValue}
+use Rattle.robots_warnings.specs.{Closed.line_closing_site, Conflicts.overrules_for_one}
+use Rattle.robots_warnings.specs.{Message.WarningValue}
 use Rattle.robots_warnings.specs.{Targets.has_odd_target}
 
 -- about a URL that the user passed
@@ -14,18 +14,13 @@ url_warnings url =
     if has_odd_target url then
     record { line = None; cause = UrlNotNormal; about = Some url; detail = None } ∷ [] else []
 
--- about the line with this number, if there is another line that the warning names
-abbrev pub beside : Cause → (number : ℕ) → (other : Option ℕ) → List WarningValue
-beside cause number None = []
-beside cause number (Some other) =
-    record { line = Some number; cause = cause; about = None; detail = Some (Line other) } ∷ []
+-- a warning for such a reason about the line with this number
+abbrev pub IsAbout : (is_reason : Cause → Bool) → (number : ℕ) → WarningValue → Type 0
+IsAbout is_reason number warning = (warning.line ≡ Some number) × IsTrue (is_reason warning.cause)
 
--- about each empty Disallow that another line overrules; `is_empty` holds for the numbers of empty Disallows
-abbrev pub overruled_warnings : (is_empty : ℕ → Bool) → List (List ℕ) → List LineValue → List Label
-    → List WarningValue
-overruled_warnings is_empty agents lines labels =
-    flat_map (λ label. beside EmptyDisallow label.number (overruled is_empty agents lines label.number))
-    labels
+-- each of these lines has such a warning
+abbrev pub HasEach : (is_reason : Cause → Bool) → (IsIn : ℕ → Type 0) → (found : List WarningValue) → Type 0
+HasEach is_reason IsIn found = (number : ℕ) → IsIn number → Any (IsAbout is_reason number) found
 
 -- that a line closes a site
 abbrev pub is_closing_cause : Cause → Bool
@@ -33,11 +28,24 @@ is_closing_cause ClosesSite = true
 is_closing_cause ClosesEverything = true
 is_closing_cause other = false
 
-abbrev pub IsClosing : (number : ℕ) → WarningValue → Type 0
-IsClosing number warning = (warning.line ≡ Some number) × IsTrue (is_closing_cause warning.cause)
+-- if there is a line, there is such a warning about it
+abbrev pub IsTold : (found : List WarningValue) → (line : Option ℕ) → Type 0
+IsTold found line = MatchOption line ⊤ (λ number. Any (IsAbout is_closing_cause number) found)
+
+abbrev pub ClosesToOne : (agents : List (List ℕ)) → List LineValue → (number : ℕ) → Type 0
+ClosesToOne agents lines number = Any (λ agent. line_closing_site lines agent ≡ Some number) agents
 
 -- where a line closes the site to one of these crawlers, there is such a warning about this line
 abbrev pub HasClosed : (agents : List (List ℕ)) → List LineValue → (found : List WarningValue) → Type 0
-HasClosed agents lines found =
-    All (λ agent. MatchOption (line_closing_site lines agent) ⊤ (λ number. Any (IsClosing number) found))
-    agents
+HasClosed agents lines found = HasEach is_closing_cause (ClosesToOne agents lines) found
+
+abbrev pub is_empty_cause : Cause → Bool
+is_empty_cause EmptyDisallow = true
+is_empty_cause other = false
+
+-- where an empty Disallow overrules a Disallow for one of these crawlers, its line has such a warning;
+-- `is_empty` holds for the numbers of empty Disallows
+abbrev pub HasOverruling : (is_empty : ℕ → Bool) → (agents : List (List ℕ)) → List LineValue
+    → (found : List WarningValue) → Type 0
+HasOverruling is_empty agents lines found =
+    HasEach is_empty_cause (λ number. IsTrue (overrules_for_one is_empty agents lines number)) found

@@ -238,7 +238,7 @@ pub(crate) fn file_candidates<'a>(
     Ok(found)
 }
 
-/// About each line by itself, its position, and its spelling.
+/// About each line by itself, its position, its spelling, and an Allow that contradicts it.
 pub(crate) fn line_candidates<'a>(
     alloc: Global,
     known: &Known<'_, 'a>,
@@ -259,6 +259,15 @@ pub(crate) fn line_candidates<'a>(
     }
     warn_of_spelling(alloc, &mut found, Spelling::Standard, known)?;
     warn_of_spelling(alloc, &mut found, Spelling::Plain, known)?;
+    for (number, allow) in &known.rules.conflicts {
+        let allow = Some(Detail::Line(*allow));
+        push(
+            &mut found,
+            Some(*number),
+            Cause::AllowedAndDisallowed,
+            allow,
+        )?;
+    }
     Ok(found)
 }
 

@@ -1,20 +1,20 @@
 //! Rules that leave nothing, or nearly nothing, of a site to a crawler.
-ghost use Rattle.std.specs.Prelude.{[], ◌≡◌, ◌++◌, ◌||◌, ◌∷◌, ◌⊎◌, Bool, Contains, IfOk, List, OnOk};
-ghost use Rattle.std.specs.Prelude.{IsSomeAnd, Option, Some, bytes_eq, codes, is_some, length, map, nat_lt};
+ghost use Rattle.std.specs.Prelude.{[], ◌≡◌, ◌++◌, ◌||◌, ◌∷◌, All, Any, Bool, Contains, IfOk, IsTrue, List};
+ghost use Rattle.std.specs.Prelude.{OnOk, Option, Some, bytes_eq, codes, is_some, length, map, nat_lt};
 ghost use Rattle.std.specs.Prelude.{string_bytes, true, ℕ};
-ghost use Rattle.std.specs.{BTreeMap.IsOrdered, BTreeMap.get, HashSet.contains_text, List.filter_map};
-ghost use Rattle.std.specs.{List.list_any, Ordering.nat_cmp};
-ghost use Rattle.texting_robots.specs.Callers.{PlacedRule, file_lines, label_by_value, placed_rules};
+ghost use Rattle.std.specs.{HashSet.contains_text, List.filter_map, List.list_any};
+ghost use Rattle.texting_robots.specs.Callers.{PlacedRule, file_lines};
 ghost use Rattle.robots_warnings.specs.Closed.{closes, first_closing, is_closing, is_elsewhere, is_exempt};
-ghost use Rattle.robots_warnings.specs.Closed.{is_literally, is_rival, leaves_closed, line_closing_but};
-ghost use Rattle.robots_warnings.specs.Closed.{line_closing_site, opened_path};
-ghost use Rattle.robots_warnings.specs.Internal.{Adds, Tells.Tells};
-ghost use Rattle.robots_warnings.specs.Internal.Closed.{AreClosed, AreNamed, IsNeeded, warning_at};
-ghost use Rattle.robots_warnings.specs.{Means.Means, Read.IsRead, Warnings.HasClosed};
+ghost use Rattle.robots_warnings.specs.Closed.{is_literally, is_rival, leaves_closed, line_closing_site};
+ghost use Rattle.robots_warnings.specs.Closed.{opened_path};
+ghost use Rattle.robots_warnings.specs.Warnings.{HasClosed, IsAbout, IsTold, is_closing_cause};
+ghost use Rattle.robots_warnings.specs.Read.{IsRead};
+ghost use Rattle.robots_warnings.specs.Internal.Closed.{IsClosed, IsNeeded};
+ghost use Rattle.robots_warnings.specs.Internal.Tells.{IsKnown, IsSo, Tells, agents_in};
 
 use crate::crawlers::{meant, other_group};
+use crate::known::{Known, keep};
 use crate::own_rules::own_rules;
-use crate::read::FileRead;
 use crate::site_patterns::{
     has_star_or_dollar, is_home, is_whole_site, matches_no_path, opens_little,
 };
@@ -22,25 +22,14 @@ use crate::table::Cause;
 use crate::tokens::token_front;
 use crate::warning::{Detail, Found, Warning};
 use std::alloc::{AllocError, Global};
-use std::collections::{BTreeMap, HashSet};
+use std::collections::HashSet;
 use texting_robots::match_target;
 use texting_robots::site::{Site, SiteRule};
 
 type Patterns = HashSet<String>;
 
-/// Of a line that closes the site, or its home page, to some crawlers.
-#[derive(Clone, Copy)]
-struct ClosedLine<'a> {
-    /// The first of them for which that is probably a mistake, or else the first.
-    agent: &'a str,
-    /// Whether it is for one of them.
-    is_major: bool,
-    /// How many others there are.
-    detail: Option<Detail>,
-}
-
-/// By the numbers of lines.
-type ClosedLines<'a> = BTreeMap<usize, ClosedLine<'a>>;
+/// A crawler, and the line that closes the site or its home page to it, if there is one.
+type Row<'a> = (Option<usize>, &'a str);
 
 /// The crawlers of large search engines, as their documentation calls them: developers.google.com/crawling,
 /// bing.com/webmasters/help, duckduckgo.com/duckduckgo-help-pages, yandex.com/support/webmaster, help.baidu.com
@@ -195,8 +184,8 @@ fn line_closing_site(
     site: &Site,
     agent: &str,
 ) -> Result<Option<usize>, AllocError>
-    ensures { IfOk result (λ line. line
-        ≡ line_closing_but (contains_text exempt.now) (file_lines site.now) agent.now) }
+    requires { contains_text exempt.now ≡ is_exempt (file_lines site.now) }
+    ensures { IfOk result (λ line. line ≡ line_closing_site (file_lines site.now) agent.now) }
 {
     if is_elsewhere(alloc, site, agent)? {
         return Ok(None);
@@ -261,7 +250,9 @@ fn line_closing_home(
 }
 
 /// Whether a group of its own doesn't close the whole site to a large search engine.
-fn lets_in(alloc: Global, exempt: &Patterns, site: &Site) -> Result<bool, AllocError> {
+fn lets_in(alloc: Global, exempt: &Patterns, site: &Site) -> Result<bool, AllocError>
+    requires { contains_text exempt.now ≡ is_exempt (file_lines site.now) }
+{
     for name in &SEARCH_ENGINES {
         if site.is_named(name) && line_closing_site(alloc, exempt, site, name)?.is_none() {
             return Ok(true);
@@ -270,135 +261,158 @@ fn lets_in(alloc: Global, exempt: &Patterns, site: &Site) -> Result<bool, AllocE
     Ok(false)
 }
 
-/// One more crawler for a line.
-fn beside<'a>(line: Option<ClosedLine<'a>>, agent: &'a str, is_major: bool) -> ClosedLine<'a>
-    ensures { (result.agent.now ≡ agent.entry.now)
-        ⊎ IsSomeAnd line.entry (λ line. result.agent.now ≡ line.agent.now) }
-{
-    let Some(line) = line else {
-        return ClosedLine {
-            agent,
-            is_major,
-            detail: None,
-        };
-    };
-    let others = match line.detail {
-        Some(Detail::Others(count)) => count,
-        _ => 0,
-    };
-    ClosedLine {
-        agent: if is_major && !line.is_major {
-            agent
-        } else {
-            line.agent
-        },
-        is_major: is_major || line.is_major,
-        detail: Some(Detail::Others(others.saturating_add(1))),
-    }
-}
-
-/// The line, if there is one, closes the site or its home page to the crawler.
-fn add_closed<'a>(
-    closed: &mut ClosedLines<'a>,
-    let_in: bool,
-    site: &Site,
-    line: Option<usize>,
-    agent: &'a str,
-) -> Result<(), AllocError>
-    ensures has { OnOk result ((number : ℕ) → line ≡ Some number
-        → is_some (get nat_cmp closed.new number) ≡ true) }
-    ensures kept { OnOk result ((number : ℕ) → is_some (get nat_cmp closed.old number) ≡ true
-        → is_some (get nat_cmp closed.new number) ≡ true) }
-    ensures named { (line_of : List ℕ → Option ℕ) → (agents : List (List ℕ))
-        → AreNamed line_of agents closed.old → Contains agents agent.entry.now
-        → line ≡ line_of agent.entry.now
-        → OnOk result (AreNamed line_of agents closed.new) }
-{
-    let Some(number) = line else {
-        return Ok(());
-    };
-    let is_major = is_major(let_in, site, agent);
-    let line = beside(closed.remove(&number), agent, is_major);
-    closed.insert(number, line)?;
-    Ok(())
-}
-
 /// The lines that close the site to these crawlers.
-fn closed_sites<'a>(
+fn site_rows<'a>(
     alloc: Global,
     exempt: &Patterns,
-    let_in: bool,
     site: &Site,
     agents: &[&'a str],
-) -> Result<ClosedLines<'a>, AllocError>
-    ensures { IfOk result (AreClosed (line_closing_but (contains_text exempt.now) (file_lines site.now))
-        agents.now) }
+) -> Result<Vec<Row<'a>>, AllocError>
+    requires { contains_text exempt.now ≡ is_exempt (file_lines site.now) }
+    ensures { IfOk result (λ rows. rows.items
+        ≡ map (λ agent. (line_closing_site (file_lines site.now) agent.now, agent)) agents.now) }
 {
-    let mut closed = BTreeMap::new(alloc);
+    let mut rows = Vec::new(alloc);
     for agent in agents {
-        let line = line_closing_site(alloc, exempt, site, agent)?;
-        add_closed(&mut closed, let_in, site, line, agent)?;
+        rows.push((line_closing_site(alloc, exempt, site, agent)?, *agent))?;
     }
-    Ok(closed)
+    Ok(rows)
 }
 
 /// The lines that close the home page alone.
-fn closed_homes<'a>(
+fn home_rows<'a>(
     alloc: Global,
     exempt: &Patterns,
-    let_in: bool,
     site: &Site,
     agents: &[&'a str],
-) -> Result<ClosedLines<'a>, AllocError> {
-    let mut closed = BTreeMap::new(alloc);
+) -> Result<Vec<Row<'a>>, AllocError> {
+    let mut rows = Vec::new(alloc);
     for agent in agents {
-        let line = line_closing_home(alloc, exempt, site, agent)?;
-        add_closed(&mut closed, let_in, site, line, agent)?;
+        rows.push((line_closing_home(alloc, exempt, site, agent)?, *agent))?;
     }
-    Ok(closed)
+    Ok(rows)
 }
 
-/// The cause is `major` where closing the line is probably a mistake for a crawler, and else `minor`.
-fn warn_of_lines<'a>(
-    found: &mut Found<'a>,
-    major: Cause,
-    minor: Cause,
-    closed: ClosedLines<'a>,
-) -> Result<(), AllocError>
-    ensures adds { OnOk result (Adds found.old.items found.new.items
-        (map (warning_at major minor) closed.entry.entries)) }
-    ensures ordered { OnOk result (IsOrdered nat_cmp closed.entry) }
-{
-    for (number, line) in closed {
-        found.push(Warning {
-            line: Some(number),
-            cause: if line.is_major { major } else { minor },
-            about: Some(line.agent),
-            detail: line.detail,
-        })?;
+/// How many other crawlers have this line.
+fn others(rows: &[Row<'_>], number: usize) -> Option<Detail> {
+    match rows.iter().filter(|row| row.0 == Some(number)).count() {
+        0 | 1 => None,
+        count => Some(Detail::Others(count - 1)),
     }
+}
+
+fn is_told_by(warning: &Warning<'_>, number: usize) -> bool
+    ensures { result ≡ true → IsAbout is_closing_cause number warning.now }
+{
+    warning.line == Some(number)
+        && matches!(warning.cause, Cause::ClosesSite | Cause::ClosesEverything)
+}
+
+fn is_told(found: &[Warning<'_>], number: usize) -> bool
+    ensures { result ≡ true → Any (IsAbout is_closing_cause number) found.now }
+{
+    for warning in found {
+        if is_told_by(warning, number) {
+            return true;
+        }
+    }
+    false
+}
+
+/// The row is one of these. Nothing is added if there is a warning about its line.
+fn warn_of_row<'a>(
+    found: &mut Found<'a>,
+    cause: Cause,
+    rows: &[Row<'a>],
+    row: Row<'a>,
+) -> Result<(), AllocError>
+    requires cause { IsTrue (is_closing_cause cause) }
+    requires row { Contains rows.now row }
+    requires so { All (IsClosed rows.now) found.now.items }
+    ensures so { OnOk result (All (IsClosed rows.now) found.new.items) }
+    ensures stays { OnOk result ((line : Option ℕ) → IsTold found.old.items line
+        → IsTold found.new.items line) }
+    ensures told { OnOk result (IsTold found.new.items row.entry.0) }
+{
+    let (Some(number), agent) = row else {
+        return Ok(());
+    };
+    if is_told(found, number) {
+        return Ok(());
+    }
+    found.push(Warning {
+        line: Some(number),
+        cause,
+        about: Some(agent),
+        detail: others(rows, number),
+    })?;
     Ok(())
 }
 
-/// Each line that closes the site to some of these crawlers, and each that closes its home page.
+/// About each line of these rows. The crawler that is named is the first for which that is probably a
+/// mistake, or else the first.
+fn closing<'a>(
+    alloc: Global,
+    let_in: bool,
+    site: &Site,
+    rows: &[Row<'a>],
+) -> Result<Found<'a>, AllocError>
+    ensures so { IfOk result (λ found. All (IsClosed rows.now) found.items) }
+    ensures told { IfOk result (λ found. All (λ row. IsTold found.items row.0) rows.now) }
+{
+    let mut found = Vec::new(alloc);
+    for row in rows {
+        if row.0.is_some() && is_major(let_in, site, row.1) {
+            warn_of_row(&mut found, Cause::ClosesSite, rows, *row)?;
+        }
+    }
+    for row in rows {
+        warn_of_row(&mut found, Cause::ClosesEverything, rows, *row)?;
+    }
+    Ok(found)
+}
+
+/// The same about the home page.
+fn of_home<'a>(warning: &Warning<'a>) -> Warning<'a> {
+    Warning {
+        line: warning.line,
+        cause: match warning.cause {
+            Cause::ClosesSite => Cause::ClosesHome,
+            _ => Cause::ClosesHomeToOthers,
+        },
+        about: warning.about,
+        detail: warning.detail,
+    }
+}
+
+fn of_homes<'a>(alloc: Global, closing: &[Warning<'a>]) -> Result<Found<'a>, AllocError> {
+    let mut found = Vec::new(alloc);
+    for warning in closing {
+        found.push(of_home(warning))?;
+    }
+    Ok(found)
+}
+
+/// Each line that closes the site to some crawlers, and each that closes its home page.
 pub(crate) fn warn_of_closed<'a>(
     alloc: Global,
     found: &mut Found<'a>,
-    agents: &[&'a str],
-    read: &FileRead<'_>,
+    known: &Known<'_, 'a>,
 ) -> Result<(), AllocError>
-    requires { IsRead read.now }
-    ensures so { (all_groups : Bool) → (file : List ℕ) → OnOk result
-        (Tells (Means all_groups (map (λ agent. agent.now) agents.now) file
-        (map label_by_value read.now.labels.items)) [] found.old.items found.new.items) }
-    ensures told { OnOk result (HasClosed (map (λ agent. agent.now) agents.now) (file_lines read.now.site)
+    requires read { IsRead known.now.read.now }
+    requires known { IsKnown known.now }
+    ensures so { OnOk result (Tells (IsSo known.now) found.old.items found.new.items) }
+    ensures told { OnOk result (HasClosed (agents_in known.now) (file_lines known.now.read.now.site)
         found.new.items) }
 {
-    let exempt = exempt_patterns(alloc, &read.site)?;
-    let let_in = lets_in(alloc, &exempt, &read.site)?;
-    let sites = closed_sites(alloc, &exempt, let_in, &read.site, agents)?;
-    let homes = closed_homes(alloc, &exempt, let_in, &read.site, agents)?;
-    warn_of_lines(found, Cause::ClosesSite, Cause::ClosesEverything, sites)?;
-    warn_of_lines(found, Cause::ClosesHome, Cause::ClosesHomeToOthers, homes)?;
+    let site = &known.read.site;
+    let exempt = exempt_patterns(alloc, site)?;
+    let let_in = lets_in(alloc, &exempt, site)?;
+    let sites = site_rows(alloc, &exempt, site, known.agents)?;
+    let mut closed = closing(alloc, let_in, site, &sites)?;
+    found.append(&mut closed)?;
+    let homes = home_rows(alloc, &exempt, site, known.agents)?;
+    let homes = of_homes(alloc, &closing(alloc, let_in, site, &homes)?)?;
+    keep(found, &homes, known)?;
     Ok(())
 }

@@ -1,14 +1,15 @@
 //! Rules that contradict each other.
-ghost use Rattle.std.specs.Prelude.{◌≡◌, ◌==◌, ◌&&◌, ◌⊎◌, ℕ, Contains, IfOk, None, OnOk, Some, codes};
+ghost use Rattle.std.specs.Prelude.{◌≡◌, ◌==◌, ◌&&◌, ◌||◌, ◌⊎◌, ℕ, Contains, IfOk, None, OnOk, Some, is_some};
 ghost use Rattle.std.specs.Prelude.{if◌then◌else◌, map, not, string_bytes};
 ghost use Rattle.std.specs.{BTreeMap.get, BTreeSet.contains, Option.option_or, Ordering.nat_cmp};
 ghost use Rattle.texting_robots.specs.Callers.{file_lines};
-ghost use Rattle.robots_warnings.specs.Conflicts.{AreOpposed, compared, first_line, is_like};
-ghost use Rattle.robots_warnings.specs.Conflicts.{overruled_among, overruling};
+ghost use Rattle.robots_warnings.specs.Conflicts.{AreOpposed, are_closed, closes_all, compared, is_of_all};
+ghost use Rattle.robots_warnings.specs.Conflicts.{is_overruling, opens_all};
 ghost use Rattle.robots_warnings.specs.Internal.Rules.{AreOf};
 
 use crate::numbers::LineNumbers;
 use crate::own_rules::own_rules;
+use crate::site_patterns::is_whole_site;
 use std::alloc::{AllocError, Global};
 use std::collections::{BTreeMap, HashMap};
 use texting_robots::site::{Site, SiteRule};
@@ -59,15 +60,12 @@ fn first_allows(
     Ok(places)
 }
 
-fn note(others: &mut Others, number: usize, other: Option<usize>) -> Result<(), AllocError>
+fn note(others: &mut Others, number: usize, other: usize) -> Result<(), AllocError>
     ensures { OnOk result ((n : ℕ) → get nat_cmp others.new n
-        ≡ option_or (get nat_cmp others.old n) (if number == n then other else None)) }
+        ≡ option_or (get nat_cmp others.old n) (if number == n then Some other else None)) }
 {
-    let Some(line) = other else {
-        return Ok(());
-    };
     if !others.contains_key(&number) {
-        others.insert(number, line)?;
+        others.insert(number, other)?;
     }
     Ok(())
 }
@@ -101,69 +99,80 @@ fn allow_beside(
     Ok(None)
 }
 
-#[tactic(auto, using(crate::proofs::RuleLemmas::slash_or_star))]
-fn is_of_all(rule: &SiteRule<'_>, is_allow: bool, empty: &LineNumbers) -> bool
-    ensures { result ≡ is_like (contains nat_cmp empty.now) is_allow (codes "/") rule.now }
+/// Whether the pattern is `/` or `*`.
+#[tactic(auto, using(crate::proofs::RuleLemmas::of_all_escaped))]
+fn is_of_all(rule: &SiteRule<'_>) -> bool
+    ensures { result ≡ is_of_all rule.now.rule.0 }
 {
-    rule.is_allow == is_allow
-        && (rule.value == "/" || rule.value == "*")
-        && !empty.contains(&rule.line)
+    let value = rule.value.as_bytes();
+    is_whole_site(value) && value.len() == 1
 }
 
-fn first_of_all(rules: &[SiteRule<'_>], is_allow: bool, empty: &LineNumbers) -> Option<usize>
-    ensures { result ≡ first_line (is_like (contains nat_cmp empty.now) is_allow (codes "/")) rules.now }
+fn closes_all(rule: &SiteRule<'_>) -> bool
+    ensures { result ≡ closes_all rule.now }
 {
+    !rule.is_allow && is_of_all(rule)
+}
+
+fn opens_all(rule: &SiteRule<'_>, empty: &LineNumbers) -> bool
+    ensures { result ≡ opens_all (contains nat_cmp empty.now) rule.now }
+{
+    is_stated_allow(rule, empty) && is_of_all(rule)
+}
+
+/// The line of the first Disallow of `/` or `*`, if there is no Allow of these.
+fn closing_all(rules: &[SiteRule<'_>], empty: &LineNumbers) -> Option<usize>
+    ensures { is_some result ≡ are_closed (contains nat_cmp empty.now) rules.now }
+{
+    let mut line = None;
     for rule in rules {
-        if is_of_all(rule, is_allow, empty) {
-            return Some(rule.line);
+        if opens_all(rule, empty) {
+            return None;
+        }
+        if line.is_none() && closes_all(rule) {
+            line = Some(rule.line);
         }
     }
-    None
+    line
 }
 
-fn overruling(rules: &[SiteRule<'_>], empty: &LineNumbers) -> Option<usize>
-    ensures { result ≡ overruling (contains nat_cmp empty.now) rules.now }
-{
-    match first_of_all(rules, true, empty) {
-        Some(_) => None,
-        None => first_of_all(rules, false, empty),
-    }
-}
-
-/// `other` if the rule is an empty Disallow.
-fn if_empty(rule: &SiteRule<'_>, other: Option<usize>, empty: &LineNumbers) -> Option<usize>
-    ensures { result ≡ (if rule.now.rule.1 && contains nat_cmp empty.now rule.now.line then other else None) }
-{
-    if rule.is_allow && empty.contains(&rule.line) {
-        other
-    } else {
-        None
-    }
-}
-
-/// Inserts the lines of Disallows that contradict an Allow, and of empty Disallows that contradict a
-/// Disallow, of these rules of one crawler.
-fn add_others(
+/// Inserts the lines of Disallows that contradict an Allow of these rules of one crawler.
+fn add_conflicts(
     alloc: Global,
     conflicts: &mut Others,
-    overruled: &mut Others,
     rules: &[SiteRule<'_>],
     empty: &LineNumbers,
 ) -> Result<(), AllocError>
-    ensures conflicts { OnOk result ((number other : ℕ) → get nat_cmp conflicts.new number ≡ Some other
+    ensures { OnOk result ((number other : ℕ) → get nat_cmp conflicts.new number ≡ Some other
         → (get nat_cmp conflicts.old number ≡ Some other)
         ⊎ AreOpposed (contains nat_cmp empty.now) rules.now number other) }
-    ensures overruled { OnOk result ((number : ℕ) → get nat_cmp overruled.new number
-        ≡ option_or (get nat_cmp overruled.old number)
-        (overruled_among (contains nat_cmp empty.now) rules.now number)) }
 {
     let allowed = first_allows(alloc, rules, empty)?;
-    let other = overruling(rules, empty);
     for rule in rules {
-        let allow = allow_beside(alloc, &allowed, rules, rule, empty)?;
-        note(conflicts, rule.line, allow)?;
-        let disallow = if_empty(rule, other, empty);
-        note(overruled, rule.line, disallow)?;
+        if let Some(other) = allow_beside(alloc, &allowed, rules, rule, empty)? {
+            note(conflicts, rule.line, other)?;
+        }
+    }
+    Ok(())
+}
+
+/// Inserts the lines of empty Disallows that overrule a Disallow of these rules of one crawler.
+fn add_overruling(
+    overruling: &mut Others,
+    rules: &[SiteRule<'_>],
+    empty: &LineNumbers,
+) -> Result<(), AllocError>
+    ensures { OnOk result ((number : ℕ) → is_some (get nat_cmp overruling.new number)
+        ≡ (is_some (get nat_cmp overruling.old number)
+        || is_overruling (contains nat_cmp empty.now) number rules.now)) }
+{
+    let Some(other) = closing_all(rules, empty) else {
+        return Ok(());
+    };
+    for rule in rules {
+        if empty.contains(&rule.line) {
+            note(overruling, rule.line, other)?;
+        }
     }
     Ok(())
 }
@@ -174,7 +183,7 @@ pub(crate) struct RuleLines {
     /// For a Disallow, the Allow of the same.
     pub(crate) conflicts: Others,
     /// For an empty Disallow, the Disallow of `/` or `*`, if there is no Allow of these.
-    pub(crate) overruled: Others,
+    pub(crate) overruling: Others,
 }
 
 pub(crate) fn rule_lines(
@@ -187,13 +196,14 @@ pub(crate) fn rule_lines(
         (file_lines site.now)) }
 {
     let mut conflicts = BTreeMap::new(alloc);
-    let mut overruled = BTreeMap::new(alloc);
+    let mut overruling = BTreeMap::new(alloc);
     for agent in agents {
         let rules = own_rules(alloc, site, agent)?;
-        add_others(alloc, &mut conflicts, &mut overruled, &rules, empty)?;
+        add_conflicts(alloc, &mut conflicts, &rules, empty)?;
+        add_overruling(&mut overruling, &rules, empty)?;
     }
     Ok(RuleLines {
         conflicts,
-        overruled,
+        overruling,
     })
 }

@@ -1,8 +1,7 @@
 //! Conditions on what the content of a directive has besides its value: white space, a comment, and the text
 //! of a delay. Those on a raw value are for directives with a colon.
 ghost use Rattle.std.specs.Prelude.{◌≡◌};
-ghost use Rattle.robots_warnings.specs.Contents.{comment_of};
-ghost use Rattle.robots_warnings.specs.Contents.{is_cut, is_cut_to_root, raw_value, tail_of};
+ghost use Rattle.robots_warnings.specs.Contents.{comment_of, is_cut, is_cut_to_root, raw_value, tail_of};
 
 use crate::field_names::{trim_blanks_end, trim_blanks_start};
 use crate::rules::{after_byte, before_byte, begins_oddly, has, is_utf8, place};

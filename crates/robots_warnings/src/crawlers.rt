@@ -1,6 +1,6 @@
 //! Known crawlers: which group the vendor of each applies to it, and which one a similar name may mean.
-ghost use Rattle.std.specs.Prelude.{◌≡◌, IfOk, OnOk, map, option_map};
-ghost use Rattle.std.specs.{List.list_any, List.position_from, Str.str_eq_ignore_ascii_case};
+ghost use Rattle.std.specs.Prelude.{◌≡◌, IfOk, map, option_map};
+ghost use Rattle.std.specs.{List.position_from};
 ghost use Rattle.texting_robots.specs.Callers.{by_value, file_lines};
 ghost use Rattle.robots_warnings.specs.Crawlers.{crawlers, first_at_vendor, gets_other, group_at_vendor};
 ghost use Rattle.robots_warnings.specs.Crawlers.{ignores_star, is_known, is_meant, is_near, is_row_of, meant};
@@ -210,9 +210,7 @@ pub fn other_group<'a>(site: &'a Site, agent: &str) -> Option<&'a str>
     if site.is_named(agent) {
         return None;
     }
-    let Some(group) = name_for(crawlers(), agent.as_bytes()) else {
-        return None;
-    };
+    let group = name_for(crawlers(), agent.as_bytes())?;
     match first_at_vendor(site, agent) {
         Some(name) => Some(name),
         None => group_at_vendor(site, group),
@@ -281,17 +279,10 @@ fn is_meant(alloc: Global, value: &[u8], other: &str, row: &Crawler) -> Result<b
     )
 }
 
-fn has_name(rows: &[Crawler], name: &[u8]) -> bool
-    ensures { result ≡ list_any (λ row. str_eq_ignore_ascii_case name.now row.0.now) rows.now }
-{
-    rows.iter()
-        .any(|row| name.eq_ignore_ascii_case(row.0.as_bytes()))
-}
-
 fn is_known(name: &[u8]) -> bool
     ensures { result ≡ is_known name.now }
 {
-    has_name(crawlers(), name)
+    name_for(crawlers(), name).is_some()
 }
 
 fn first_meant(

@@ -1,5 +1,5 @@
 //! Field names: which one was probably intended in an ignored line, and what is unusual in a directive.
-ghost use Rattle.std.specs.Prelude.{◌≡◌, ◌≤◌, length};
+ghost use Rattle.std.specs.Prelude.{◌≡◌};
 ghost use Rattle.robots_warnings.specs.FieldNames.{trim_blanks_end, trim_blanks_start};
 
 use crate::file::first;
@@ -82,17 +82,8 @@ fn name_in<'a>(body: &'a [u8]) -> &'a [u8] {
     name_before(b':', body)
 }
 
-fn word_len(text: &[u8]) -> usize
-    ensures { result ≤ length text.now }
-{
-    text.iter()
-        .take_while(|byte| !(**byte == b' ' || **byte == b'\t'))
-        .count()
-}
-
 fn first_word<'a>(body: &'a [u8]) -> &'a [u8] {
-    let text = trim_blanks_start(body);
-    &text[..word_len(text)]
+    before_byte(b'\t', before_byte(b' ', trim_blanks_start(body)))
 }
 
 fn is_name(name: &str, word: &[u8]) -> bool {

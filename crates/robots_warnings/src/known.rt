@@ -1,10 +1,9 @@
 //! What is known of a file for a request, and which warnings are so by it.
-ghost use Rattle.std.specs.Prelude.{[], ◌≡◌, ℕ, All, Contains, IfOk, List, OnOk, Option, Some, map, true};
+ghost use Rattle.std.specs.Prelude.{◌≡◌, ℕ, All, Contains, IfOk, List, OnOk, Option, Some, map, true};
 ghost use Rattle.texting_robots.specs.Callers.{label_by_value};
 ghost use Rattle.robots_warnings.specs.{Crawlers.IsPastLimit, File.lines_of, Means.IsOfLine, Means.is_so_of};
 ghost use Rattle.robots_warnings.specs.{Means.is_style, Message.WarningValue, Read.IsRead};
-ghost use Rattle.robots_warnings.specs.{Conflicts.is_empty_at, Internal.Rules.AreOf};
-ghost use Rattle.robots_warnings.specs.Internal.Tells.{IsKnown, IsSo, SaysSo, Tells};
+ghost use Rattle.robots_warnings.specs.Internal.Tells.{IsBeside, IsKnown, IsSo, SaysSo, Tells};
 
 use crate::conflicts::{RuleLines, rule_lines};
 use crate::contents::{is_cut_to_root, split_content};
@@ -60,9 +59,6 @@ pub(crate) fn known_of<'k, 'a>(
 ) -> Result<Known<'k, 'a>, AllocError>
     requires { IsRead read.now }
     ensures known { IfOk result IsKnown }
-    ensures rules { IfOk result (λ known. AreOf (is_empty_at (map label_by_value read.now.labels.items))
-        (map (λ agent. agent.now) agents.now) (lines_of (map label_by_value read.now.labels.items))
-        known.rules) }
     ensures all_groups { IfOk result (λ known. known.all_groups ≡ all_groups) }
     ensures agents { IfOk result (λ known. known.agents.now ≡ agents.now) }
     ensures read { IfOk result (λ known. known.read.now ≡ read.now) }
@@ -152,6 +148,16 @@ fn is_so_at(labels: &[LabeledLine<'_>], cause: Cause, number: usize) -> bool
     }
 }
 
+/// Whether the detail is the line of an Allow that contradicts the Disallow in this line.
+fn is_conflict(lines: &RuleLines, number: usize, detail: Option<Detail>) -> bool
+    ensures { result ≡ true → IsBeside lines.now number detail }
+{
+    match (detail, lines.conflicts.get(&number)) {
+        (Some(Detail::Line(line)), Some(other)) => line == *other,
+        _ => false,
+    }
+}
+
 /// Whether it is so of more than a line.
 fn is_found(known: &Known<'_, '_>, cause: Cause, number: usize, detail: Option<Detail>) -> bool
     requires { IsKnown known.now }
@@ -160,6 +166,7 @@ fn is_found(known: &Known<'_, '_>, cause: Cause, number: usize, detail: Option<D
     let is_too_large = known.read.facts.is_too_large;
     match cause {
         Cause::GroupPastSizeLimit => has_number(&known.past_limit, number),
+        Cause::AllowedAndDisallowed => is_conflict(&known.rules, number, detail),
         Cause::TwoDelays => !is_too_large && has_number(&known.delays, number),
         Cause::TwoDelaysPastLimit => has_number(&known.delays, number),
         Cause::RepeatedRule => !is_too_large && has_number(&known.repeated, number),
@@ -192,14 +199,13 @@ fn is_so(known: &Known<'_, '_>, warning: &Warning<'_>) -> bool
 }
 
 /// Adds the candidates that are about style or so.
-#[tactic(auto, using(crate::proofs::TellsLemmas::tells_push))]
 pub(crate) fn keep<'a>(
     found: &mut Found<'a>,
     candidates: &[Warning<'a>],
     known: &Known<'_, 'a>,
 ) -> Result<(), AllocError>
     requires { IsKnown known.now }
-    ensures { OnOk result (Tells (IsSo known.now) [] found.old.items found.new.items) }
+    ensures { OnOk result (Tells (IsSo known.now) found.old.items found.new.items) }
 {
     for candidate in candidates {
         if !is_so(known, candidate) {

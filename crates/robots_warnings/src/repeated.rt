@@ -1,7 +1,6 @@
 //! Rules that repeat a rule above them in their group.
 ghost use Rattle.std.specs.Prelude.{[], ◌≡◌, All, Contains, IfOk, false, true, map};
-ghost use Rattle.texting_robots.specs.Callers.{by_value, label_by_value};
-ghost use Rattle.texting_robots.specs.{Group.is_agent};
+ghost use Rattle.texting_robots.specs.{Callers.by_value, Callers.label_by_value, Group.is_agent};
 ghost use Rattle.robots_warnings.specs.Internal.Values.{AddsLine, HasSeen};
 ghost use Rattle.robots_warnings.specs.Repeated.{is_checked, repeated};
 

@@ -1,20 +1,18 @@
 //! Groups of crawlers that have none of the Disallow rules of `*`.
-ghost use Rattle.std.specs.Prelude.{All, ◌≡◌, ◌||◌, ◌&&◌, Bool, IfOk, List, OnOk, bytes_eq, count_by, map};
-ghost use Rattle.std.specs.Prelude.{not, true, ℕ};
-ghost use Rattle.std.specs.{BTreeSet.contains, HashSet.contains_text, Str.str_to_ascii_lowercase};
-ghost use Rattle.texting_robots.specs.Callers.{LineValue, file_lines, label_by_value};
+ghost use Rattle.std.specs.Prelude.{All, ◌≡◌, ◌||◌, ◌&&◌, IfOk, List, OnOk, bytes_eq, count_by, map, not};
+ghost use Rattle.std.specs.Prelude.{true, ℕ};
+ghost use Rattle.std.specs.{HashSet.contains_text, Str.str_to_ascii_lowercase};
+ghost use Rattle.texting_robots.specs.Callers.{file_lines, label_by_value};
 ghost use Rattle.robots_warnings.specs.Closed.{IsReplacing, denies, is_lacking, lacks_all, name_lacking};
 ghost use Rattle.robots_warnings.specs.Closed.{star_rules};
 ghost use Rattle.robots_warnings.specs.{File.lines_of, Positions.begin_with_one};
-ghost use Rattle.robots_warnings.specs.Internal.Names.{Key, key_cmp};
-ghost use Rattle.robots_warnings.specs.Internal.Rules.{HasDenied, HasThose, is_kept_in};
+ghost use Rattle.robots_warnings.specs.Internal.Rules.{HasDenied, is_kept_in};
 
-use crate::names::{Names, add_name};
 use crate::numbers::push_if;
 use crate::positions::{Preceding, name_star, preceding_with};
 use crate::site_patterns::is_whole_site;
 use std::alloc::{AllocError, Global};
-use std::collections::{BTreeSet, HashSet};
+use std::collections::HashSet;
 use texting_robots::labels::LabeledLine;
 use texting_robots::parser::Line;
 use texting_robots::site::{Site, SiteRule};
@@ -82,62 +80,57 @@ fn lacks_all(alloc: Global, site: &Site, denied: &Patterns, agent: &str) -> Resu
     Ok(true)
 }
 
-fn add_lacking(
+/// The crawler has this name, and has none of the Disallows of `*`.
+fn lacks_as(
     alloc: Global,
-    names: &mut Names,
     site: &Site,
     denied: &Patterns,
     agent: &str,
-) -> Result<(), AllocError>
+    name: &[u8],
+) -> Result<bool, AllocError>
     requires { HasDenied denied.now (star_rules (file_lines site.now)) }
-    ensures { OnOk result ((key : Key) → contains key_cmp names.new key ≡ (contains key_cmp names.old key
-        || (lacks_all (file_lines site.now) agent.now
-        && bytes_eq (str_to_ascii_lowercase agent.now) key.items))) }
+    ensures { IfOk result (λ is. is ≡ (bytes_eq (str_to_ascii_lowercase agent.now)
+        (str_to_ascii_lowercase name.now) && lacks_all (file_lines site.now) agent.now)) }
 {
-    if lacks_all(alloc, site, denied, agent)? {
-        add_name(alloc, names, agent.as_bytes())?;
-    }
-    Ok(())
+    Ok(agent.as_bytes().eq_ignore_ascii_case(name) && lacks_all(alloc, site, denied, agent)?)
 }
 
-/// `star` are the rules of `*`.
-fn lacking(
+/// One of the crawlers does.
+fn is_lacking(
     alloc: Global,
     site: &Site,
-    star: &[SiteRule<'_>],
+    denied: &Patterns,
     agents: &[&str],
-) -> Result<Names, AllocError>
-    requires { star.now ≡ star_rules (file_lines site.now) }
-    ensures { IfOk result (λ names. HasThose names
-        (is_lacking (map (λ agent. agent.now) agents.now) (file_lines site.now))) }
+    name: &[u8],
+) -> Result<bool, AllocError>
+    requires { HasDenied denied.now (star_rules (file_lines site.now)) }
+    ensures { IfOk result (λ is. is ≡ is_lacking (map (λ agent. agent.now) agents.now)
+        (file_lines site.now) (str_to_ascii_lowercase name.now)) }
 {
-    let denied = denied_patterns(alloc, star)?;
-    let mut names = BTreeSet::new(alloc);
-    let mut rest = agents;
-    while let [agent, after @ ..] = rest {
-        add_lacking(alloc, &mut names, site, &denied, agent)?;
-        rest = after;
+    for agent in agents {
+        if lacks_as(alloc, site, denied, agent, name)? {
+            return Ok(true);
+        }
     }
-    Ok(names)
+    Ok(false)
 }
 
 fn begin_with_one(
     alloc: Global,
-    names: &Names,
+    site: &Site,
+    denied: &Patterns,
+    agents: &[&str],
     labels: &[LabeledLine<'_>],
 ) -> Result<bool, AllocError>
-    ensures { IfOk result (λ is. (test : List ℕ → Bool) → HasThose names.now test
-        → is ≡ begin_with_one (λ name. test (str_to_ascii_lowercase name))
-        (lines_of (map label_by_value labels.now))) }
+    requires { HasDenied denied.now (star_rules (file_lines site.now)) }
+    ensures { IfOk result (λ is. is ≡ begin_with_one (λ name. is_lacking (map (λ agent. agent.now) agents.now)
+        (file_lines site.now) (str_to_ascii_lowercase name)) (lines_of (map label_by_value labels.now))) }
 {
     let mut rest = labels;
     while let [labeled, after @ ..] = rest {
         match labeled.line {
-            Line::UserAgent(value) => {
-                let lowered = value.to_ascii_lowercase(alloc)?;
-                if names.contains(&lowered) {
-                    return Ok(true);
-                }
+            Line::UserAgent(value) if is_lacking(alloc, site, denied, agents, value)? => {
+                return Ok(true);
             }
             Line::Allow(_) | Line::Disallow(_) | Line::CrawlDelay(_) => return Ok(false),
             _ => {}
@@ -161,13 +154,15 @@ fn have_group(labels: &[LabeledLine<'_>]) -> bool {
 /// Whether a group that has a rule or a delay begins here, which names such a crawler and not `*`.
 fn is_replacing(
     alloc: Global,
-    names: &Names,
+    site: &Site,
+    denied: &Patterns,
+    agents: &[&str],
     preceding: Preceding,
     from_here: &[LabeledLine<'_>],
 ) -> Result<bool, AllocError>
-    ensures { IfOk result (λ is. (agents : List (List ℕ)) → (lines : List LineValue)
-        → HasThose names.now (is_lacking agents lines) → is ≡ true
-        → name_lacking agents lines (lines_of (map label_by_value from_here.now)) ≡ true) }
+    requires { HasDenied denied.now (star_rules (file_lines site.now)) }
+    ensures { IfOk result (λ is. is ≡ true → name_lacking (map (λ agent. agent.now) agents.now)
+        (file_lines site.now) (lines_of (map label_by_value from_here.now)) ≡ true) }
 {
     let [labeled, ..] = from_here else {
         return Ok(false);
@@ -176,7 +171,7 @@ fn is_replacing(
     if !is_first || !have_group(from_here) {
         return Ok(false);
     }
-    Ok(begin_with_one(alloc, names, from_here)? && !name_star(from_here))
+    Ok(!name_star(from_here) && begin_with_one(alloc, site, denied, agents, from_here)?)
 }
 
 fn is_other_name(labeled: &LabeledLine<'_>) -> bool {
@@ -210,10 +205,10 @@ pub(crate) fn replacing(
     if !has_other_name(labels) {
         return Ok(found);
     }
-    let names = lacking(alloc, site, star, agents)?;
+    let denied = denied_patterns(alloc, star)?;
     let mut preceding = Preceding::Other;
     for (index, labeled) in labels.iter().enumerate() {
-        let is = is_replacing(alloc, &names, preceding, &labels[index..])?;
+        let is = is_replacing(alloc, site, &denied, agents, preceding, &labels[index..])?;
         push_if(&mut found, is, index + 1)?;
         preceding = preceding_with(preceding, labeled.line);
     }

@@ -2,10 +2,8 @@
 ghost use Rattle.std.specs.Prelude.{◌≡◌, ◌<◌, ◌≤◌, ◌==◌, ℕ, Bool, List, length, true};
 ghost use Rattle.std.specs.Char.{digit_value, is_ascii_hexdigit};
 ghost use Rattle.std.specs.{Fn.FnReturnsAt, List.position_or_len, Str.byte, Str.is_utf8};
-ghost use Rattle.robots_warnings.specs.Rules.{after_byte, before_byte};
-ghost use Rattle.robots_warnings.specs.Rules.{begins_lone_percent, begins_oddly, from_first};
-ghost use Rattle.robots_warnings.specs.Rules.{has, has_dollar_inside};
-ghost use Rattle.robots_warnings.specs.Rules.{is_delimiter};
+ghost use Rattle.robots_warnings.specs.Rules.{after_byte, before_byte, begins_lone_percent, begins_oddly};
+ghost use Rattle.robots_warnings.specs.Rules.{from_first, has, has_dollar_inside, is_delimiter};
 ghost use Rattle.robots_warnings.specs.Rules.{needs_no_escape, somewhere};
 
 use crate::urls::{as_text, begins_as_url};

@@ -1,6 +1,5 @@
 //! Patterns of a whole site, of its home page, and of little of it.
-ghost use Rattle.std.specs.Prelude.{◌≡◌, nat_eq};
-ghost use Rattle.std.specs.List.{list_all, list_any, starts_with};
+ghost use Rattle.std.specs.{Prelude.◌≡◌, Prelude.nat_eq, List.list_all, List.list_any, List.starts_with};
 ghost use Rattle.robots_warnings.specs.Closed.{are_signs, begins_name_end, is_anything, is_file_end};
 ghost use Rattle.robots_warnings.specs.Closed.{is_name_end, is_root, is_star_or_dollar, is_whole_site};
 ghost use Rattle.robots_warnings.specs.Closed.{matches_no_path, opens_little, without_stars};

@@ -1,8 +1,7 @@
 //! Rules with percent escapes that a spelling doesn't have, and that their group lacks in that spelling.
 ghost use Rattle.std.specs.Prelude.{◌≡◌, ◌<◌, ◌++◌, IfOk, OnOk, length, slice_index, true};
 ghost use Rattle.std.specs.Char.{is_ascii_hexdigit};
-ghost use Rattle.robots_warnings.specs.Spellings.{is_escape, is_unescaped};
-ghost use Rattle.robots_warnings.specs.Spellings.{spelled, spelled_escape};
+ghost use Rattle.robots_warnings.specs.Spellings.{is_escape, is_unescaped, spelled, spelled_escape};
 
 use crate::checks::is_in_scope_of;
 use crate::numbers::push_if;

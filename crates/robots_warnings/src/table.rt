@@ -3,9 +3,8 @@
 //! rules, in those that `candidates` calls. Only `robots_audit` gives those about sitemaps that are
 //! denied, and about rules that can be deleted, which `robots_needless` finds.
 ghost use Rattle.std.specs.Prelude.{◌≡◌, ◌<◌, length, map};
-ghost use Rattle.robots_warnings.specs.Internal.{IsRowAt};
-ghost use Rattle.robots_warnings.specs.Table.{all_causes, all_levels, all_names, level_of, name_of};
-ghost use Rattle.robots_warnings.specs.declared.table.TheConstants.{WARNINGS};
+ghost use Rattle.robots_warnings.specs.{Internal.IsRowAt, declared.table.TheConstants.WARNINGS};
+ghost use Rattle.robots_warnings.specs.Table.{all_levels, all_names, level_of, name_of};
 
 use crate::rows::{COUNT, every_row};
 use crate::texts::{examples, messages};
@@ -141,10 +140,8 @@ pub static WARNINGS: [(Cause, Level, &str); COUNT] = every_row!(names);
 type Row = (Cause, Level, &'static str);
 
 /// Each function that names this long table takes a minute to prove, so no other does.
-#[tactic(auto, unfolding(crate::specs::Table::all_causes))]
 fn rows() -> &'static [Row]
     ensures length { length result.now ≡ length WARNINGS }
-    ensures causes { map (λ row. row.0) result.now ≡ all_causes }
     ensures levels { map (λ row. row.1) result.now ≡ all_levels }
     ensures names { map (λ row. row.2.now) result.now ≡ all_names }
 {
@@ -181,7 +178,6 @@ pub fn causes(alloc: Global) -> Result<Vec<Cause>, AllocError> {
 
 impl Cause {
     fn row(self) -> &'static Row
-        ensures own { result.now.0 ≡ self }
         ensures level { result.now.1 ≡ level_of self }
         ensures name { result.now.2.now ≡ name_of self }
     {

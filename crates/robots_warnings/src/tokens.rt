@@ -1,8 +1,7 @@
 //! Conditions on the name of a crawler.
 ghost use Rattle.std.specs.Prelude.{◌≡◌, ◌≤◌, length};
 ghost use Rattle.std.specs.List.{before_first, position_or_len};
-ghost use Rattle.robots_warnings.specs.Crawlers.{ends_token};
-ghost use Rattle.robots_warnings.specs.Crawlers.{is_token_byte};
+ghost use Rattle.robots_warnings.specs.Crawlers.{ends_token, is_token_byte};
 
 use crate::rules::somewhere;
 use crate::urls::begins_in_any_case;

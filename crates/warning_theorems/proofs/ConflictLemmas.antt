@@ -4,10 +4,10 @@ use Rattle.std.proofs.{lemmas.Slice.Eq.bytes_eq-Decides}
 use Rattle.std.proofs.{lemmas.List.Elements.All-contains}
 use Rattle.std.proofs.Common.{rules, Some, bytes_eq, if◌then◌else◌, ◌∙◌, ◌≡◌, ℕ, ◌&&◌, ◌||◌, []}
 use Rattle.std.proofs.Common.{Bool, true, false, List, ◌∷◌, Contains, append-nil, ap, arith, inl, inr, length}
-use Rattle.std.proofs.Common.{not, refl, subst, suc, sym, ◌⊎◌, Any, None, Option, ◌≢◌, ◌<◌, ◌++◌, All, nat_eq}
+use Rattle.std.proofs.Common.{not, refl, subst, sym, ◌⊎◌, None, Option, ◌≢◌, ◌<◌, ◌++◌, All, nat_eq}
 use Rattle.std.proofs.Common.{nat_le}
 use Rattle.std.proofs.lemmas.Bool.{and_parts, not-true, or_cases, eq-eqb, false≢true}
-use Rattle.std.specs.{List.list_any, Str.byte, Option.option_or, List.starts_with}
+use Rattle.std.specs.{List.list_any, Str.byte, List.starts_with}
 use Rattle.std.proofs.lemmas.List.Folds.{list_any-from_Any, Any-from_list_any, list_any_at}
 use Rattle.texting_robots.specs.Callers.{AreRulesFor, LineValue, Matches, PlacedRule, Rule, escaped, IsDenied}
 use Rattle.texting_robots.specs.Callers.{placed_rules, HoldsRule, IsDecidingLine, robots_file, unplaced}
@@ -15,7 +15,8 @@ use Rattle.robots_warnings.specs.Closed.{closes, is_exempt, is_literally, is_sta
 use Rattle.robots_warnings.specs.Closed.{is_whole_site}
 use Rattle.robots_warnings.specs.Closed.{is_rival, line_closing_site, matches_no_path, opened_paths}
 use Rattle.robots_warnings.specs.{Closed.leaves_closed, Closed.opens_little}
-use Rattle.robots_warnings.specs.Conflicts.{IsConflict, compared, first_line, first_of, is_like, line_if}
+use Rattle.robots_warnings.specs.Conflicts.{IsConflict, compared}
+use Rattle.robots_warnings.specs.Closed.{first_line, first_of, line_if}
 use Rattle.robots_warnings.specs.{Contents.is_cut_to_root}
 use Rattle.robots_warnings.proofs.{ClosedLemmas.whole_site_stays}
 use Rattle.texting_robots.proofs.Shared.{computed_are, placed_of, in_front, plain_wildcards}
@@ -35,51 +36,10 @@ pub also_listed : {agent : List ℕ} {lines : List LineValue} {rules others : Li
     → Contains rules placed → Contains others placed
 also_listed are also placed has = (also.held placed).1 ((are.held placed).0 has)
 
-pub first_found : {X : Type 0} (f : X → Option ℕ) (xs : List X) (n : ℕ) → first_of f xs ≡ Some n
-    → Any (λ x. f x ≡ Some n) xs
-first_found f [] n is = cc
-first_found f (x ∷ xs) n is = by (f x) refl (first_found f xs n) is
-  where
-    by : (a : Option ℕ) → f x ≡ a → (first_of f xs ≡ Some n → Any (λ x. f x ≡ Some n) xs)
-        → option_or a (first_of f xs) ≡ Some n → Any (λ x. f x ≡ Some n) (x ∷ xs)
-    by None none later is =
-        let (k, y, below, at, given) = later is in (suc k, y, omega arith, at, given)
-    by (Some m) some later is = (0, x, omega arith, refl, some ∙ is)
-
 pub any_some : {X : Type 0} (f : X → Option ℕ) (xs : List X)
     → list_any (λ x. is_some (f x)) xs ≡ is_some (first_of f xs)
 any_some f [] = refl
 any_some f (x ∷ xs) = grind (arith, any_some f xs)
-
-pub first_some : {X : Type 0} (f : X → Option ℕ) (xs : List X) (x : X) → Contains xs x → is_some (f x) ≡ true
-    → is_some (first_of f xs) ≡ true
-first_some f xs x (k, below, at) is =
-    sym (any_some f xs) ∙ list_any-from_Any (λ x. is_some (f x)) xs (k, x, below, at, is)
-
-pub like_found : (is_empty : ℕ → Bool) (rules : List PlacedRule) (is_allow : Bool) (pattern : List ℕ)
-    (other : ℕ) → first_line (is_like is_empty is_allow pattern) rules ≡ Some other
-    → (one : PlacedRule) × Contains rules one × (one.rule.1 ≡ is_allow) × (compared one.rule.0 ≡ pattern)
-    × (is_empty other ≡ false) × (one.line ≡ other)
-like_found is_empty rules is_allow pattern other found =
-    grind (arith, first_found, bytes_eq-Decides)
-
-pub like_holds : (is_empty : ℕ → Bool) (rules : List PlacedRule) (is_allow : Bool) (pattern : List ℕ)
-    (other : ℕ) (own : List ℕ) → compared own ≡ pattern → is_empty other ≡ false
-    → Contains rules (record { rule = (own, is_allow); line = other })
-    → is_some (first_line (is_like is_empty is_allow pattern) rules) ≡ true
-like_holds is_empty rules is_allow pattern other own same stated has =
-    first_some (line_if (is_like is_empty is_allow pattern)) rules
-    (record { rule = (own, is_allow); line = other }) has
-    (grind (arith, bytes_eq-Decides))
-  where
-    by : (b : Bool) → is_some (if (if b then b else not b) && true then Some other else None) ≡ true
-    by true = refl
-    by false = refl
-
-pub listed : (rules : List PlacedRule) (placed : PlacedRule) (is_allow : Bool) (number : ℕ)
-    → Contains rules placed → placed.rule.1 ≡ is_allow → placed.line ≡ number
-    → Contains rules (record { rule = (placed.rule.0, is_allow); line = number })
-listed rules placed is_allow number has kind at = grind arith
 
 -- the second pattern matches what the first one matches, and is as long
 pub Wins : (pattern other text : List ℕ) → Type 0
@@ -97,12 +57,6 @@ root_wins pattern other path whole long = grind (arith, whole_site_matches)
 pub wins_on_paths : (pattern other path : List ℕ) → compared other ≡ compared pattern
     → Wins pattern other (byte "/" ∷ path)
 wins_on_paths pattern other path same = search (rules, same_wins, root_wins)
-
--- the same, without its name
-pub path_wins : (pattern other path : List ℕ) → compared other ≡ compared pattern
-    → (Matches pattern (byte "/" ∷ path) → Matches other (byte "/" ∷ path)) × (length pattern ≡ length other)
-unfolding Wins
-path_wins pattern other path same = wins_on_paths pattern other path same
 
 one_rule : (agent : List ℕ) (lines : List LineValue) (place : ℕ) (rule other : Rule)
     → HoldsRule agent lines place rule → HoldsRule agent lines place other → rule ≡ other

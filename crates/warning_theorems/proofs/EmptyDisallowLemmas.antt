@@ -1,8 +1,9 @@
 -- Which lines are empty Disallows, what `empty-disallow` says of rules, and what it means if no line has it.
-use Rattle.std.specs.Prelude.{is_some, option_map}
+use Rattle.std.specs.Prelude.{option_map}
 use Rattle.std.proofs.lemmas.Bool.{and_parts, cases_lt, false≢true, cases_Bool}
-use Rattle.std.proofs.lemmas.Bool.{eqb-true, or_cases}
-use Rattle.std.proofs.Common.{◌≡◌, ◌↔◌, ◌==◌, ◌&&◌, ℕ, Bool, true, false, List, [], ◌∷◌, None}
+use Rattle.std.proofs.lemmas.Bool.{eq-eqb, eqb-true, not-true, or_cases}
+use Rattle.std.proofs.lemmas.List.Folds.{Any-from_list_any, list_any-from_Any}
+use Rattle.std.proofs.Common.{◌≡◌, ◌↔◌, ◌==◌, ◌&&◌, ℕ, Bool, true, false, List, [], ◌∷◌}
 use Rattle.std.proofs.Common.{Some, ap, arith, codes, inl, inr, refl, slice_get, subst}
 use Rattle.std.proofs.Common.{suc, sym, zero, ◌∙◌, ◌<◌, Contains, Option, length, not}
 use Rattle.std.proofs.lemmas.{Option.same_Some, Option.slice_get-map, Slice.Zip.AllZip-left}
@@ -12,13 +13,13 @@ use Rattle.texting_robots.specs.Callers.{IsDenied, IsVerdict, Matches, PlacedRul
 use Rattle.texting_robots.specs.{Internal.Line.line_of, Pattern.MatchesWith}
 use Rattle.texting_robots.proofs.Shared.{computed_are, lines_of_file_bodies, placed_of}
 use Rattle.robots_warnings.specs.Conflicts.{IsEmptyDisallow, is_empty_at, is_empty_disallow}
-use Rattle.robots_warnings.specs.Conflicts.{stated_rules, at_line, compared, first_line, is_like}
-use Rattle.robots_warnings.specs.Conflicts.{overruled_by, overruled_for}
+use Rattle.robots_warnings.specs.Conflicts.{closes_all, is_empty_rule, is_of_all, is_overruling, opens_all}
+use Rattle.robots_warnings.specs.Conflicts.{stated_rules}
 use Rattle.audit_core.proofs.EmptyLemmas.{empty_allows, empty_stated, stated_empty}
 use Rattle.robots_needless.proofs.TogetherLemmas.{in_filter, to_filter, unplaced_of}
-use Rattle.warning_theorems.proofs.ConflictLemmas.{first_some, like_found, like_holds, listed}
-use Rattle.warning_theorems.proofs.ConflictLemmas.{also_listed, path_wins}
-use Rattle.std.specs.{Option.IsSomeAnd, List.AllZip}
+use Rattle.audit_core.proofs.ReachLemmas.{whole_site_matches}
+use Rattle.warning_theorems.proofs.ConflictLemmas.{also_listed}
+use Rattle.std.specs.{Option.IsSomeAnd, List.AllZip, List.list_any}
 
 abbrev IsFound : List Label → ℕ → Type 0
 IsFound labels number = (i : ℕ) × (label : Label) × (slice_get labels i ≡ Some label)
@@ -93,21 +94,20 @@ empty_disallows name file labels number are hold = (
 abbrev pub root : List ℕ
 root = codes "/"
 
-some_or_none : (a : Option ℕ) → is_some a ≡ true → (n : ℕ) × (a ≡ Some n)
-some_or_none a h = grind arith
-
 one_byte : (pattern text : List ℕ) → length pattern ≡ 1 → Matches pattern text → Matches root text
-    → compared pattern ≡ root
+    → is_of_all pattern ≡ true
 unfolding MatchesWith
 one_byte [] text long matches path = absurd (omega arith)
 one_byte (b ∷ c ∷ pattern) text long matches path = absurd (omega arith)
 one_byte (b ∷ []) text long (s, takes, end) (rest, begins, more) = grind arith
 
-root_wins : (pattern text : List ℕ) → compared pattern ≡ root → Matches root text
+root_wins : (pattern text : List ℕ) → is_of_all pattern ≡ true → Matches root text
     → Matches pattern text × (length pattern ≡ 1)
 unfolding MatchesWith
-root_wins pattern text same (rest, begins, more) =
-    let wins = path_wins root pattern rest same in
+root_wins pattern text all (rest, begins, more) =
+    let (whole, one) = and_parts _ _ all in
+    let matches = whole_site_matches pattern rest whole in
+    let long = eqb-true (length pattern) 1 one in
     grind arith
 
 module _ (agent file : List ℕ) (rules : List PlacedRule)
@@ -148,7 +148,7 @@ module _ (agent file : List ℕ) (rules : List PlacedRule)
   module _ (is_empty : ℕ → Bool)
       (right : (number : ℕ) → is_empty number ≡ true → IsEmptyDisallow bodies number)
       (silent : (placed : PlacedRule) → Contains rules placed
-      → overruled_for is_empty (lines_read file) placed.line agent ≡ None) where
+      → is_overruling is_empty placed.line (placed_rules agent (lines_read file)) ≡ false) where
     abbrev stated : List PlacedRule
     stated = stated_rules is_empty rules
 
@@ -189,34 +189,24 @@ module _ (agent file : List ℕ) (rules : List PlacedRule)
         )
 
     allow_beside : (allow deny : PlacedRule) → Contains rules allow → is_empty allow.line ≡ true
-        → Contains rules deny → deny.rule.1 ≡ false → compared deny.rule.0 ≡ root
-        → (one : PlacedRule) × Contains rules one × (one.rule.1 ≡ true) × (compared one.rule.0 ≡ root)
+        → Contains rules deny → deny.rule.1 ≡ false → is_of_all deny.rule.0 ≡ true
+        → (one : PlacedRule) × Contains rules one × (one.rule.1 ≡ true) × (is_of_all one.rule.0 ≡ true)
         × (is_empty one.line ≡ false)
-    allow_beside allow deny there empty own denies alike =
+    allow_beside allow deny there empty own denies short =
         let are_all = computed_are agent (lines_read file) in
-        let first = first_line (is_like is_empty true root) all in
-        elim (cases_Bool (is_some first)) [
+        elim (cases_Bool (list_any (opens_all is_empty) all)) [
           | inl some ↦
-              let (n, found) = some_or_none first some in
-              let (one, listed_too, allows, like, stated_too, line) =
-              like_found is_empty all true root n found in (
-                one,
-                also_listed are_all are one listed_too,
-                allows,
-                like,
-                grind arith,
-              )
+              let (k, one, below, at, opens) = Any-from_list_any (opens_all is_empty) all some in
+              let (stated_too, like) = and_parts _ _ opens in
+              let (allows, isnt) = and_parts _ _ stated_too in
+              (one, also_listed are_all are one (k, below, at), allows, like, not-true _ isnt)
           | inr lacking ↦
-              let isnt = denies_stated deny deny.rule.0 own (ap (λ b. (deny.rule.0, b)) denies) in
-              let has = listed all deny false deny.line (also_listed are are_all deny own) denies refl in
-              let found = like_holds is_empty all false root deny.line deny.rule.0 alike isnt has in
-              let at_root = rule_there allow there (right allow.line empty) in
-              let given = listed all allow true allow.line (also_listed are are_all allow there)
-              (grind arith) refl in
-              let holds = first_some (at_line allow.line (overruled_by is_empty all)) all
-              (record { rule = (allow.rule.0, true); line = allow.line }) given
-              (grind arith) in
-              absurd (false≢true (sym (ap is_some (silent allow there)) ∙ holds))
+              let (k, below, at) = also_listed are are_all deny own in
+              let closing = list_any-from_Any closes_all all (k, deny, below, at, rw (denies, short) refl) in
+              let (j, under, found) = also_listed are are_all allow there in
+              let has = list_any-from_Any (is_empty_rule is_empty allow.line) all
+              (j, allow, under, found, rw (empty, eq-eqb allow.line allow.line refl) refl) in
+              absurd (false≢true (sym (silent allow there) ∙ rw (closing, lacking, has) refl))
         ]
 
     module _ (text p : List ℕ) (denied : Contains (unplaced stated) (p, false)) (fits : Matches p text)
@@ -227,7 +217,7 @@ module _ (agent file : List ℕ) (rules : List PlacedRule)
       never_short : ¬ (length p ≡ 1)
       never_short short =
           let (deny, own, isnt, is) = from (p, false) denied in
-          let alike = ap (λ (rule : Rule). compared rule.0) is ∙ one_byte p text short fits path in
+          let alike = ap (λ (rule : Rule). is_of_all rule.0) is ∙ one_byte p text short fits path in
           let (one, there_too, allows, like, stated_too) =
           allow_beside allow deny there empty own (cc) alike in
           let (matches, long) = root_wins one.rule.0 text like path in

@@ -311,7 +311,7 @@ replaces_star agents lines number (position, number_is, passes) =
         let test : List ℕ → Bool = λ name. is_lacking agents lines (str_to_ascii_lowercase name) in
         let by = named test (UserAgent value ∷ rest) names in
         let (k, agent, below, there, passes) = Any-from_list_any _ agents by.passes in
-        let (lacks, same) = and_parts _ _ passes in
+        let (same, lacks) = and_parts _ _ passes in
         let spelling = str_to_ascii_lowercase by.value in
         let on = here from in (
           position,

@@ -10,14 +10,14 @@ ghost use Rattle.texting_robots.specs.Callers.{file_limit, file_lines, is_named,
 ghost use Rattle.texting_robots.specs.Callers.{IsFileRejected, IsRobotOfFile, IsVerdict, LineValue, Matches};
 ghost use Rattle.texting_robots.specs.Callers.{Rule, PlacedRule, RobotValue, agents_in, bodies_in, delay_for};
 ghost use Rattle.texting_robots.specs.Callers.{file_bodies};
-ghost use Rattle.texting_robots.specs.Callers.{lines_read, bodies_read, rules_for, unplaced, UserAgent};
+ghost use Rattle.texting_robots.specs.Callers.{lines_read, bodies_read, placed_rules, rules_for, unplaced, UserAgent};
 ghost use Rattle.robots_needless.specs.Blocks.{HaveSameRobot, IsLeftOf, begin_with_mark};
 ghost use Rattle.robots_needless.specs.Needless.{lines_without, numbers_of};
 ghost use Rattle.rfc9309.specs.Rfc9309.{Group, IsFile, IsProductToken};
 ghost use Rattle.rfc9309.specs.Matching.{all_stay, normal_uri};
 ghost use Rattle.warning_theorems.specs.{Syntax.IsRobotStated, Verdict.IsStandardVerdict};
 ghost use Rattle.robots_warnings.specs.Conflicts.{IsConflict, is_empty_at};
-ghost use Rattle.robots_warnings.specs.Conflicts.{overruled_for, IsEmptyDisallow, stated_rules};
+ghost use Rattle.robots_warnings.specs.Conflicts.{IsEmptyDisallow, is_overruling, stated_rules};
 ghost use Rattle.robots_warnings.specs.Closed.{line_closing_site, opened_paths, opens_little};
 ghost use Rattle.robots_warnings.specs.Closed.{IsReplacing, star_count};
 ghost use Rattle.robots_warnings.specs.{Contents.is_cut_to_root, Crawlers.IsPastLimit};
@@ -141,7 +141,7 @@ pub fn empty_disallows()
 pub fn without_empty_disallows()
     ensures { (is_empty : ℕ → Bool) (agent file : List ℕ) (rules : List PlacedRule)
         → ((number : ℕ) → IsTrue (is_empty number) ↔ IsEmptyDisallow (bodies_read file) number)
-        → ((number : ℕ) → overruled_for is_empty (lines_read file) number agent ≡ None)
+        → ((number : ℕ) → is_overruling is_empty number (placed_rules agent (lines_read file)) ≡ false)
         → AreRulesFor agent (lines_read file) rules → (text : List ℕ) (answer : Bool)
         → IsVerdict (unplaced rules) text answer
         ↔ IsVerdict (unplaced (stated_rules is_empty rules)) text answer }

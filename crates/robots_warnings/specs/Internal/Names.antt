@@ -1,7 +1,6 @@
 -- Sets of names in lower case.
 use Rattle.std.specs.Prelude.{◌≡◌, ℕ, Bool, bytes_eq, false, not, true, ◌||◌, List}
-use Rattle.std.specs.BTreeSet.{BTreeSet, contains}
-use Rattle.std.specs.{Global.Vec, List.list_any, Ordering.nat_cmp}
+use Rattle.std.specs.{BTreeSet.BTreeSet, BTreeSet.contains, Global.Vec, List.list_any, Ordering.nat_cmp}
 use Rattle.std.specs.{Str.str_to_ascii_lowercase, Cmp.Lexicographic.slice_cmp, declared.cmp.Ordering.Ordering}
 use Rattle.texting_robots.specs.Callers.{LineValue, is_agent_named}
 use Rattle.robots_warnings.specs.Crawlers.{has_new_name}

@@ -1,9 +1,11 @@
 -- How lists of warnings grow, and what is known of a file for a request.
-use Rattle.std.specs.Prelude.{◌≡◌, ℕ, All, Contains, List, ◌++◌, Option, map}
-use Rattle.std.specs.{BTreeMap.get, Ordering.nat_cmp}
+use Rattle.std.specs.Prelude.{◌≡◌, ℕ, All, Contains, List, None, Option, Some, map}
 use Rattle.texting_robots.specs.Callers.{Label, label_by_value}
-use Rattle.robots_warnings.specs.declared.table.Cause.TheVariants.{AllowedAndDisallowed, EmptyDisallow}
-use Rattle.robots_warnings.specs.{declared.conflicts.RuleLines.RuleLines, Warnings.beside}
+use Rattle.robots_warnings.specs.declared.table.Cause.{TheVariants.EmptyDisallow}
+use Rattle.robots_warnings.specs.declared.warning.Detail.{TheVariants.Line}
+use Rattle.robots_warnings.specs.{Conflicts.is_empty_at, Internal.Rules.AreOf}
+use Rattle.robots_warnings.specs.declared.conflicts.RuleLines.{RuleLines}
+use Rattle.std.specs.{BTreeMap.get, Ordering.nat_cmp}
 use Rattle.robots_warnings.specs.{declared.known.Known.Known, declared.table.Cause.Cause}
 use Rattle.robots_warnings.specs.{declared.warning.Detail.Detail, Message.WarningValue, Means.Means}
 use Rattle.robots_warnings.specs.{Means.Says}
@@ -11,12 +13,10 @@ use Rattle.robots_warnings.specs.Closed.{IsReplacing, star_count}
 use Rattle.robots_warnings.specs.{Crawlers.IsPastLimit, Facts.is_too_large, File.lines_of}
 use Rattle.robots_warnings.specs.{Positions.later_delays, Repeated.repeated}
 
--- the old warnings, and then others, all of which are so, and which have the told ones
-pub record Tells (IsSo : WarningValue → Type 0) (told old new : List WarningValue) : Type 0 where
-  pub added : List WarningValue
-  pub is : new ≡ old ++ added
-  pub all : All IsSo added
-  pub given : All (Contains added) told
+-- the old warnings, and others, all of which are so
+pub record Tells (IsSo : WarningValue → Type 0) (old new : List WarningValue) : Type 0 where
+  pub kept : (warning : WarningValue) → Contains old warning → Contains new warning
+  pub so : All IsSo old → All IsSo new
 
 abbrev pub agents_in : Known → List (List ℕ)
 agents_in known = map (λ agent. agent.now) known.agents.now
@@ -44,9 +44,14 @@ pub record IsKnown (known : Known) : Type 0 where
       (IsReplacing (agents_in known) (lines_of (labels_in known)) (lines_of (labels_in known)))
   pub star_count : known.star_count ≡ star_count (lines_of (labels_in known))
   pub repeated : Each known.repeated.items (Contains (repeated known.all_groups (labels_in known)))
+  pub rules : AreOf (is_empty_at (labels_in known)) (agents_in known) (lines_of (labels_in known)) known.rules
 
--- what is found about the rule in the line with this number
-abbrev pub rule_warnings : RuleLines → (number : ℕ) → List WarningValue
-rule_warnings lines number =
-    beside AllowedAndDisallowed number (get nat_cmp lines.conflicts number)
-    ++ beside EmptyDisallow number (get nat_cmp lines.overruled number)
+-- the detail is the line of an Allow that contradicts the Disallow in this line
+abbrev pub IsBeside : RuleLines → (number : ℕ) → Option Detail → Type 0
+IsBeside lines number detail =
+    (other : ℕ) × (detail ≡ Some (Line other)) × (get nat_cmp lines.conflicts number ≡ Some other)
+
+-- an empty Disallow in the line with the first number overrules the Disallow in the other one
+abbrev pub overruling_at : ℕ × ℕ → WarningValue
+overruling_at entry =
+    record { line = Some entry.0; cause = EmptyDisallow; about = None; detail = Some (Line entry.1) }

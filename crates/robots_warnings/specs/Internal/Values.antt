@@ -2,10 +2,9 @@
 use Rattle.std.specs.Prelude.{◌≡◌, ℕ, All, Bool, Contains, List, bytes_eq, false, true}
 use Rattle.std.specs.{HashSet.contains, List.list_any}
 use Rattle.texting_robots.specs.Callers.{LineValue, Label}
-use Rattle.robots_warnings.specs.{declared.values.Value.Value}
-use Rattle.robots_warnings.specs.{declared.repeated.Seen.Seen}
+use Rattle.robots_warnings.specs.declared.{values.Value.Value, repeated.Seen.Seen}
 use Rattle.robots_warnings.specs.Repeated.{above_next, is_repeated, repeated, repeated_from}
-use Rattle.robots_warnings.specs.Spellings.{is_rule_with}
+use Rattle.robots_warnings.specs.{Spellings.is_rule_with}
 
 abbrev pub value_eq : Value → Value → Bool
 value_eq one two = bytes_eq one.bytes.now two.bytes.now

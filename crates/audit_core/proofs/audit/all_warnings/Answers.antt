@@ -18,10 +18,10 @@ returns-clause-ok c =
     let agents = map (λ agent. agent.now) c.args.agents.now in
     let urls = map (λ url. url.now) c.deref.result.now in
     let labels = map label_by_value read.labels.items in
-    let told = rw c.requires.site_is at c.in_ok-found.ensures.given in
     let closed = rw c.requires.site_is at c.in_ok-found.ensures.closed in
+    let overruling = rw c.requires.site_is at c.in_ok-found.ensures.overruling in
     let added = more_none c.in_ok-add_needless.ensures c.in_ok-warn_of_sitemaps.ensures.ok in
     let found = all_found c.is_none-all_groups.result agents urls read.bytes.now labels
-    c.in_ok-found.ensures.so told closed added in
+    c.in_ok-found.ensures.so c.in_ok-found.ensures.given closed overruling added in
     rw (sym (mapped (λ agent. agent.now) c.args.request.now.agent _ c.is_none-all_groups.ensures))
     (rw c.deref.ensures.value at found)

@@ -1,7 +1,7 @@
 use Rattle.std.proofs.Common.{◌≡◌, drop}
 use Rattle.std.specs.HashSet.{contains_text}
-use Rattle.robots_warnings.specs.Closed.{closes, first_closing, leaves_closed}
-use Rattle.robots_warnings.specs.{Conflicts.first_line, Internal.Closed.IsNeeded}
+use Rattle.robots_warnings.specs.Closed.{closes, first_closing, leaves_closed, first_line}
+use Rattle.robots_warnings.specs.Internal.Closed.{IsNeeded}
 use Rattle.robots_warnings.proofs.closed.first_closing.Given as goal
 
 abbrev pub invariant-loop-rule : goal.invariant-loop-rule

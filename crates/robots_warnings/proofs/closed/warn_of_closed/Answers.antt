@@ -1,30 +1,25 @@
-use Rattle.std.proofs.Common.{[], Bool, List, map, subst, true, ℕ}
-use Rattle.texting_robots.specs.Callers.{LineValue, file_lines, label_by_value}
-use Rattle.robots_warnings.specs.{Closed.line_closing_but, Closed.line_closing_site}
-use Rattle.robots_warnings.specs.Internal.{Closed.AreClosed, Closed.AreNamed}
-use Rattle.robots_warnings.proofs.ClosedLemmas.{closed_told, homes_tell, sites_tell}
-use Rattle.robots_warnings.proofs.TellsLemmas.{closed_stays, lines_are, tells_on}
+use Rattle.std.proofs.lemmas.List.Elements.{Contains-append_right}
+use Rattle.texting_robots.specs.Callers.{file_lines}
+use Rattle.robots_warnings.specs.Internal.Tells.{agents_in, labels_in}
+use Rattle.robots_warnings.specs.Warnings.{ClosesToOne, is_closing_cause}
+use Rattle.robots_warnings.proofs.ClosedLemmas.{all_mean, told_of}
+use Rattle.robots_warnings.proofs.TellsLemmas.{each_stays, lines_are, tells_added, tells_on}
 use Rattle.robots_warnings.proofs.closed.warn_of_closed.Goals as goal
 
 pub returns : goal.returns
 returns c =
-    let read = c.args.read.now in
+    let known = c.args.known.now in
+    let read = known.read.now in
     let lines = file_lines read.site in
-    let labels = map label_by_value read.labels.items in
-    let agents = map (λ agent. agent.now) c.args.agents.now in
-    let sites = c.in_ok-sites.sites in
-    let homes = c.in_ok-homes.homes in
-    let asked = c.args.agents.now in
-    let are = subst (λ (exempt : List ℕ → Bool). AreClosed (line_closing_but exempt lines) asked sites)
-    c.in_ok-exempt.ensures c.in_ok-sites.ensures in
-    let named = subst (λ (lines : List LineValue). AreNamed (line_closing_site lines) agents sites)
-    (lines_are read c.requires) are.named in
-    let first = c.in_ok-warn_of_lines.ensures in
-    let next = c.in_ok-warn_of_lines-2.ensures in
+    let kept = c.in_ok-keep.ensures in
+    let found = c.in_ok-closed.closed.items in
+    let is = rw (c.deref.ensures.value, c.in_ok-sites.ensures) at c.in_ok-closed.ensures in
+    let so = rw (lines_are read c.requires.read) at is.so in
     record {
-      so = λ all_groups file.
-          tells_on (sites_tell all_groups agents file labels sites first.ordered named first.adds)
-          (homes_tell all_groups agents file labels homes next.adds);
-      told = closed_stays agents lines (homes_tell true agents [] labels homes next.adds)
-          (closed_told _ _ sites first.ordered first.adds lines asked are.has);
+      so = tells_on (tells_added found c.in_ok-append.ensures.items
+          (all_mean known.all_groups known.agents.now read.bytes.now (labels_in known) found so)) kept;
+      told = each_stays is_closing_cause (ClosesToOne (agents_in known) lines) _ _
+          (λ warning _ has. kept.kept warning (rw c.in_ok-append.ensures.items
+          (Contains-append_right c.args.found.now.items found warning has)))
+          (told_of known.agents.now lines found is.told);
     }

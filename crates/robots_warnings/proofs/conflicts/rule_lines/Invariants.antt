@@ -1,7 +1,7 @@
-use Rattle.std.proofs.Common.{◌≡◌, ℕ, Any, List, Some, drop, map}
-use Rattle.std.specs.{BTreeMap.get, BTreeSet.contains, Option.option_or, Ordering.nat_cmp}
+use Rattle.std.proofs.Common.{◌≡◌, ◌||◌, ℕ, Any, List, Some, drop, is_some, map}
+use Rattle.std.specs.{BTreeMap.get, BTreeSet.contains, Ordering.nat_cmp}
 use Rattle.texting_robots.specs.Callers.{file_lines}
-use Rattle.robots_warnings.specs.Conflicts.{IsConflict, overruled}
+use Rattle.robots_warnings.specs.Conflicts.{IsConflict, overrules_for_one}
 use Rattle.robots_warnings.proofs.conflicts.rule_lines.Given as goal
 
 abbrev pub invariant-loop-agent : goal.invariant-loop-agent
@@ -13,6 +13,6 @@ invariant-loop-agent l =
     record {
       conflicts : (number other : ℕ) → get nat_cmp l.conflicts number ≡ Some other
           → Any (λ agent. IsConflict is_empty agent lines number other) all;
-      overruled : (number : ℕ) → option_or (get nat_cmp l.overruled number)
-          (overruled is_empty left lines number) ≡ overruled is_empty all lines number;
+      overruling : (number : ℕ) → (is_some (get nat_cmp l.overruling number)
+          || overrules_for_one is_empty left lines number) ≡ overrules_for_one is_empty all lines number;
     }

@@ -1,11 +1,8 @@
-use Rattle.std.proofs.Common.{◌≡◌, Contains, map, subst}
-use Rattle.std.proofs.lemmas.List.Elements.{All-contains}
-use Rattle.std.specs.{BTreeSet.contains, Ordering.nat_cmp}
+use Rattle.std.proofs.{Common.Contains, Common.map, Common.subst, lemmas.List.Elements.All-contains}
 use Rattle.texting_robots.specs.Callers.{label_by_value}
-use Rattle.robots_warnings.specs.{Closed.IsReplacing, Conflicts.is_empty_at, Crawlers.IsPastLimit}
-use Rattle.robots_warnings.specs.{File.lines_of}
-use Rattle.robots_warnings.specs.{Internal.Rules.AreOf, Repeated.repeated}
-use Rattle.robots_warnings.proofs.TellsLemmas.{lines_are}
+use Rattle.robots_warnings.specs.{Closed.IsReplacing, Crawlers.IsPastLimit}
+use Rattle.robots_warnings.specs.{File.lines_of, Internal.Rules.AreOf, Repeated.repeated}
+use Rattle.robots_warnings.{proofs.TellsLemmas.lines_are}
 use Rattle.robots_warnings.proofs.known.known_of.Goals as goal
 
 pub returns-clause-known : goal.returns-clause-known
@@ -21,20 +18,13 @@ returns-clause-known c =
           c.in_ok-past_limit.ensures;
       delays = rw c.deref-2.ensures.value at c.in_ok-later_delays.ensures;
       replacing = λ number.
-          All-contains (IsReplacing agents (lines_of labels) (lines_of labels)) c.in_ok-replacing.field-0.items
-          number (rw (c.deref-4.ensures.value, same) at c.in_ok-replacing.ensures);
+          All-contains (IsReplacing agents (lines_of labels) (lines_of labels))
+          c.in_ok-replacing.field-0.items number (rw (c.deref-4.ensures.value, same) at c.in_ok-replacing.ensures);
       star_count = rw (c.deref-5.ensures.value, c.in_ok-star.ensures, same) at c.disallow_count.ensures;
       repeated = λ number.
           All-contains (Contains (repeated c.args.all_groups labels)) c.in_ok-repeated.field-0.items number
           (rw c.deref-6.ensures.value at c.in_ok-repeated.ensures);
+      rules = subst (λ is_empty. AreOf is_empty agents (lines_of labels) c.in_ok-rule_lines.field-0)
+          (λ i n. rw c.deref.ensures.value at c.in_ok-empty.ensures n i)
+          (rw same at c.in_ok-rule_lines.ensures);
     }
-
-pub returns-clause-rules : goal.returns-clause-rules
-returns-clause-rules c =
-    let read = c.args.read.now in
-    let agents = map (λ agent. agent.now) c.args.agents.now in
-    let labels = map label_by_value read.labels.items in
-    let are_empty = rw c.deref.ensures.value at c.in_ok-empty.ensures in
-    let empty : contains nat_cmp c.in_ok-empty.empty ≡ is_empty_at labels = λ i n. are_empty n i in
-    subst (λ is_empty. AreOf is_empty agents (lines_of labels) c.in_ok-rule_lines.field-0) empty
-    (rw (lines_are read c.requires) at c.in_ok-rule_lines.ensures)

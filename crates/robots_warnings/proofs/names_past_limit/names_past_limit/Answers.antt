@@ -1,5 +1,4 @@
-use Rattle.std.proofs.Common.{sym, ◌∙◌}
-use Rattle.std.proofs.lemmas.{List.Elements.All-nil}
+use Rattle.std.proofs.{Common.sym, Common.◌∙◌, lemmas.List.Elements.All-nil}
 use Rattle.robots_warnings.proofs.SeenLemmas.{found_more}
 use Rattle.robots_warnings.proofs.names_past_limit.names_past_limit.Goals as goal
 

@@ -1,5 +1,4 @@
-use Rattle.std.proofs.Common.{[]}
-use Rattle.std.proofs.lemmas.List.Elements.{All-nil}
+use Rattle.std.proofs.{Common.[], lemmas.List.Elements.All-nil}
 use Rattle.robots_warnings.proofs.repeated.repeated.Goals as goal
 
 pub loop-labeled-init : goal.loop-labeled-init

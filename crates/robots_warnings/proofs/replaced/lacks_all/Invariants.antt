@@ -1,5 +1,4 @@
-use Rattle.std.proofs.Common.{◌≡◌}
-use Rattle.std.specs.List.{list_any}
+use Rattle.std.{proofs.Common.◌≡◌, specs.List.list_any}
 use Rattle.texting_robots.specs.Callers.{file_lines, placed_rules}
 use Rattle.robots_warnings.specs.Internal.Rules.{is_kept_in}
 use Rattle.robots_warnings.proofs.replaced.lacks_all.Given as goal

@@ -1,12 +1,8 @@
-use Rattle.std.proofs.{Common.[]}
-use Rattle.robots_warnings.specs.{Internal.Row}
-use Rattle.robots_warnings.specs.Table.{level_of, name_of}
-use Rattle.robots_warnings.proofs.ClosedLemmas.{own_row, part_in}
+use Rattle.std.proofs.Common.{[]}
+use Rattle.robots_warnings.specs.{Internal.Row, Table.level_of, Table.name_of}
+use Rattle.robots_warnings.{proofs.ClosedLemmas.part_in}
 use Rattle.printable_text.specs.declared.level.Level.TheVariants as level
 use Rattle.robots_warnings.proofs.table.Cause.row.Goals as goal
-
-pub returns-clause-own : goal.returns-clause-own
-returns-clause-own c = own_row (λ (row : Row). row.0) c.args.self c.row_at.ensures c.rows.ensures.causes
 
 pub returns-clause-level : goal.returns-clause-level
 unfolding level_of
