@@ -21,7 +21,7 @@ pub record AreAnnotations (text : List ℕ) : Type 0 where
   pub found : List Finding
   pub text_is : text ≡ github_text file found
 
--- a report in this format: a page, which steers no terminal, has no `##[`, and is read back as some tree;
+-- a report in this format: a page, which steers no terminal, has no `##[`, and closes each of its elements;
 -- annotations; or lines, none of which steers a terminal or is a command of a workflow. That it says what was
 -- found isn't stated, here and below
 abbrev pub IsReportIn : Format → List ℕ → Type 0

@@ -1,3 +1,1 @@
 pub mod PageLemmas
-pub mod SafeLemmas
-pub mod WritingLemmas

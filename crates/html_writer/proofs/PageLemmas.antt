@@ -1,427 +1,404 @@
--- A page that is written piece by piece: each piece is read as it was written, and is printable.
-use Rattle.std.specs.Prelude.{nat_eq, not, ◌&&◌, ◌||◌}
-use Rattle.std.proofs.Common.{ℕ, ◌+◌, ◌<◌, ◌++◌, Bool, true, false, List, [], ◌∷◌, ◌≡◌, arith, codes}
-use Rattle.std.proofs.Common.{flat_map}
-use Rattle.std.proofs.Common.{append-nil, append_assoc, ap, ap₂, get_or, length, map, refl, reverse, drop}
-use Rattle.std.proofs.Common.{slice_index_or, subst, sym, take, ◌∙◌}
-use Rattle.std.specs.{Bool.IsTrue, List.AllByRecursion as Each, List.list_all, List.list_any, Str.bytes_eq}
-use Rattle.std.specs.{Str.chars}
-use Rattle.std.proofs.lemmas.{Bool.and_parts, Bool.not-true, Str.encodes-chars}
-use Rattle.std.proofs.lemmas.{Grind.flat_map-append, List.Folds.list_all-append}
-use Rattle.std.proofs.lemmas.List.{map-append, reverse-append, take_more}
+-- A page that is written piece by piece: each piece keeps it safe, and is read as the tags that were written.
+use Rattle.std.specs.Prelude.{◌&&◌, ◌||◌, not, if◌then◌else◌}
+use Rattle.std.proofs.Common.{[], ◌++◌, ◌==◌, ◌∙◌, ◌∷◌, ◌≡◌, ap, append-nil, append_assoc, arith}
+use Rattle.std.proofs.Common.{Bool, codes, false, flat_map, List, refl, reverse}
+use Rattle.std.proofs.Common.{subst, sym, true, ℕ}
+use Rattle.std.specs.Borrow.{Bor}
+use Rattle.std.specs.List.{list_all}
+use Rattle.std.proofs.lemmas.Bool.{and_parts, not-true}
 use Rattle.std.proofs.lemmas.Bool.Decides.{nat_tests}
-use Rattle.std.proofs.lemmas.List.Sums.{AllPass-from_list_all, list_all-from_AllPass}
-use Rattle.printable_text.specs.Sanitize.{IsPrintable, IsPrintableIn, has_command, is_printable}
-use Rattle.printable_text.specs.Sanitize.{is_printable_byte, sanitized, without_commands}
-use Rattle.printable_text.proofs.SanitizeLemmas.{append_printable, ascii_printable, chars_pass}
-use Rattle.printable_text.proofs.SanitizeLemmas.{line_printable, printable_kept, sanitized_in_printable}
-use Rattle.printable_text.proofs.{EscapeLemmas.escaped_printable}
-use Rattle.html_writer.specs.Html.{AreAttributes, Attribute, IsContent, IsText, doctype, is_css}
-use Rattle.html_writer.specs.Html.{style, style_bytes, written, attribute_bytes, end_tag}
-use Rattle.html_writer.specs.Html.{escaped, escaped_byte, attribute, has_attribute, is_character, is_letter}
-use Rattle.html_writer.specs.Html.{Html, is_name, is_no_bracket}
-use Rattle.html_writer.specs.Html.{is_name_byte, is_ordinary, is_title, is_style, start_tag, tag_close}
-use Rattle.html_writer.specs.Html.{tag_open, text}
-use Rattle.html_writer.specs.Html.{void, void_close, void_names, void_tag, is_among}
-use Rattle.html_writer.specs.Reader.{Opened, Reader, State, finished, data_state, has_elements}
-use Rattle.html_writer.specs.Reader.{has_references}
-use Rattle.html_writer.specs.Reader.{kind_of, new_tag, reader, run}
-use Rattle.html_writer.specs.Page.{AddsAttributes, AddsTag, HasVoid, IsOpen, Opens, are_names}
-use Rattle.html_writer.specs.Page.{IsSafe, closed, is_safe_byte}
-use Rattle.std.specs.{Borrow.Bor}
-use Rattle.html_writer.specs.Page.{AddsStart, AddsVoid, all_closed, all_closed_in, IsPage, names_in, names_of, title}
-use Rattle.html_writer.specs.Page.{closed_in, followed_by, is_tag, is_void, name_in, so_far}
-use Rattle.html_writer.proofs.WritingLemmas.{Reads, attributes_weaker, content_read, style_read, end_read}
-use Rattle.html_writer.proofs.WritingLemmas.{each_form, escaped-is, kind_inside, start_read, text_read}
-use Rattle.html_writer.proofs.WritingLemmas.{escaped_same, void_read}
-use Rattle.html_writer.specs.Html.{is_plain, is_written_as_is}
-use Rattle.html_writer.proofs.SafeLemmas.{ascii_safe, attributes_safe, both_safe, bracketless_quiet}
-use Rattle.html_writer.proofs.SafeLemmas.{close_safe, end_safe, name_safe, open_safe, printable_text}
-use Rattle.html_writer.proofs.SafeLemmas.{style_safe, value_safe, void_close_safe}
+use Rattle.std.proofs.lemmas.List.{map-append, reverse-append}
+use Rattle.std.proofs.lemmas.List.Folds.{list_all-append}
+use Rattle.std.proofs.lemmas.Slice.Eq.{bytes_eq-Decides}
+use Rattle.printable_text.specs.Sanitize.{has_command, is_printable_byte, IsPrintable, IsPrintableIn}
+use Rattle.printable_text.specs.Sanitize.{sanitized, without_commands}
+use Rattle.printable_text.proofs.EscapeLemmas.{escaped_printable}
+use Rattle.printable_text.proofs.SanitizeLemmas.{append_printable, ascii_printable, line_printable}
+use Rattle.printable_text.proofs.SanitizeLemmas.{printable_kept, sanitized_printable}
+use Rattle.html_writer.specs.Html.{attribute_bytes, end_bytes, escaped, escaped_byte, is_among, is_letter}
+use Rattle.html_writer.specs.Html.{is_name, is_name_byte, is_plain, is_style, is_title, is_unchanged}
+use Rattle.html_writer.specs.Html.{other_names, shown_attribute, style_bytes, tag_bytes, title_bytes}
+use Rattle.html_writer.specs.Html.{void_names}
+use Rattle.html_writer.specs.Page.{all_closed, all_ended, are_names, begun, closed, ended, is_css}
+use Rattle.html_writer.specs.Page.{is_no_bracket, is_safe_byte, is_tag, is_void, IsOpen, IsPage, IsSafe}
+use Rattle.html_writer.specs.Page.{names_in, names_of, so_far, with_text, with_void}
+use Rattle.html_writer.specs.Reader.{after, after_attribute_value, attribute_name, attribute_value}
+use Rattle.html_writer.specs.Reader.{before_attribute_name, character_reference, data_state, end_tag}
+use Rattle.html_writer.specs.Reader.{end_tag_name, end_tag_open, new_tag, rawtext_state, rcdata_state, reader}
+use Rattle.html_writer.specs.Reader.{Reader, run, start_tag, State, step, Tag, tag_name, tag_open, to, Token}
 
--- ---- Names of attributes.
+-- ---- Safe bytes.
 
-any_named : (name : List ℕ) (attributes : List Attribute)
-    → list_any (λ n. bytes_eq n name) (map (λ (a : Attribute). a.name) attributes)
-    ≡ has_attribute attributes name
-any_named name [] = refl
-any_named name (a ∷ attributes) = rw (any_named name attributes) refl
-
-named_attributes : (before attributes : List Attribute)
-    → are_names (map (λ (a : Attribute). a.name) before) (map (λ (a : Attribute). a.name) attributes) ≡ true
-    → Each (λ (a : Attribute). IsPrintable a.value) attributes → AreAttributes IsPrintable before attributes
-named_attributes before [] are values = tt
-named_attributes before (a ∷ attributes) are (value, values) =
-    let names = map (λ (a : Attribute). a.name) before in
-    let later = are_names (names ++ a.name ∷ []) (map (λ (a : Attribute). a.name) attributes) in
-    let both = and_parts (is_name a.name) (not (list_any (λ n. bytes_eq n a.name) names) && later) are in
-    let rest = and_parts (not (list_any (λ n. bytes_eq n a.name) names)) later both.1 in (
-      both.0,
-      rw (any_named a.name before) at rest.0,
-      value,
-      named_attributes (before ++ a ∷ []) attributes
-          (grind (arith, map-append, before)) values,
-    )
-
--- ---- Reading goes on where it was.
-
-run_append : (one two : List ℕ) (from : Reader) → run from (one ++ two) ≡ run (run from one) two
-run_append [] two from = refl
-run_append (byte ∷ one) two from = run_append one two _
-
-piece_read : (old new piece : List ℕ) (last : Reader) → (so_far old).state ≡ data_state
-    → Reads (reader data_state (so_far old).opened (so_far old).content) piece last → new ≡ old ++ piece
-    → so_far new ≡ last
-piece_read old new piece last state reads added =
-    ap so_far added ∙ run_append old piece (reader data_state [] (text []))
-    ∙ ap (λ s. run (reader s (so_far old).opened (so_far old).content) piece) state
-    ∙ ap (run (reader data_state (so_far old).opened (so_far old).content)) (sym (append-nil piece))
-    ∙ reads.leads []
-
-kind_plain : (opened : List Opened) → IsTrue (list_all is_tag (map name_in opened))
-    → (has_references (kind_of opened) ≡ true) × (has_elements (kind_of opened) ≡ true)
-kind_plain [] are = (refl, refl)
-kind_plain (o ∷ opened) are = grind (arith, and_parts, kind_inside, not-true)
-
-nil_open : IsOpen [] []
-nil_open = grind (arith, ascii_safe)
-
-pub nothing_open : (opened : List (Bor (List ℕ))) (bytes : List ℕ) → opened ≡ [] → bytes ≡ []
-    → IsOpen (names_of opened) bytes
-nothing_open opened bytes none empty = grind (arith, nil_open)
-
-module _ (names : List (List ℕ)) (old new : List ℕ) (is : IsOpen names old) where
-  has : has_references (kind_of (so_far old).opened) ≡ true
-  has = grind (arith, kind_plain)
-
-  may : has_elements (kind_of (so_far old).opened) ≡ true
-  may = (kind_plain (so_far old).opened is.are_tags).1
-
-  -- the elements that are open stay so
-  kept_open : (last : Reader) → so_far new ≡ last → last.state ≡ data_state
-      → last.opened ≡ (so_far old).opened → IsSafe new → IsOpen names new
-  kept_open last same state opened safe = grind arith
-
-  pub text_is : (line : List ℕ) → IsPrintableIn false line → new ≡ old ++ escaped line
-      → so_far new ≡ followed_by (text line) (so_far old)
-  text_is line plain added =
-      piece_read old new (escaped line) (followed_by (text line) (so_far old)) is.state
-      (text_read (so_far old).opened (so_far old).content line has
-      (printable_text line (line_printable line plain))) added
-
-  pub text_open : (line : List ℕ) → IsPrintableIn false line → new ≡ old ++ escaped line → IsOpen names new
-  text_open line plain added =
-      let same = text_is line plain added in
-      record {
-        safe = subst IsSafe (sym added)
-            (both_safe is.safe (value_safe line (line_printable line plain)));
-        state = cc;
-        names_are = cc;
-        are_tags =
-            grind arith;
-      }
-
-  pub title_is : (line : List ℕ) → IsPrintableIn false line → new ≡ old ++ written (title line)
-      → so_far new ≡ followed_by (title line) (so_far old)
-  title_is line plain added =
-      piece_read old new (written (title line)) (followed_by (title line) (so_far old)) is.state
-      (content_read (so_far old).opened (so_far old).content (title line) has
-      (subst (λ (elements : Bool). IsContent IsText elements (title line)) (sym may)
-      (refl, refl, refl, refl, tt, printable_text line (line_printable line plain), refl))) added
-
-  pub title_open : (line : List ℕ) → IsPrintableIn false line → new ≡ old ++ written (title line)
-      → IsOpen names new
-  title_open line plain added =
-      kept_open (followed_by (title line) (so_far old)) (title_is line plain added) refl refl
-      (subst IsSafe (sym added) (both_safe is.safe
-      (both_safe (both_safe (open_safe (codes "title") (name_safe (codes "title") refl))
-      close_safe) (both_safe (value_safe line (line_printable line plain))
-      (both_safe (end_safe (codes "title") (name_safe (codes "title") refl))
-      (ascii_safe [] refl))))))
-
-  pub style_is : (css : List ℕ) → is_css css ≡ true → new ≡ old ++ style_bytes css
-      → so_far new ≡ followed_by (style [] css (text [])) (so_far old)
-  style_is css are added =
-      piece_read old new (style_bytes css) (followed_by (style [] css (text [])) (so_far old)) is.state
-      (style_read (so_far old).opened (so_far old).content css may are) added
-
-  pub style_open : (css : List ℕ) → is_css css ≡ true → list_all is_safe_byte css ≡ true
-      → new ≡ old ++ style_bytes css → IsOpen names new
-  style_open css are plain added =
-      kept_open (followed_by (style [] css (text [])) (so_far old)) (style_is css are added) refl refl
-      (subst IsSafe (sym added)
-      (both_safe is.safe (style_safe css (ascii_safe css plain))))
-
-  module _ (name : List ℕ) (labels : List (List ℕ)) (mid : List ℕ) (labeled : are_names [] labels ≡ true)
-      (adds : AddsTag name labels old mid) where
-    abbrev attributes : List Attribute
-    attributes = adds.attributes
-
-    printable_attributes : AreAttributes IsPrintable [] attributes
-    printable_attributes = grind (arith, named_attributes)
-
-    text_attributes : AreAttributes IsText [] attributes
-    text_attributes = attributes_weaker IsPrintable IsText printable_text [] attributes printable_attributes
-
-    whole : (end : List ℕ) → new ≡ mid ++ end
-        → new ≡ old ++ (tag_open name ++ (flat_map attribute_bytes attributes ++ end))
-    whole end added =
-        cc (
-          append_assoc old (tag_open name ++ flat_map attribute_bytes attributes) end,
-          append_assoc (tag_open name) (flat_map attribute_bytes attributes) end,
-        )
-
-    tag_safe : IsTrue (is_name name) → (end : List ℕ) → IsSafe end → new ≡ mid ++ end
-        → IsSafe new
-    tag_safe named end ends added =
-        subst IsSafe (sym (whole end added))
-        (both_safe is.safe
-        (both_safe (open_safe name (name_safe name named))
-        (both_safe (attributes_safe [] attributes printable_attributes) ends)))
-
-    abbrev opened_now : Reader
-    opened_now =
-        reader data_state
-        (record { before = (so_far old).content; tag = new_tag name attributes } ∷ (so_far old).opened)
-        (text [])
-
-    start_same : is_tag name ≡ true → new ≡ mid ++ tag_close → so_far new ≡ opened_now
-    start_same tag added =
-        let named = and_parts (is_name name) (is_ordinary name && not (is_title name)) tag in
-        let plain = and_parts (is_ordinary name) (not (is_title name)) named.1 in
-        piece_read old new (start_tag name attributes) opened_now is.state
-        (start_read (so_far old).opened (so_far old).content name attributes may named.0 plain.0
-        text_attributes)
-        (whole tag_close added)
-
-    start_is : is_tag name ≡ true → new ≡ mid ++ tag_close → Opens name labels (so_far old) (so_far new)
-    start_is tag added = grind (arith, start_same)
-
-    start_open : is_tag name ≡ true → new ≡ mid ++ tag_close → IsOpen (names ++ name ∷ []) new
-    start_open tag added = grind (arith, and_parts, close_safe, reverse-append, start_same, tag_safe)
-
-    void_same : is_void name ≡ true → new ≡ mid ++ void_close
-        → so_far new ≡ followed_by (void [] name attributes (text [])) (so_far old)
-    void_same is_one added =
-        let both = and_parts (is_name name) (is_among void_names name) is_one in
-        piece_read old new (void_tag name attributes)
-        (followed_by (void [] name attributes (text [])) (so_far old))
-        is.state
-        (void_read (so_far old).opened (so_far old).content name attributes may both.0 both.1 text_attributes)
-        (whole void_close added)
-
-    void_is : is_void name ≡ true → new ≡ mid ++ void_close → HasVoid name labels (so_far old) (so_far new)
-    void_is is_one added = grind (arith, void_same, is_one)
-
-    void_open : is_void name ≡ true → new ≡ mid ++ void_close → IsOpen names new
-    void_open is_one added = grind (arith, and_parts, tag_safe, void_close_safe, void_same, is_one)
-
--- ---- The innermost element ends.
-
-same_head : (one two : List ℕ) (rest more : List (List ℕ)) → one ∷ rest ≡ two ∷ more → one ≡ two
-same_head one two rest more is = cc
-
-same_tail : (one two : List ℕ) (rest more : List (List ℕ)) → one ∷ rest ≡ two ∷ more → rest ≡ more
-same_tail one two rest more is = cc
-
-module _ (names : List (List ℕ)) (name : List ℕ) (old new : List ℕ) (is : IsOpen (names ++ name ∷ []) old)
-    (added : new ≡ old ++ end_tag name) where
-  last_is : name ∷ reverse names ≡ map name_in (so_far old).opened
-  last_is = cc (reverse-append names (name ∷ []))
-
-  ends : (opened : List Opened) → (so_far old).opened ≡ opened
-      → name ∷ reverse names ≡ map name_in opened → IsTrue (list_all is_tag (map name_in opened))
-      → (so_far new ≡ closed (so_far old)) × IsOpen names new
-  ends [] same last are = absurd (cc)
-  ends (o ∷ outer) same last are =
-      let head = same_head name o.tag.name (reverse names) (map name_in outer) last in
-      let both = and_parts (is_tag o.tag.name) (list_all is_tag (map name_in outer)) are in
-      let named =
-      and_parts (is_name o.tag.name) (is_ordinary o.tag.name && not (is_title o.tag.name)) both.0 in
-      let plain = and_parts (is_ordinary o.tag.name) (not (is_title o.tag.name)) named.1 in
-      let styled = not-true (is_style o.tag.name) (and_parts (not (is_style o.tag.name)) _ plain.0).0 in
-      let now = closed_in (o ∷ outer) (so_far old).content in
-      let reads = end_read outer o.before (so_far old).content o.tag.name o.tag.attributes named.0 styled in
-      let result : so_far new ≡ now =
-      piece_read old new (end_tag o.tag.name) now is.state
-      (grind arith)
-      (cc) in (
-        cc,
-        record {
-          safe = subst IsSafe (cc)
-              (both_safe is.safe (end_safe o.tag.name (name_safe o.tag.name named.0)));
-          state = cc;
-          names_are = cc (same_tail name o.tag.name (reverse names) (map name_in outer) last);
-          are_tags =
-              grind arith;
-        },
-      )
-
-  end_is : so_far new ≡ closed (so_far old)
-  end_is = grind (arith, ends, last_is)
-
-  end_open : IsOpen names new
-  end_open = grind (arith, ends, last_is)
-
--- ---- The same, as the functions that write a page need it.
-
-cleared_line : (front line bytes : List ℕ) → front ≡ [] → line ≡ front ++ sanitized bytes
-    → line ≡ sanitized bytes
-cleared_line front line bytes none added = cc
-
-pub sanitized_line : (front line bytes : List ℕ) → front ≡ [] → line ≡ front ++ sanitized bytes
-    → IsPrintableIn false line
-sanitized_line front line bytes none added =
-    subst (IsPrintableIn false) (sym (cleared_line front line bytes none added))
-    (sanitized_in_printable false bytes)
-
-pub text_written : (names : List (List ℕ)) (old new bytes : List ℕ) → IsOpen names old
-    → new ≡ old ++ escaped (sanitized bytes) → so_far new ≡ followed_by (text (sanitized bytes)) (so_far old)
-text_written names old new bytes is added =
-    text_is names old new is (sanitized bytes) (sanitized_in_printable false bytes) added
-
-are_all : (test more : ℕ → Bool) (bytes : List ℕ) → list_all (λ byte. test byte && more byte) bytes ≡ true
+pub are_all : (test more : ℕ → Bool) (bytes : List ℕ)
+    → list_all (λ byte. test byte && more byte) bytes ≡ true
     → (list_all test bytes ≡ true) × (list_all more bytes ≡ true)
 are_all test more [] are = (refl, refl)
 are_all test more (byte ∷ bytes) are = grind (arith, and_parts, are_all test more bytes)
 
-no_bracket : (bytes : List ℕ) → list_all is_written_as_is bytes ≡ true → list_all is_no_bracket bytes ≡ true
-no_bracket [] are = refl
-no_bracket (byte ∷ bytes) are = grind (arith, nat_tests, and_parts, no_bracket bytes)
+pub ascii_safe : (bytes : List ℕ) → list_all is_safe_byte bytes ≡ true → IsSafe bytes
+ascii_safe bytes are =
+    let both = are_all (is_printable_byte true) is_no_bracket bytes are in
+    (ascii_printable true bytes both.0, both.1)
+
+pub both_safe : {one two : List ℕ} → IsSafe one → IsSafe two → IsSafe (one ++ two)
+both_safe {one} {two} is too =
+    (append_printable true one two is.0 too.0, rw (list_all-append, is.1) too.1)
+
+name_byte_safe : (byte : ℕ) → is_name_byte byte ≡ true → is_safe_byte byte ≡ true
+name_byte_safe byte is = grind (arith, nat_tests)
+
+name_bytes_safe : (bytes : List ℕ) → list_all is_name_byte bytes ≡ true → list_all is_safe_byte bytes ≡ true
+name_bytes_safe [] are = refl
+name_bytes_safe (byte ∷ bytes) are = grind (arith, and_parts, name_byte_safe, name_bytes_safe bytes)
+
+name_safe : (name : List ℕ) → is_name name ≡ true → IsSafe name
+name_safe [] named = absurd (cc)
+name_safe (byte ∷ bytes) named =
+    let both = and_parts (is_letter byte) (list_all is_name_byte bytes) named in
+    ascii_safe (byte ∷ bytes) (name_bytes_safe (byte ∷ bytes) (rw both.0 both.1))
+
+escaped_bracketless : (bytes : List ℕ) → list_all is_no_bracket (escaped bytes) ≡ true
+escaped_bracketless [] = refl
+escaped_bracketless (byte ∷ bytes) = rw (list_all-append, one) (escaped_bracketless bytes)
+  where
+    one : list_all is_no_bracket (escaped_byte byte) ≡ true
+    one = grind arith
+
+-- ---- Bytes that lead from one reader to another.
+
+pub record Reads (from : Reader) (bytes : List ℕ) (last : Reader) : Type 0 where
+  pub safe : IsSafe bytes
+  pub leads : run from bytes ≡ last
+
+pub run_append : (one two : List ℕ) (from : Reader) → run from (one ++ two) ≡ run (run from one) two
+run_append [] two from = refl
+run_append (byte ∷ one) two from = run_append one two _
+
+read_on : {from mid last : Reader} {one two : List ℕ} → Reads from one mid → Reads mid two last
+    → Reads from (one ++ two) last
+read_on {from} {mid} {last} {one} {two} first second = record {
+  safe = both_safe first.safe second.safe;
+  leads = run_append one two from ∙ ap (λ (r : Reader). run r two) first.leads ∙ second.leads;
+}
+
+-- bytes of which each is known
+literal : {from : Reader} (last : Reader) (bytes : List ℕ) → list_all is_safe_byte bytes ≡ true
+    → run from bytes ≡ last → Reads from bytes last
+literal last bytes are leads = record { safe = ascii_safe bytes are; leads = leads }
+
+none_of : (a b c : Bool) (x y z w : State) → not (a || b || c) ≡ true
+    → (if a then x else if b then y else if c then z else w) ≡ w
+none_of a b c x y z w is = grind arith
+
+module _ (page : Reader) where
+  abbrev at : State → Reader
+  at state = reader state page.opened page.tags
+
+  -- in a state in which only `<`, `"` and `&` lead elsewhere
+  module _ (state : State) (refers : step state 38 ≡ to (character_reference state))
+      (stays : (byte : ℕ) → (byte == 38) ≡ false → (byte == 60) ≡ false → (byte == 34) ≡ false
+      → step state byte ≡ to state) where
+    one_read : (byte : ℕ) → run (at state) (escaped_byte byte) ≡ at state
+    one_read byte = grind (arith, refers, stays)
+
+    all_read : (bytes : List ℕ) → run (at state) (escaped bytes) ≡ at state
+    all_read [] = refl
+    all_read (byte ∷ bytes) =
+        run_append (escaped_byte byte) (escaped bytes) (at state)
+        ∙ ap (λ (r : Reader). run r (escaped bytes)) (one_read byte) ∙ all_read bytes
+
+    pub text_read : (text : List ℕ) → IsPrintable text → Reads (at state) (escaped text) (at state)
+    text_read text is = record {
+      safe = (escaped_printable escaped_byte refl (grind arith) text is, escaped_bracketless text);
+      leads = all_read text;
+    }
+
+  pub shown_read : (text : List ℕ) → Reads (at data_state) (escaped (sanitized text)) (at data_state)
+  shown_read text =
+      text_read data_state refl (λ byte amp lt quot. rw (lt, amp) refl) (sanitized text)
+      (sanitized_printable text)
+
+  -- a name is read from the state `first` on
+  module _ (first : State) (naming : List ℕ → State)
+      (begins : (byte : ℕ) → is_letter byte ≡ true → step first byte ≡ to (naming (byte ∷ [])))
+      (goes_on : (done : List ℕ) (byte : ℕ) → is_name_byte byte ≡ true
+      → step (naming done) byte ≡ to (naming (done ++ byte ∷ []))) where
+    rest_read : (done name : List ℕ) → list_all is_name_byte name ≡ true
+        → run (at (naming done)) name ≡ at (naming (done ++ name))
+    rest_read done [] are = rw (append-nil done) refl
+    rest_read done (byte ∷ name) are =
+        let both = and_parts (is_name_byte byte) (list_all is_name_byte name) are in
+        rw (goes_on done byte both.0)
+        (rw (append_assoc done (byte ∷ []) name) at (rest_read (done ++ byte ∷ []) name both.1))
+
+    pub name_read : (name : List ℕ) → is_name name ≡ true → Reads (at first) name (at (naming name))
+    name_read [] named = absurd (cc)
+    name_read (byte ∷ name) named =
+        let both = and_parts (is_letter byte) (list_all is_name_byte name) named in record {
+          safe = name_safe (byte ∷ name) named;
+          leads = rw (begins byte both.0) (rest_read (byte ∷ []) name both.1);
+        }
+
+  -- ---- Tags.
+
+  attribute_read : (state : State) (tag : Tag) (name value : List ℕ)
+      → step state 32 ≡ to (before_attribute_name tag)
+      → is_name name ≡ true → is_among tag.labels name ≡ false → IsPrintable value
+      → Reads (at state) (attribute_bytes name value)
+      (at (after_attribute_value (new_tag tag.name (tag.labels ++ name ∷ []))))
+  unfolding attribute_bytes
+  attribute_read state tag name value goes named new is =
+      let whole : Tag = new_tag tag.name (tag.labels ++ name ∷ []) in
+      let label = name_read (before_attribute_name tag) (attribute_name tag) (λ byte is. rw is refl)
+      (λ done byte is. rw is refl) name named in
+      let text = text_read (attribute_value whole) refl (λ byte amp lt quot. rw (quot, amp) refl) value is in
+      read_on (literal (at (before_attribute_name tag)) (codes " ") refl (rw goes refl))
+      (read_on label (read_on (literal (at (attribute_value whole)) (codes "=\"") refl (rw new refl))
+      (read_on text (literal _ (codes "\"") refl refl))))
+
+  -- after the name of a tag or an attribute
+  attributes_read : (state : State) (name : List ℕ) (labels : List (List ℕ))
+      (attributes : List (Bor (List ℕ) × Bor (List ℕ))) (byte : ℕ) (end : List ℕ) (last : Reader)
+      → ((byte : ℕ) → is_name_byte byte ≡ false → step state byte ≡ after (new_tag name labels) byte)
+      → are_names labels (names_in attributes) ≡ true → is_name_byte byte ≡ false
+      → Reads (at (after_attribute_value (new_tag name (labels ++ names_in attributes)))) (byte ∷ end) last
+      → Reads (at state) (flat_map shown_attribute attributes ++ byte ∷ end) last
+  attributes_read state name labels [] byte end last goes are isnt ends = record {
+    safe = ends.safe;
+    leads = rw (goes byte isnt) (rw (append-nil labels) at ends.leads);
+  }
+  attributes_read state name labels (a ∷ attributes) byte end last goes are isnt ends =
+      let both = and_parts (is_name a.0.now) _ are in
+      let rest = and_parts (not (is_among labels a.0.now)) _ both.1 in
+      let first = attribute_read state (new_tag name labels) a.0.now (sanitized a.1.now) (goes 32 refl)
+      both.0 (not-true (is_among labels a.0.now) rest.0) (sanitized_printable a.1.now) in
+      let labels_now : List (List ℕ) = labels ++ a.0.now ∷ [] in
+      rw (append_assoc (shown_attribute a) (flat_map shown_attribute attributes) (byte ∷ end))
+      (read_on first (attributes_read (after_attribute_value (new_tag name labels_now)) name labels_now
+      attributes byte end last (λ byte isnt. refl) rest.1 isnt
+      (rw (append_assoc labels (a.0.now ∷ []) (names_in attributes)) ends)))
+
+  module _ (name : List ℕ) (attributes : List (Bor (List ℕ) × Bor (List ℕ)))
+      (labeled : are_names [] (names_in attributes) ≡ true) where
+    tag_read : (byte : ℕ) (end : List ℕ) (last : Reader) → is_name name ≡ true → is_name_byte byte ≡ false
+        → Reads (at (after_attribute_value (new_tag name (names_in attributes)))) (byte ∷ end) last
+        → Reads (at data_state) (tag_bytes name attributes (byte ∷ end)) last
+    unfolding tag_bytes
+    tag_read byte end last named isnt ends =
+        let whole = name_read tag_open tag_name (λ byte is. rw is refl) (λ done byte is. rw is refl) name
+        named in
+        read_on (literal (at tag_open) (codes "<") refl refl)
+        (read_on whole (attributes_read (tag_name name) name [] attributes byte end last
+        (λ byte isnt. rw isnt refl) labeled isnt ends))
+
+    pub start_read : is_tag name ≡ true
+        → Reads (at data_state) (tag_bytes name attributes (codes ">"))
+        (begun name (names_in attributes) page)
+    start_read is =
+        let tag = new_tag name (names_in attributes) in
+        let both = and_parts (is_name name) _ is in
+        tag_read 62 [] _ both.0 refl (literal _ (codes ">") refl
+        (ap (λ (s : State). reader s (name ∷ page.opened) (start_tag tag ∷ page.tags))
+        (none_of (is_style name) (is_title name) (is_among (void_names ++ other_names) name) _ _ _ _
+        both.1)))
+
+    pub void_read : is_void name ≡ true → Reads (at data_state) (tag_bytes name attributes (codes "/>"))
+        (with_void name (names_in attributes) page)
+    void_read is =
+        let both = and_parts (is_name name) (is_among void_names name) is in
+        tag_read 47 (62 ∷ []) _ both.0 refl (literal _ (codes "/>") refl (rw both.1 refl))
+
+  css_read : (css : List ℕ) → is_css css ≡ true → run (at rawtext_state) css ≡ at rawtext_state
+  css_read [] are = refl
+  css_read (byte ∷ css) are =
+      let both = and_parts (is_safe_byte byte && not (byte == 60)) _ are in
+      let isnt = not-true (byte == 60) (and_parts (is_safe_byte byte) _ both.0).1 in
+      rw isnt (css_read css both.1)
+
+-- what a page has become within an element, of which only the start tag has been read
+abbrev within : List ℕ → State → Reader → Reader
+within name state page = reader state (name ∷ page.opened) (start_tag (new_tag name []) ∷ page.tags)
+
+pub style_read : (page : Reader) (css : List ℕ) → is_css css ≡ true
+    → Reads (reader data_state page.opened page.tags) (style_bytes css) (with_text (codes "style") page)
+unfolding style_bytes
+style_read page css are =
+    let inside = within (codes "style") rawtext_state page in
+    let content : Reads inside css inside = record {
+      safe = ascii_safe css (are_all is_safe_byte (λ byte. not (byte == 60)) css are).0;
+      leads = css_read inside css are;
+    } in
+    read_on (literal inside (codes "<style>") refl refl)
+    (read_on content (literal _ (codes "</style>") refl refl))
+
+pub title_read : (page : Reader) (text : List ℕ) → IsPrintableIn false text
+    → Reads (reader data_state page.opened page.tags) (title_bytes text) (with_text (codes "title") page)
+unfolding title_bytes
+title_read page text is =
+    let inside = within (codes "title") rcdata_state page in
+    let content = text_read inside rcdata_state refl (λ byte amp lt quot. rw (lt, amp) refl) text
+    (line_printable text is) in
+    read_on (literal inside (codes "<title>") refl refl)
+    (read_on content (literal _ (codes "</title>") refl refl))
+
+pub end_read : (outer : List (List ℕ)) (tags : List Token) (name : List ℕ) → is_name name ≡ true
+    → Reads (reader data_state (name ∷ outer) tags) (end_bytes name)
+    (reader data_state outer (end_tag name ∷ tags))
+unfolding end_bytes
+end_read outer tags name named =
+    let page = reader data_state (name ∷ outer) tags in
+    let whole = name_read page end_tag_open end_tag_name (λ byte is. rw is refl)
+    (λ done byte is. rw is refl) name named in
+    read_on (literal (reader end_tag_open (name ∷ outer) tags) (codes "</") refl refl)
+    (read_on whole (literal _ (codes ">") refl (rw ((bytes_eq-Decides name name).1 refl) refl)))
+
+-- ---- What is displayed as it is.
+
+-- a text without `[` has no start of a command
+bracketless_quiet : (bytes : List ℕ) → list_all is_no_bracket bytes ≡ true → has_command bytes ≡ false
+bracketless_quiet [] are = refl
+bracketless_quiet (a ∷ []) are = grind arith
+bracketless_quiet (a ∷ b ∷ []) are = grind (arith, and_parts, bracketless_quiet (b ∷ []))
+bracketless_quiet (a ∷ b ∷ c ∷ rest) are =
+    grind (arith, nat_tests, and_parts, bracketless_quiet (b ∷ c ∷ rest))
+
+one_same : (byte : ℕ) → is_unchanged byte ≡ true
+    → (escaped_byte byte ≡ byte ∷ []) × (is_no_bracket byte ≡ true)
+one_same byte is = grind (arith, nat_tests)
+
+plain_same : (bytes : List ℕ) → list_all is_unchanged bytes ≡ true
+    → (escaped bytes ≡ bytes) × (list_all is_no_bracket bytes ≡ true)
+plain_same [] are = (refl, refl)
+plain_same (byte ∷ bytes) are =
+    let both = and_parts (is_unchanged byte) (list_all is_unchanged bytes) are in
+    let one = one_same byte both.0 in
+    let rest = plain_same bytes both.1 in
+    (rw (one.0, rest.0) refl, rw one.1 rest.1)
+
+pub unchanged_same : (bytes : List ℕ) → list_all is_unchanged bytes ≡ true → escaped bytes ≡ bytes
+unchanged_same bytes are = (plain_same bytes are).0
 
 pub plain_shown : (bytes : List ℕ) → list_all is_plain bytes ≡ true → escaped (sanitized bytes) ≡ bytes
 unfolding without_commands
 plain_shown bytes are =
-    let both = are_all (is_printable_byte false) is_written_as_is bytes are in
+    let both = are_all (is_printable_byte false) is_unchanged bytes are in
     let kept = printable_kept false bytes (ascii_printable false bytes both.0) in
-    let quiet = bracketless_quiet bytes (no_bracket bytes both.1) in
-    ap escaped (ap without_commands kept ∙ rw quiet refl) ∙ escaped_same bytes both.1
+    let same = plain_same bytes both.1 in
+    let quiet = bracketless_quiet bytes same.1 in
+    let shown : sanitized bytes ≡ bytes = ap without_commands kept ∙ rw quiet refl in
+    ap escaped shown ∙ same.0
 
-pub element_begun : (names labels : List (List ℕ)) (name old new : List ℕ) → IsOpen names old
-    → is_tag name ≡ true → are_names [] labels ≡ true → AddsStart name labels old new
-    → Opens name labels (so_far old) (so_far new)
-element_begun names labels name old new is tag labeled adds =
-    start_is names old new is name labels adds.mid labeled adds.tag tag adds.added
+-- ---- A piece is appended.
 
-pub begun_open : (before after : List (Bor (List ℕ))) (name : Bor (List ℕ)) (labels : List (List ℕ))
-    (old new : List ℕ) → IsOpen (names_of before) old → is_tag name.now ≡ true
-    → are_names [] labels ≡ true → AddsStart name.now labels old new → after ≡ before ++ name ∷ []
-    → IsOpen (names_of after) new
-begun_open before after name labels old new is tag labeled adds pushed =
-    subst (λ (names : List (List ℕ)). IsOpen names new)
-    (cc (map-append (λ (n : Bor (List ℕ)). n.now) before (name ∷ [])))
-    (start_open (names_of before) old new is name.now labels adds.mid labeled adds.tag tag adds.added)
+pub nothing_open : (opened : List (Bor (List ℕ))) (bytes : List ℕ) → opened ≡ [] → bytes ≡ []
+    → IsOpen opened bytes
+nothing_open opened bytes none empty = rw (none, empty)
+    (record { safe = ascii_safe [] refl; are_names = refl; state = refl; opened = refl })
 
-pub void_added : (names labels : List (List ℕ)) (name old new : List ℕ) → IsOpen names old
-    → is_void name ≡ true → are_names [] labels ≡ true → AddsVoid name labels old new
-    → HasVoid name labels (so_far old) (so_far new)
-void_added names labels name old new is one labeled adds =
-    void_is names old new is name labels adds.mid labeled adds.tag one adds.added
+abbrev in_data : List ℕ → Reader
+in_data bytes = reader data_state (so_far bytes).opened (so_far bytes).tags
 
-pub voided_open : (names labels : List (List ℕ)) (name old new : List ℕ) → IsOpen names old
-    → is_void name ≡ true → are_names [] labels ≡ true → AddsVoid name labels old new → IsOpen names new
-voided_open names labels name old new is one labeled adds =
-    void_open names old new is name labels adds.mid labeled adds.tag one adds.added
+pub data_now : {names : List (Bor (List ℕ))} {bytes : List ℕ} → IsOpen names bytes
+    → so_far bytes ≡ in_data bytes
+data_now {names} {bytes} is = ap (λ (s : State). reader s (so_far bytes).opened (so_far bytes).tags) is.state
 
-popped : (before after : List (Bor (List ℕ))) (name : Bor (List ℕ)) (old : List ℕ)
-    → IsOpen (names_of before) old → before ≡ after ++ name ∷ []
-    → IsOpen (names_of after ++ name.now ∷ []) old
-popped before after name old is pops = grind (arith, map-append)
+module _ {names : List (Bor (List ℕ))} {old new piece : List ℕ} {last : Reader} (is : IsOpen names old)
+    (reads : Reads (in_data old) piece last) (added : new ≡ old ++ piece) where
+  appended : so_far new ≡ last
+  appended =
+      ap so_far added ∙ run_append old piece (reader data_state [] [])
+      ∙ ap (λ (r : Reader). run r piece) (data_now is) ∙ reads.leads
 
-pub element_ended : (before after : List (Bor (List ℕ))) (name : Bor (List ℕ)) (old new : List ℕ)
-    → IsOpen (names_of before) old → before ≡ after ++ name ∷ [] → new ≡ old ++ end_tag name.now
-    → so_far new ≡ closed (so_far old)
-element_ended before after name old new is pops added =
-    end_is (names_of after) name.now old new (popped before after name old is pops) added
+  becomes : (after : List (Bor (List ℕ))) → last.state ≡ data_state
+      → list_all is_name (names_of after) ≡ true → last.opened ≡ reverse (names_of after) → IsOpen after new
+  becomes after state named opened = record {
+    safe = subst IsSafe (sym added) (both_safe is.safe reads.safe);
+    are_names = named;
+    state = ap (λ (r : Reader). r.state) appended ∙ state;
+    opened = ap (λ (r : Reader). r.opened) appended ∙ opened;
+  }
 
-same_tree : (opened : List Opened) (content : Html) → all_closed (closed_in opened content)
-    ≡ all_closed_in opened content
-same_tree [] content = refl
-same_tree (innermost ∷ outer) content = refl
+-- any page becomes another one by the piece
+module _ {names : List (Bor (List ℕ))} {old new piece : List ℕ} {becoming : Reader → Reader}
+    (is : IsOpen names old) (reads : (page : Reader) → Reads (reader data_state page.opened page.tags) piece
+    (becoming page)) (added : new ≡ old ++ piece) where
+  pub piece_is : so_far new ≡ becoming (so_far old)
+  piece_is = appended is (reads (so_far old)) added
 
--- to end an element changes nothing of what the page contains once all have ended
-pub tree_kept : (before after : List (Bor (List ℕ))) (name : Bor (List ℕ)) (old new : List ℕ) (tree : Html)
-    → IsOpen (names_of before) old → before ≡ after ++ name ∷ [] → new ≡ old ++ end_tag name.now
-    → all_closed (so_far old) ≡ tree → all_closed (so_far new) ≡ tree
-tree_kept before after name old new tree is pops added same =
-    ap all_closed (element_ended before after name old new is pops added)
-    ∙ same_tree (so_far old).opened (so_far old).content ∙ same
+  pub stays_open : (becoming (so_far old)).state ≡ data_state
+      → (becoming (so_far old)).opened ≡ (so_far old).opened → IsOpen names new
+  stays_open state opened =
+      becomes is (reads (so_far old)) added names state is.are_names (opened ∙ is.opened)
 
-pub ended_open : (before after : List (Bor (List ℕ))) (name : Bor (List ℕ)) (old new : List ℕ)
-    → IsOpen (names_of before) old → before ≡ after ++ name ∷ [] → new ≡ old ++ end_tag name.now
-    → IsOpen (names_of after) new
-ended_open before after name old new is pops added =
-    end_open (names_of after) name.now old new (popped before after name old is pops) added
+names_with : (names after : List (Bor (List ℕ))) (name : Bor (List ℕ)) → after ≡ names ++ name ∷ []
+    → names_of after ≡ names_of names ++ name.now ∷ []
+names_with names after name added =
+    ap names_of added ∙ map-append (λ (n : Bor (List ℕ)). n.now) names (name ∷ [])
 
--- if no element is open, nothing changes
-pub none_ended : (before : List (Bor (List ℕ))) (old : List ℕ) → IsOpen (names_of before) old → before ≡ []
-    → so_far old ≡ closed (so_far old)
-none_ended before old is none = grind (arith, by)
-  where
-    by : (opened : List Opened) → (so_far old).opened ≡ opened → [] ≡ map name_in opened
-        → so_far old ≡ closed (so_far old)
-    by [] same names =
-        ap₂ (λ (state : State) (opened : List Opened). reader state opened (so_far old).content) is.state same
-        ∙ sym (ap (λ (opened : List Opened). closed_in opened (so_far old).content) same)
-    by (o ∷ opened) same names = absurd (cc)
+pub start_open : (names after : List (Bor (List ℕ))) (name : Bor (List ℕ))
+    (attributes : List (Bor (List ℕ) × Bor (List ℕ))) (old new : List ℕ) → IsOpen names old
+    → is_tag name.now ≡ true → are_names [] (names_in attributes) ≡ true
+    → new ≡ old ++ tag_bytes name.now attributes (codes ">") → after ≡ names ++ name ∷ [] → IsOpen after new
+start_open names after name attributes old new is tag labeled added pushed =
+    let named = (and_parts (is_name name.now) _ tag).0 in
+    let same = names_with names after name pushed in
+    becomes is (start_read (so_far old) name.now attributes labeled tag) added after refl
+    (rw (same, list_all-append, is.are_names, named) refl)
+    (rw (same, reverse-append (names_of names) (name.now ∷ []), is.opened) refl)
 
-pub adds_none : (old : List ℕ) → AddsAttributes [] old old
-adds_none old = grind (arith, append-nil)
+module _ (names after : List (Bor (List ℕ))) (name : Bor (List ℕ)) (old new : List ℕ) (is : IsOpen names old)
+    (popped : names ≡ after ++ name ∷ []) (added : new ≡ old ++ end_bytes name.now) where
+  innermost : (so_far old).opened ≡ name.now ∷ reverse (names_of after)
+  innermost = grind (arith, is.opened, map-append, reverse-append)
 
-adds_more : (names : List (List ℕ)) (name value old mid new : List ℕ) → AddsAttributes names old mid
-    → IsPrintableIn false value → new ≡ mid ++ attribute_bytes (attribute name value)
-    → AddsAttributes (names ++ name ∷ []) old new
-adds_more names name value old mid new adds plain added = record {
-  attributes = adds.attributes ++ attribute name value ∷ [];
-  named = grind (arith, line_printable, map-append, each_last);
-  added =
-      cc (
-        append_assoc old (flat_map attribute_bytes adds.attributes)
-            (attribute_bytes (attribute name value)),
-        flat_map-append attribute_bytes adds.attributes (attribute name value ∷ []),
-        append-nil (attribute_bytes (attribute name value)),
-      );
-}
-  where
-    each_last : (attributes : List Attribute) (a : Attribute)
-        → Each (λ (a : Attribute). IsPrintable a.value) attributes → IsPrintable a.value
-        → Each (λ (a : Attribute). IsPrintable a.value) (attributes ++ a ∷ [])
-    each_last [] a are is = (is, tt)
-    each_last (b ∷ attributes) a are is = (are.0, each_last attributes a are.1 is)
+  both_named : (list_all is_name (names_of after) ≡ true) × (is_name name.now ≡ true)
+  both_named = grind (arith, is.are_names, and_parts, list_all-append, map-append)
 
-pub adds_next : (items : List (Bor (List ℕ) × Bor (List ℕ))) (at : ℕ) (item : Bor (List ℕ) × Bor (List ℕ))
-    (name value old mid new : List ℕ) → at < length items → name ≡ (slice_index_or items at item).0.now
-    → AddsAttributes (names_in (take at items)) old mid → IsPrintableIn false value
-    → new ≡ mid ++ attribute_bytes (attribute name value)
-    → AddsAttributes (names_in (take (at + 1) items)) old new
-adds_next items at item name value old mid new below name_is adds plain added =
-    let first = slice_index_or items at item in
-    rw (
-      take_more items at item below,
-      map-append (λ (a : Bor (List ℕ) × Bor (List ℕ)). a.0.now) (take at items)
-          (first ∷ []),
-    )
-    (subst (λ (n : List ℕ). AddsAttributes (names_in (take at items) ++ n ∷ []) old new) name_is
-    (adds_more (names_in (take at items)) name value old mid new adds plain added))
+  abbrev outside : Reader
+  outside = reader data_state (reverse (names_of after)) (end_tag name.now ∷ (so_far old).tags)
 
--- ---- The whole page.
+  end_reads : Reads (in_data old) (end_bytes name.now) outside
+  end_reads =
+      subst (λ (opened : List (List ℕ)). Reads (reader data_state opened (so_far old).tags)
+      (end_bytes name.now) outside) (sym innermost)
+      (end_read (reverse (names_of after)) (so_far old).tags name.now both_named.1)
 
-none_opened : (opened : List Opened) → [] ≡ map name_in opened → opened ≡ []
-none_opened [] is = refl
-none_opened (o ∷ opened) is = absurd (cc)
+  pub ended_is : so_far new ≡ closed (so_far old)
+  ended_is =
+      appended is end_reads added
+      ∙ ap (λ (opened : List (List ℕ)). ended opened (so_far old).tags) (sym innermost)
 
-pub page_finished : (before : List (Bor (List ℕ))) (bytes front page : List ℕ) (tree : Html)
-    → IsOpen (names_of before) bytes → before ≡ [] → front ≡ doctype → page ≡ front ++ bytes
-    → all_closed (so_far bytes) ≡ tree → IsPage tree page
-unfolding doctype
-page_finished before bytes front page tree is none first added same =
-    let opened = none_opened (so_far bytes).opened
-    (cc) in
-    let whole = both_safe (ascii_safe doctype refl) is.safe in
-    let content : (so_far bytes).content ≡ tree =
-    sym (ap (λ opened. all_closed_in opened (so_far bytes).content) opened) ∙ same in
-    subst (IsPage tree) (cc) (record {
-      printable = whole.0;
-      quiet = bracketless_quiet (doctype ++ bytes) whole.1;
-      read = cc;
-    })
+  pub ended_open : IsOpen after new
+  ended_open = becomes is end_reads added after refl both_named.0 refl
+
+  pub tags_kept : (tags : List Token) → all_closed (so_far old) ≡ tags
+      → all_closed (so_far new) ≡ tags
+  tags_kept tags same =
+      ap all_closed (appended is end_reads added)
+      ∙ ap (λ (opened : List (List ℕ)). all_ended opened (so_far old).tags) (sym innermost) ∙ same
+
+-- ---- No element is open.
+
+module _ (names : List (Bor (List ℕ))) (old : List ℕ) (is : IsOpen names old) (none : names ≡ []) where
+  none_opened : so_far old ≡ reader data_state [] (so_far old).tags
+  none_opened =
+      data_now is ∙ ap (λ (o : List (List ℕ)). reader data_state o (so_far old).tags)
+      (is.opened ∙ ap (λ (ns : List (Bor (List ℕ))). reverse (names_of ns)) none)
+
+  pub none_ended : so_far old ≡ closed (so_far old)
+  none_ended = none_opened ∙ sym (ap closed none_opened)
+
+  pub page_finished : (page : List ℕ) (tags : List Token) → page ≡ codes "<!DOCTYPE html>" ++ old
+      → all_closed (so_far old) ≡ tags → IsPage tags page
+  page_finished page tags added same =
+      let safe : IsSafe page = subst IsSafe (sym added)
+      (both_safe (ascii_safe (codes "<!DOCTYPE html>") refl) is.safe) in
+      let all : (so_far old).tags ≡ tags =
+      sym (ap all_closed none_opened) ∙ same in
+      record {
+        content = old;
+        printable = safe.0;
+        quiet = bracketless_quiet page safe.1;
+        begins = added;
+        read = none_opened ∙ ap (λ (tags : List Token). reader data_state [] tags) all;
+      }

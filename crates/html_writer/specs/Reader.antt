@@ -1,98 +1,58 @@
--- Reading HTML, by the part of the HTML standard that pages of this crate use: its tokenizer, one byte at a
--- time, and a tree builder.
+-- The tokenizer of the HTML standard (13.2.5), byte by byte: the tags in a page, and which elements are open.
 --
--- States have the standard's names. Its data, RCDATA and RAWTEXT states are one state here, for three kinds
--- of content. A byte leads to `outside` if what the standard does there is left out: comments, upper-case
--- names, attributes without a value or with other quotes, other character references, and whatever the
--- standard calls an error. Then nothing is read. The text goes by bytes, since each byte that the standard
--- treats in its own way is ASCII.
---
--- The standard also inserts tags that a page leaves out, and moves elements and texts from where they aren't
--- allowed, such as a text in a `table` outside of its cells, and drops white space in front of `head`. The
--- builder below doesn't, so it only agrees with the standard on pages that leave out no tags and have each
--- element and text where it is allowed.
-use Rattle.std.specs.Prelude.{ℕ, ◌==◌, Bool, true, false, not, ◌&&◌, ◌||◌, List, [], ◌∷◌, ◌++◌, codes, Option}
-use Rattle.std.specs.Prelude.{Some, None, if◌then◌else◌, drop, length, nat_eq}
-use Rattle.std.specs.{List.starts_with, Str.bytes_eq}
-use Rattle.html_writer.specs.Html.{Attribute, Html, attribute, element, style, text, void, ◌⊕◌, has_attribute}
-use Rattle.html_writer.specs.Html.{is_among, is_character, is_letter, is_name_byte, is_ordinary, is_style}
-use Rattle.html_writer.specs.Html.{is_title, void_names}
+-- States have the standard's names and numbers. A byte leads to `outside`, for good, where no page of this
+-- crate goes: comments, upper-case names, other attributes than `name="value"`, references by number, errors.
+-- Bytes that the standard treats in their own way are ASCII; a printable page has neither NUL nor CR. The
+-- standard also adds missing tags, and moves elements that aren't allowed where they are. This doesn't.
+use Rattle.std.specs.Prelude.{ℕ, ◌==◌, Bool, not, ◌&&◌, List, [], ◌∷◌, ◌++◌, if◌then◌else◌}
+use Rattle.std.specs.{Str.bytes_eq}
+use Rattle.html_writer.specs.Html.{is_among, is_letter, is_name_byte, is_style, is_title, other_names}
+use Rattle.html_writer.specs.Html.{void_names}
 
+-- its name, and the names of its attributes
 pub record Tag : Type 0 where
   pub name : List ℕ
-  pub attributes : List Attribute
+  pub labels : List (List ℕ)
 
-abbrev pub new_tag : List ℕ → List Attribute → Tag
-new_tag name attributes = record { name = name; attributes = attributes }
+abbrev pub new_tag : List ℕ → List (List ℕ) → Tag
+new_tag name labels = record { name = name; labels = labels }
 
 pub data Token : Type 0 where
-  character : ℕ → Token
   start_tag : Tag → Token
-  -- a start tag that ends with `/>`
+  -- ends with `/>`
   self_closing_tag : Tag → Token
   end_tag : List ℕ → Token
 
--- what the innermost open element contains
-pub data Kind : Type 0 where
-  -- the standard's data state
-  any_content : Kind
-  -- its RCDATA state, in a `title`: no elements
-  only_text : Kind
-  -- its RAWTEXT state, in a `style`: neither elements nor character references
-  raw_text : Kind
-
-abbrev pub has_elements : Kind → Bool
-has_elements any_content = true
-has_elements only_text = false
-has_elements raw_text = false
-
-abbrev pub has_references : Kind → Bool
-has_references any_content = true
-has_references only_text = true
-has_references raw_text = false
-
--- With what has been read so far: the name of a tag, or a start tag; the name of the attribute; its value;
--- the name of the character reference.
+-- 34 is `"`, 38 `&`, 47 `/`, 59 `;`, 60 `<`, 61 `=`, 62 `>`
 pub data State : Type 0 where
+  -- 13.2.5.1; in a `title` 13.2.5.2, and in a `style` 13.2.5.3
   data_state : State
-  text_reference : List ℕ → State
+  rcdata_state : State
+  rawtext_state : State
+  -- 13.2.5.72 and 73, with the state to return to
+  character_reference : State → State
+  -- 13.2.5.6; in a `title` 13.2.5.9, and in a `style` 13.2.5.12
   tag_open : State
-  tag_name : List ℕ → State
+  less_than_sign : State
+  -- 13.2.5.7 and 8, with the name so far
   end_tag_open : State
+  tag_name : List ℕ → State
+  -- 13.2.5.8, 11 and 14
   end_tag_name : List ℕ → State
+  -- 13.2.5.32, 33, with the name so far, 35, 36, 39 and 40
   before_attribute_name : Tag → State
   attribute_name : Tag → List ℕ → State
-  before_attribute_value : Tag → List ℕ → State
-  attribute_value : Tag → List ℕ → List ℕ → State
-  attribute_reference : Tag → List ℕ → List ℕ → List ℕ → State
+  before_attribute_value : Tag → State
+  attribute_value : Tag → State
   after_attribute_value : Tag → State
   self_closing_start_tag : Tag → State
   outside : State
 
--- a byte leads to another state, or completes a token, after which the state is `data_state`
 pub data Step : Type 0 where
   to : State → Step
   emit : Token → Step
 
--- the byte that a character reference stands for
-abbrev pub referenced : List ℕ → Option ℕ
-referenced name =
-    if bytes_eq name (codes "amp") then Some 38
-    else if bytes_eq name (codes "lt") then Some 60
-    else if bytes_eq name (codes "gt") then Some 62
-    else if bytes_eq name (codes "quot") then Some 34
-    else if bytes_eq name (codes "lsqb") then Some 91
-    else None
-
-abbrev pub text_with : Option ℕ → Step
-text_with (Some byte) = emit (character byte)
-text_with None = to outside
-
-abbrev pub value_with : Option ℕ → Tag → List ℕ → List ℕ → Step
-value_with (Some byte) tag name value = to (attribute_value tag name (value ++ byte ∷ []))
-value_with None tag name value = to outside
-
--- a byte after a start tag's name or an attribute
+-- a byte after the name of a start tag or after an attribute
 abbrev pub after : Tag → ℕ → Step
 after tag byte =
     if byte == 62 then emit (start_tag tag)
@@ -100,119 +60,79 @@ after tag byte =
     else if byte == 47 then to (self_closing_start_tag tag)
     else to outside
 
-abbrev pub step : Kind → State → ℕ → Step
-step kind data_state byte =
-    if byte == 60 then to tag_open
-    else if has_references kind && byte == 38 then to (text_reference [])
-    else if is_character byte then emit (character byte)
+-- a byte of a text, which the byte `last` ends
+abbrev pub within : State → (last : ℕ) → State → ℕ → Step
+within state last next byte =
+    if byte == last then to next
+    else if byte == 38 then to (character_reference state)
+    else to state
+
+abbrev pub step : State → ℕ → Step
+step data_state byte = within data_state 60 tag_open byte
+step rcdata_state byte = within rcdata_state 60 less_than_sign byte
+step rawtext_state byte = if byte == 60 then to less_than_sign else to rawtext_state
+step (character_reference state) byte =
+    if byte == 59 then to state
+    else if is_letter byte then to (character_reference state)
     else to outside
-step kind (text_reference name) byte =
-    if byte == 59 then text_with (referenced name)
-    else if is_letter byte then to (text_reference (name ++ byte ∷ []))
-    else to outside
-step kind tag_open byte =
-    if is_letter byte && has_elements kind then to (tag_name (byte ∷ []))
+step tag_open byte =
+    if is_letter byte then to (tag_name (byte ∷ []))
     else if byte == 47 then to end_tag_open
     else to outside
-step kind (tag_name name) byte =
+step less_than_sign byte = if byte == 47 then to end_tag_open else to outside
+step end_tag_open byte = if is_letter byte then to (end_tag_name (byte ∷ [])) else to outside
+step (tag_name name) byte =
     if is_name_byte byte then to (tag_name (name ++ byte ∷ [])) else after (new_tag name []) byte
-step kind end_tag_open byte = if is_letter byte then to (end_tag_name (byte ∷ [])) else to outside
-step kind (end_tag_name name) byte =
+step (end_tag_name name) byte =
     if is_name_byte byte then to (end_tag_name (name ++ byte ∷ []))
     else if byte == 62 then emit (end_tag name)
     else to outside
-step kind (before_attribute_name tag) byte =
+step (before_attribute_name tag) byte =
     if is_letter byte then to (attribute_name tag (byte ∷ [])) else to outside
-step kind (attribute_name tag name) byte =
-    if is_name_byte byte then to (attribute_name tag (name ++ byte ∷ []))
-    else if byte == 61 && not (has_attribute tag.attributes name) then to (before_attribute_value tag name)
+step (attribute_name tag label) byte =
+    if is_name_byte byte then to (attribute_name tag (label ++ byte ∷ []))
+    else if byte == 61 && not (is_among tag.labels label)
+    then to (before_attribute_value (new_tag tag.name (tag.labels ++ label ∷ [])))
     else to outside
-step kind (before_attribute_value tag name) byte =
-    if byte == 34 then to (attribute_value tag name []) else to outside
-step kind (attribute_value tag name value) byte =
-    if byte == 34
-    then to (after_attribute_value (new_tag tag.name (tag.attributes ++ attribute name value ∷ [])))
-    else if byte == 38 then to (attribute_reference tag name value [])
-    else if is_character byte then to (attribute_value tag name (value ++ byte ∷ []))
-    else to outside
-step kind (attribute_reference tag name value reference) byte =
-    if byte == 59 then value_with (referenced reference) tag name value
-    else if is_letter byte then to (attribute_reference tag name value (reference ++ byte ∷ []))
-    else to outside
-step kind (after_attribute_value tag) byte = after tag byte
-step kind (self_closing_start_tag tag) byte =
-    if byte == 62 then emit (self_closing_tag tag) else to outside
-step kind outside byte = to outside
+step (before_attribute_value tag) byte = if byte == 34 then to (attribute_value tag) else to outside
+step (attribute_value tag) byte = within (attribute_value tag) 34 (after_attribute_value tag) byte
+step (after_attribute_value tag) byte = after tag byte
+step (self_closing_start_tag tag) byte = if byte == 62 then emit (self_closing_tag tag) else to outside
+step outside byte = to outside
 
--- what precedes an element in its parent, and its start tag; its end tag hasn't been read
-pub record Opened : Type 0 where
-  pub before : Html
-  pub tag : Tag
-
--- the state, the open elements from the innermost one outwards, and what the innermost one contains so far
+-- the names of the open elements, from the innermost one outwards, and the tags, the last one first
 pub record Reader : Type 0 where
   pub state : State
-  pub opened : List Opened
-  pub content : Html
+  pub opened : List (List ℕ)
+  pub tags : List Token
 
-abbrev pub reader : State → List Opened → Html → Reader
-reader state opened content = record { state = state; opened = opened; content = content }
+abbrev pub reader : State → List (List ℕ) → List Token → Reader
+reader state opened tags = record { state = state; opened = opened; tags = tags }
 
-abbrev pub kind_in : List ℕ → Kind
-kind_in name = if is_style name then raw_text else if is_title name then only_text else any_content
+-- within an element of this name (13.2.6.4.4 and 7)
+abbrev pub content_state : List ℕ → State
+content_state name =
+    if is_style name then rawtext_state
+    else if is_title name then rcdata_state
+    else if is_among (void_names ++ other_names) name then outside
+    else data_state
 
-abbrev pub kind_of : List Opened → Kind
-kind_of [] = any_content
-kind_of (innermost ∷ outer) = kind_in innermost.tag.name
+abbrev pub if_so : Bool → State
+if_so is = if is then data_state else outside
 
-abbrev pub text_of : Html → List ℕ
-text_of (text bytes) = bytes
-text_of _ = []
+abbrev pub with_token : Token → List (List ℕ) → List Token → Reader
+with_token (start_tag tag) opened tags =
+    reader (content_state tag.name) (tag.name ∷ opened) (start_tag tag ∷ tags)
+with_token (self_closing_tag tag) opened tags =
+    reader (if_so (is_among void_names tag.name)) opened (self_closing_tag tag ∷ tags)
+with_token (end_tag name) [] tags = reader outside [] tags
+with_token (end_tag name) (innermost ∷ outer) tags =
+    reader (if_so (bytes_eq innermost name)) outer (end_tag name ∷ tags)
 
-abbrev pub element_of : Tag → Html → Html
-element_of tag content =
-    if is_style tag.name then style [] (text_of content) (text [])
-    else element [] tag.name tag.attributes content (text [])
-
-abbrev pub opens_element : Tag → Bool
-opens_element tag = is_ordinary tag.name || (is_style tag.name && length tag.attributes == 0)
-
--- a start tag opens an element, and the end tag of the same name closes it
-abbrev pub with_token : Token → List Opened → Html → Reader
-with_token (character byte) opened content = reader data_state opened (content ⊕ text (byte ∷ []))
-with_token (start_tag tag) opened content =
-    if opens_element tag then reader data_state (record { before = content; tag = tag } ∷ opened) (text [])
-    else reader outside opened content
-with_token (self_closing_tag tag) opened content =
-    if is_among void_names tag.name
-    then reader data_state opened (content ⊕ void [] tag.name tag.attributes (text []))
-    else reader outside opened content
-with_token (end_tag name) [] content = reader outside [] content
-with_token (end_tag name) (innermost ∷ outer) content =
-    if bytes_eq innermost.tag.name name
-    then reader data_state outer (innermost.before ⊕ element_of innermost.tag content)
-    else reader outside (innermost ∷ outer) content
-
-abbrev pub with_step : Step → List Opened → Html → Reader
-with_step (to state) opened content = reader state opened content
-with_step (emit token) opened content = with_token token opened content
+abbrev pub with_step : Step → List (List ℕ) → List Token → Reader
+with_step (to state) opened tags = reader state opened tags
+with_step (emit token) opened tags = with_token token opened tags
 
 abbrev pub run : Reader → List ℕ → Reader
 run from [] = from
-run from (byte ∷ bytes) =
-    run (with_step (step (kind_of from.opened) from.state byte) from.opened from.content) bytes
-
--- no tag or reference is incomplete, and no element is open
-abbrev pub finished : State → List Opened → Html → Option Html
-finished data_state [] content = Some content
-finished _ _ _ = None
-
-abbrev pub read : List ℕ → Option Html
-read bytes =
-    let last = run (reader data_state [] (text [])) bytes in
-    finished last.state last.opened last.content
-
-abbrev pub read_document : List ℕ → Option Html
-read_document bytes =
-    let doctype = codes "<!DOCTYPE html>" in
-    if starts_with nat_eq bytes doctype then read (drop (length doctype) bytes) else None
+run from (byte ∷ bytes) = run (with_step (step from.state byte) from.opened from.tags) bytes

@@ -1,18 +1,15 @@
-//! A page that is written piece by piece, with a stack of its open elements. Reading what was written so far
-//! yields these elements and what they contain; so no text and no value of an attribute becomes markup.
-ghost use Rattle.std.specs.Prelude.{◌≡◌, ◌++◌, [], IfOk, OnOk, true};
+//! A page that is written piece by piece, with a stack of its open elements. The tokenizer of the HTML
+//! standard finds just the tags in it that were asked for; so no text and no value of an attribute becomes
+//! markup.
+ghost use Rattle.std.specs.Prelude.{◌≡◌, ◌++◌, [], IfOk, OnOk, codes, flat_map, true};
 ghost use Rattle.std.specs.{List.list_all};
 ghost use Rattle.printable_text.specs.Sanitize.{sanitized};
-ghost use Rattle.html_writer.specs.Html.{escaped, is_css, is_plain};
-ghost use Rattle.html_writer.specs.Html as html;
-ghost use Rattle.html_writer.specs.Page.{AddsAttributes, AddsStart, AddsTag, AddsVoid, HasVoid, Opens};
-ghost use Rattle.html_writer.specs.Page.{all_closed, are_names, closed};
-ghost use Rattle.html_writer.specs.Page.{followed_by, IsOpen, IsPage, is_safe_byte, is_tag, is_void};
-ghost use Rattle.html_writer.specs.Page.{names_in, names_of, so_far, title};
+ghost use Rattle.html_writer.specs.Html.{escaped, is_plain, shown_attribute, tag_bytes};
+ghost use Rattle.html_writer.specs.Page.{IsOpen, IsPage, all_closed, are_names, begun, closed, is_css};
+ghost use Rattle.html_writer.specs.Page.{is_tag, is_void, names_in, so_far, with_text, with_void};
 
 use crate::write::{
-    is_written_as_is, push_attribute, push_close, push_doctype, push_element, push_end, push_open,
-    push_style, push_text, push_void_close,
+    is_unchanged, push_attribute, push_end, push_open, push_style, push_text, push_title,
 };
 use printable_text::report::Line;
 use printable_text::sanitize::push_sanitized;
@@ -32,20 +29,20 @@ pub struct Html {
 
 impl Model for Html {
     ghost use Rattle.std.specs.Prelude.{ℕ, List};
-    ghost use Rattle.html_writer.specs.Page.{IsOpen, names_of};
+    ghost use Rattle.html_writer.specs.Page.{IsOpen};
 
     ghost Value = { List ℕ };
 
     ghost view = { λ html. html.bytes.items };
 
-    ghost invariant = { λ html. IsOpen (names_of html.opened.items) html.bytes.items };
+    ghost invariant = { λ html. IsOpen html.opened.items html.bytes.items };
 }
 
 /// Whether it is printable ASCII that is written as it is.
 fn is_plain(byte: u8) -> bool
     ensures { result ≡ is_plain byte }
 {
-    matches!(byte, b' '..=b'~') && is_written_as_is(byte)
+    matches!(byte, b' '..=b'~') && is_unchanged(byte)
 }
 
 fn are_plain(text: &[u8]) -> bool
@@ -68,13 +65,12 @@ fn push_shown(bytes: &mut Vec<u8>, line: &mut String, text: &str) -> fmt::Result
 }
 
 /// In the values, what is unsafe to display is escaped.
-#[tactic(auto, using(crate::proofs::PageLemmas::adds_none))]
 fn push_attributes(
     bytes: &mut Vec<u8>,
     line: &mut String,
     attributes: &[(&'static str, &str)],
 ) -> fmt::Result
-    ensures { OnOk result (AddsAttributes (names_in attributes.now) bytes.old.items bytes.new.items) }
+    ensures { OnOk result (bytes.new.items ≡ bytes.old.items ++ flat_map shown_attribute attributes.now) }
 {
     for attribute in attributes {
         line.clear();
@@ -84,41 +80,19 @@ fn push_attributes(
     Ok(())
 }
 
-/// Without the end of the tag.
+#[tactic(auto, unfolding(crate::specs::Html::tag_bytes))]
 fn push_tag(
     bytes: &mut Vec<u8>,
     line: &mut String,
     name: &str,
     attributes: &[(&'static str, &str)],
+    end: &str,
 ) -> fmt::Result
-    ensures { OnOk result (AddsTag name.now (names_in attributes.now) bytes.old.items bytes.new.items) }
+    ensures { OnOk result (bytes.new.items ≡ bytes.old.items ++ tag_bytes name.now attributes.now end.now) }
 {
     push_open(bytes, name)?;
-    push_attributes(bytes, line, attributes)
-}
-
-fn push_start(
-    bytes: &mut Vec<u8>,
-    line: &mut String,
-    name: &str,
-    attributes: &[(&'static str, &str)],
-) -> fmt::Result
-    ensures { OnOk result (AddsStart name.now (names_in attributes.now) bytes.old.items bytes.new.items) }
-{
-    push_tag(bytes, line, name, attributes)?;
-    Ok(push_close(bytes)?)
-}
-
-fn push_void(
-    bytes: &mut Vec<u8>,
-    line: &mut String,
-    name: &str,
-    attributes: &[(&'static str, &str)],
-) -> fmt::Result
-    ensures { OnOk result (AddsVoid name.now (names_in attributes.now) bytes.old.items bytes.new.items) }
-{
-    push_tag(bytes, line, name, attributes)?;
-    Ok(push_void_close(bytes)?)
+    push_attributes(bytes, line, attributes)?;
+    Ok(bytes.extend_from_slice(end.as_bytes())?)
 }
 
 /// For the error after a failed allocation.
@@ -132,7 +106,7 @@ fn lost(bytes: &mut Vec<u8>, opened: &mut Vec<&'static str>) -> fmt::Error
 }
 
 fn finished(bytes: Vec<u8>, opened: Vec<&'static str>) -> Result<Vec<u8>, fmt::Error>
-    requires { IsOpen (names_of opened.items) bytes.items }
+    requires { IsOpen opened.items bytes.items }
     ensures { IfOk result (λ page. IsPage (all_closed (so_far bytes.items)) page.items) }
 {
     let mut content = bytes;
@@ -141,7 +115,7 @@ fn finished(bytes: Vec<u8>, opened: Vec<&'static str>) -> Result<Vec<u8>, fmt::E
         push_end(&mut content, name)?;
     }
     let mut page = Vec::new(*content.allocator());
-    push_doctype(&mut page)?;
+    page.extend_from_slice(b"<!DOCTYPE html>")?;
     page.extend_from_slice(&content)?;
     Ok(page)
 }
@@ -159,13 +133,13 @@ impl Html {
     }
 
     /// Begins an element, which `close` ends.
-    #[tactic(auto, using(crate::proofs::PageLemmas::element_begun, crate::proofs::PageLemmas::nothing_open))]
+    #[tactic(auto, using(crate::proofs::PageLemmas::nothing_open))]
     pub fn open(&mut self, name: &'static str, attributes: &[(&'static str, &str)]) -> fmt::Result
         requires name { is_tag name.now ≡ true }
         requires attributes { are_names [] (names_in attributes.now) ≡ true }
-        ensures { OnOk result (Opens name.now (names_in attributes.now) (so_far self.old) (so_far self.new)) }
+        ensures { OnOk result (so_far self.new ≡ begun name.now (names_in attributes.now) (so_far self.old)) }
     {
-        let Ok(()) = push_start(&mut self.bytes, &mut self.line, name, attributes) else {
+        let Ok(()) = push_tag(&mut self.bytes, &mut self.line, name, attributes, ">") else {
             return Err(lost(&mut self.bytes, &mut self.opened));
         };
         let Ok(()) = self.opened.push(name) else {
@@ -179,33 +153,31 @@ impl Html {
     pub fn void(&mut self, name: &'static str, attributes: &[(&'static str, &str)]) -> fmt::Result
         requires name { is_void name.now ≡ true }
         requires attributes { are_names [] (names_in attributes.now) ≡ true }
-        ensures { OnOk result (HasVoid name.now (names_in attributes.now) (so_far self.old)
-            (so_far self.new)) }
+        ensures { OnOk result
+            (so_far self.new ≡ with_void name.now (names_in attributes.now) (so_far self.old)) }
     {
-        let Ok(()) = push_void(&mut self.bytes, &mut self.line, name, attributes) else {
+        let Ok(()) = push_tag(&mut self.bytes, &mut self.line, name, attributes, "/>") else {
             return Err(lost(&mut self.bytes, &mut self.opened));
         };
         Ok(())
     }
 
     /// Appends a `title`, which contains a text alone.
-    #[tactic(auto, using(crate::proofs::PageLemmas::title_is, crate::proofs::PageLemmas::nothing_open))]
+    #[tactic(auto, using(crate::proofs::PageLemmas::nothing_open))]
     pub fn title(&mut self, text: &Line) -> fmt::Result
-        ensures { OnOk result (so_far self.new ≡ followed_by (title text.now) (so_far self.old)) }
+        ensures { OnOk result (so_far self.new ≡ with_text (codes "title") (so_far self.old)) }
     {
-        let Ok(()) = push_element(&mut self.bytes, "title", text.as_str().as_bytes()) else {
+        let Ok(()) = push_title(&mut self.bytes, text.as_str()) else {
             return Err(lost(&mut self.bytes, &mut self.opened));
         };
         Ok(())
     }
 
     /// Appends a `style` element. The CSS is copied unchanged.
-    #[tactic(auto, using(crate::proofs::PageLemmas::style_is, crate::proofs::PageLemmas::nothing_open))]
+    #[tactic(auto, using(crate::proofs::PageLemmas::nothing_open))]
     pub fn style(&mut self, css: &'static str) -> fmt::Result
-        requires css { is_css css.now ≡ true }
-        requires safe { list_all is_safe_byte css.now ≡ true }
-        ensures { OnOk result (so_far self.new
-            ≡ followed_by (html.style [] css.now (html.text [])) (so_far self.old)) }
+        requires { is_css css.now ≡ true }
+        ensures { OnOk result (so_far self.new ≡ with_text (codes "style") (so_far self.old)) }
     {
         let Ok(()) = push_style(&mut self.bytes, css) else {
             return Err(lost(&mut self.bytes, &mut self.opened));
@@ -221,7 +193,7 @@ impl Html {
     }
 
     /// Ends the innermost open element. Without one it writes nothing.
-    #[tactic(auto, using(crate::proofs::PageLemmas::element_ended, crate::proofs::PageLemmas::none_ended, crate::proofs::PageLemmas::nothing_open))]
+    #[tactic(auto, using(crate::proofs::PageLemmas::nothing_open, crate::proofs::PageLemmas::ended_is, crate::proofs::PageLemmas::none_ended))]
     pub fn close(&mut self) -> fmt::Result
         ensures { OnOk result (so_far self.new ≡ closed (so_far self.old)) }
     {
@@ -236,8 +208,7 @@ impl Html {
 }
 
 impl fmt::Write for Html {
-    ghost write_str_gives = { λ old written new.
-        so_far new ≡ followed_by (html.text (sanitized written)) (so_far old) };
+    ghost write_str_gives = { λ old written new. so_far new ≡ so_far old };
 
     #[tactic(auto, using(crate::proofs::PageLemmas::nothing_open))]
     fn write_str(&mut self, text: &str) -> fmt::Result {

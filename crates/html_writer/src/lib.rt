@@ -1,5 +1,5 @@
-//! HTML, written piece by piece, and a proof that reading a finished page yields the elements and texts that were written, and the names
-//! of their attributes, whose values are printable.
+//! HTML, written piece by piece, and a proof that a finished page is printable, and that the HTML standard's
+//! tokenizer finds just those tags and names of attributes in it that were asked for, all closed.
 #![tactic(auto)]
 
 pub mod html;

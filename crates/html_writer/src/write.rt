@@ -1,9 +1,8 @@
 //! Writes HTML piece by piece, so that a page of any length needs no tree in memory.
-ghost use Rattle.std.specs.Prelude.{◌≡◌, ◌++◌, [], OnOk};
-ghost use Rattle.html_writer.specs.Html.{attribute, attribute_bytes, doctype, end_tag, escaped};
-ghost use Rattle.std.specs.List.{list_all};
-ghost use Rattle.html_writer.specs.Html.{escaped_byte, is_written_as_is, start_tag, style_bytes, tag, tag_close};
-ghost use Rattle.html_writer.specs.Html.{tag_open, text, void_close, written};
+ghost use Rattle.std.specs.Prelude.{◌≡◌, ◌++◌, OnOk, codes};
+ghost use Rattle.std.specs.{List.list_all};
+ghost use Rattle.html_writer.specs.Html.{attribute_bytes, end_bytes, escaped, escaped_byte, is_unchanged};
+ghost use Rattle.html_writer.specs.Html.{style_bytes, title_bytes};
 
 use std::alloc::AllocError;
 
@@ -20,24 +19,24 @@ fn push_byte(out: &mut Vec<u8>, byte: u8) -> Result<(), AllocError>
     }
 }
 
-pub(crate) fn is_written_as_is(byte: u8) -> bool
-    ensures { result ≡ is_written_as_is byte }
+pub(crate) fn is_unchanged(byte: u8) -> bool
+    ensures { result ≡ is_unchanged byte }
 {
-    !(byte == b'&' || byte == b'<' || byte == b'>' || byte == b'"' || byte == b'[')
+    !matches!(byte, b'&' | b'<' | b'>' | b'"' | b'[')
 }
 
-fn are_written_as_is(text: &[u8]) -> bool
-    ensures { result ≡ list_all is_written_as_is text.now }
+fn are_unchanged(text: &[u8]) -> bool
+    ensures { result ≡ list_all is_unchanged text.now }
 {
-    text.iter().all(|byte| is_written_as_is(*byte))
+    text.iter().all(|byte| is_unchanged(*byte))
 }
 
 /// The text is escaped.
-#[tactic(auto, using(crate::proofs::WritingLemmas::escaped_same))]
+#[tactic(auto, using(crate::proofs::PageLemmas::unchanged_same))]
 pub fn push_text(out: &mut Vec<u8>, text: &[u8]) -> Result<(), AllocError>
     ensures { OnOk result (out.new.items ≡ out.old.items ++ escaped text.now) }
 {
-    if are_written_as_is(text) {
+    if are_unchanged(text) {
         return out.extend_from_slice(text);
     }
     for byte in text {
@@ -46,16 +45,8 @@ pub fn push_text(out: &mut Vec<u8>, text: &[u8]) -> Result<(), AllocError>
     Ok(())
 }
 
-#[tactic(auto, unfolding(crate::specs::Html::doctype))]
-pub fn push_doctype(out: &mut Vec<u8>) -> Result<(), AllocError>
-    ensures { OnOk result (out.new.items ≡ out.old.items ++ doctype) }
-{
-    out.extend_from_slice(b"<!DOCTYPE html>")
-}
-
-#[tactic(auto, unfolding(crate::specs::Html::tag_open))]
 pub fn push_open(out: &mut Vec<u8>, name: &str) -> Result<(), AllocError>
-    ensures { OnOk result (out.new.items ≡ out.old.items ++ tag_open name.now) }
+    ensures { OnOk result (out.new.items ≡ out.old.items ++ (codes "<" ++ name.now)) }
 {
     out.push(b'<')?;
     out.extend_from_slice(name.as_bytes())
@@ -64,7 +55,7 @@ pub fn push_open(out: &mut Vec<u8>, name: &str) -> Result<(), AllocError>
 /// With a space before it.
 #[tactic(auto, unfolding(crate::specs::Html::attribute_bytes))]
 pub fn push_attribute(out: &mut Vec<u8>, name: &str, value: &str) -> Result<(), AllocError>
-    ensures { OnOk result (out.new.items ≡ out.old.items ++ attribute_bytes (attribute name.now value.now)) }
+    ensures { OnOk result (out.new.items ≡ out.old.items ++ attribute_bytes name.now value.now) }
 {
     out.push(b' ')?;
     out.extend_from_slice(name.as_bytes())?;
@@ -74,45 +65,31 @@ pub fn push_attribute(out: &mut Vec<u8>, name: &str, value: &str) -> Result<(), 
     Ok(out.push(b'"')?)
 }
 
-#[tactic(auto, unfolding(crate::specs::Html::tag_close))]
 pub fn push_close(out: &mut Vec<u8>) -> Result<(), AllocError>
-    ensures { OnOk result (out.new.items ≡ out.old.items ++ tag_close) }
+    ensures { OnOk result (out.new.items ≡ out.old.items ++ codes ">") }
 {
     Ok(out.push(b'>')?)
 }
 
-#[tactic(auto, unfolding(crate::specs::Html::void_close))]
-pub fn push_void_close(out: &mut Vec<u8>) -> Result<(), AllocError>
-    ensures { OnOk result (out.new.items ≡ out.old.items ++ void_close) }
-{
-    out.extend_from_slice(b"/>")
-}
-
-pub fn push_start(out: &mut Vec<u8>, name: &str) -> Result<(), AllocError>
-    ensures { OnOk result (out.new.items ≡ out.old.items ++ start_tag name.now []) }
-{
-    push_open(out, name)?;
-    push_close(out)
-}
-
 #[inline(always)]
-#[tactic(auto, unfolding(crate::specs::Html::end_tag))]
+#[tactic(auto, unfolding(crate::specs::Html::end_bytes))]
 pub fn push_end(out: &mut Vec<u8>, name: &str) -> Result<(), AllocError>
-    ensures { OnOk result (out.new.items ≡ out.old.items ++ end_tag name.now) }
+    ensures { OnOk result (out.new.items ≡ out.old.items ++ end_bytes name.now) }
 {
     out.push(b'<')?;
     out.push(b'/')?;
     out.extend_from_slice(name.as_bytes())?;
-    Ok(out.push(b'>')?)
+    push_close(out)
 }
 
 /// The text is escaped.
-pub fn push_element(out: &mut Vec<u8>, name: &str, value: &[u8]) -> Result<(), AllocError>
-    ensures { OnOk result (out.new.items ≡ out.old.items ++ written (tag name.now [] (text value.now))) }
+#[tactic(auto, unfolding(crate::specs::Html::title_bytes))]
+pub fn push_title(out: &mut Vec<u8>, text: &str) -> Result<(), AllocError>
+    ensures { OnOk result (out.new.items ≡ out.old.items ++ title_bytes text.now) }
 {
-    push_start(out, name)?;
-    push_text(out, value)?;
-    push_end(out, name)
+    out.extend_from_slice(b"<title>")?;
+    push_text(out, text.as_bytes())?;
+    out.extend_from_slice(b"</title>")
 }
 
 /// The CSS is copied unchanged.

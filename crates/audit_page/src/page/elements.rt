@@ -1,8 +1,6 @@
 //! A page that is written piece by piece, and the elements that several of its parts contain.
 ghost use Rattle.std.specs.Prelude.{◌≡◌, [], IfOk, true};
-ghost use Rattle.std.specs.{List.list_all};
-ghost use Rattle.html_writer.specs.Html.{is_css};
-ghost use Rattle.html_writer.specs.Page.{are_names, IsSomePage, is_safe_byte, is_tag, is_void, names_in};
+ghost use Rattle.html_writer.specs.Page.{are_names, IsSomePage, is_css, is_tag, is_void, names_in};
 
 use html_writer::html::Html;
 use printable_text::report::{Line, Untrusted};
@@ -73,8 +71,7 @@ impl Page {
     }
 
     pub(crate) fn style(&mut self, css: &'static str)
-        requires css { is_css css.now ≡ true }
-        requires safe { list_all is_safe_byte css.now ≡ true }
+        requires { is_css css.now ≡ true }
     {
         self.has_failed |= self.html.style(css).is_err();
     }

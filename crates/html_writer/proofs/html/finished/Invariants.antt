@@ -1,11 +1,11 @@
 use Rattle.std.proofs.Common.{◌≡◌, vec_len}
-use Rattle.html_writer.specs.Page.{all_closed, IsOpen, names_of, so_far}
+use Rattle.html_writer.specs.Page.{all_closed, IsOpen, so_far}
 use Rattle.html_writer.proofs.html.finished.Given as goal
 
 abbrev pub invariant-loop-name : goal.invariant-loop-name
 invariant-loop-name l = record {
-  open_are : IsOpen (names_of l.rest.items) l.content.items;
-  tree : all_closed (so_far l.content.items) ≡ all_closed (so_far l.fn.bytes.items);
+  open_are : IsOpen l.rest.items l.content.items;
+  tags : all_closed (so_far l.content.items) ≡ all_closed (so_far l.fn.bytes.items);
 }
 
 abbrev pub decreases-loop-name : goal.decreases-loop-name

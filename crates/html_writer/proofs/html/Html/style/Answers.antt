@@ -1,6 +1,11 @@
-use Rattle.html_writer.proofs.PageLemmas.{style_open}
+use Rattle.std.proofs.Common.{arith, refl}
+use Rattle.html_writer.proofs.PageLemmas.{piece_is, stays_open, style_read}
 use Rattle.html_writer.proofs.html.Html.style.Goals as goal
 
 pub invariant_of-self : goal.invariant_of-self
 invariant_of-self c =
-    style_open _ _ _ c.self.invariant _ c.requires.css c.requires.safe c.in-Ok.ensures
+    stays_open c.self.invariant (λ page. style_read page _ c.requires) c.in-Ok.ensures refl refl
+
+pub returns : goal.returns
+returns c =
+    grind (arith, piece_is c.self.invariant (λ page. style_read page _ c.requires) c.in-Ok.ensures)

@@ -1,7 +1,16 @@
-use Rattle.html_writer.proofs.PageLemmas.{title_open}
+use Rattle.std.proofs.Common.{arith, refl}
+use Rattle.html_writer.proofs.PageLemmas.{piece_is, stays_open, title_read}
 use Rattle.html_writer.proofs.html.Html.title.Goals as goal
 
 pub invariant_of-self : goal.invariant_of-self
 invariant_of-self c =
-    title_open _ _ _ c.self.invariant _ c.as_str.ensures.printable
-    (rw c.as_bytes.ensures.value at c.in-Ok.ensures)
+    stays_open c.self.invariant (λ page. title_read page _ c.as_str.ensures.printable) c.in-Ok.ensures refl
+    refl
+
+pub returns : goal.returns
+returns c =
+    grind (
+      arith,
+      piece_is c.self.invariant (λ page. title_read page _ c.as_str.ensures.printable)
+          c.in-Ok.ensures,
+    )

@@ -1,10 +1,16 @@
-use Rattle.std.proofs.Common.{arith}
-use Rattle.html_writer.proofs.PageLemmas.{void_added, voided_open}
+use Rattle.std.proofs.Common.{arith, refl}
+use Rattle.html_writer.proofs.PageLemmas.{piece_is, stays_open, void_read}
 use Rattle.html_writer.proofs.html.Html.void.Goals as goal
 
 pub invariant_of-self : goal.invariant_of-self
 invariant_of-self c =
-    voided_open _ _ _ _ _ c.self.invariant c.requires.name c.requires.attributes c.in-Ok.ensures
+    stays_open c.self.invariant (λ page. void_read page _ _ c.requires.attributes c.requires.name)
+    c.in-Ok.ensures refl refl
 
 pub returns : goal.returns
-returns c = grind (arith, void_added)
+returns c =
+    grind (
+      arith,
+      piece_is c.self.invariant
+          (λ page. void_read page _ _ c.requires.attributes c.requires.name) c.in-Ok.ensures,
+    )

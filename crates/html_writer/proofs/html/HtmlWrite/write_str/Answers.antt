@@ -1,13 +1,17 @@
-use Rattle.std.proofs.Common.{arith, false}
-use Rattle.printable_text.proofs.SanitizeLemmas.{sanitized_in_printable}
-use Rattle.html_writer.proofs.PageLemmas.{text_open, text_written}
+use Rattle.std.proofs.Common.{arith, refl}
+use Rattle.html_writer.proofs.PageLemmas.{data_now, piece_is, shown_read, stays_open}
 use Rattle.html_writer.proofs.html.HtmlWrite.write_str.Goals as goal
 
 pub invariant_of-self : goal.invariant_of-self
 invariant_of-self c =
-    text_open _ _ _ c.self.invariant _ (sanitized_in_printable false c.args.text.now) c.in-Ok.ensures
+    stays_open c.self.invariant (λ page. shown_read page _) c.in-Ok.ensures refl refl
 
 pub returns : goal.returns
 returns c = record {
-  ok = grind (arith, text_written);
+  ok =
+      grind (
+        arith,
+        data_now c.self.invariant,
+        piece_is c.self.invariant (λ page. shown_read page _) c.in-Ok.ensures,
+      );
 }
