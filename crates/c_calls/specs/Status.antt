@@ -1,7 +1,7 @@
 -- The statuses that C functions return, and their causes.
 use Rattle.std.specs.Prelude.{◌≡◌, ◌⊎◌, ℕ, ◌*◌, ◌<◌, ◌≤◌, ℤ, pos, negsuc, List, Option, None, Ok, Err, IsUtf8}
 use Rattle.std.specs.Prelude.{if◌then◌else◌, length}
-use Rattle.texting_robots.specs.Callers.{IsFirstOverlong, IsAllocationFree, file_lines, is_named, PlacedRule}
+use Rattle.texting_robots.specs.Callers.{IsFirstOverlong, file_lines, is_named, PlacedRule}
 use Rattle.texting_robots.specs.Callers.{cost_of, placed_rules, prepared, robots_address}
 use Rattle.url.specs.declared.error.{ParseError.ParseError}
 use Rattle.c_calls.specs.{File.HasDelay, Results.items_in, declared.error.Error.Error}
@@ -84,7 +84,7 @@ IsWhyNoMatrix agents urls capacity _ = ⊥
 -- the result for one URL
 abbrev pub IsWhyNoResult : List ℕ → Error → Type 0
 IsWhyNoResult url NotUtf8 = ¬ IsUtf8 url
-IsWhyNoResult url Memory = IsUtf8 url × ¬ IsAllocationFree url
+IsWhyNoResult url Memory = IsUtf8 url
 IsWhyNoResult url _ = ⊥
 
 -- the result for one URL within this budget, whose match target is allocated

@@ -4,7 +4,6 @@ ghost use Rattle.std.specs.List.{AllZip};
 ghost use Rattle.c_calls.specs.File.{GivesRobot, IsRobotOfSomeFile, bytes_read};
 ghost use Rattle.c_calls.specs.Results.{ArePutIn, HasResult, HasResults, IsResult, IsResultOn, LinesFit, number_of, items_in, lf};
 ghost use Rattle.c_calls.specs.Status.{HasError, IsWhyNoResult, IsWhyNoResults, IsWhyNotWithin, IsWhyUndecided};
-ghost use Rattle.texting_robots.specs.Callers.{IsAllocationFree, prepared};
 
 use crate::error::Error;
 use crate::file::{robot_of, text_of};
@@ -31,11 +30,9 @@ pub(crate) fn number_on(robot: &Robot, target: &str) -> i64
     number_of(robot.decide_prepared(target))
 }
 
-/// It fails only if the URL isn't allocation-free.
 fn number_for(alloc: Global, robot: &Robot, url: &str) -> Result<i64, AllocError>
     requires { LinesFit robot.now.rules }
-    ensures number { IfOk result (IsResult robot.now.rules url.now) }
-    ensures memory { IfErr result (λ _. ¬ IsAllocationFree url.now) }
+    ensures { IfOk result (IsResult robot.now.rules url.now) }
 {
     let decision = robot.decide(alloc, url)?;
     Ok(number_of(decision))

@@ -24,7 +24,6 @@ pub use Rattle.texting_robots.specs.Executable.{lines_read, file_bodies, bodies_
 pub use Rattle.texting_robots.specs.Pattern.{Matches, MatchesStars, IsOverlong, collapsed}
 pub use Rattle.texting_robots.specs.{Address.robots_address, Address.robots_address_of, Escape.escaped}
 pub use Rattle.texting_robots.specs.{Prepared.prepared, Prepared.target_of, Order.IsBefore, Order.pattern_cmp}
-pub use Rattle.texting_robots.specs.AllocationFree.{IsAllocationFree}
 pub use Rattle.texting_robots.specs.Verdict.{IsDenied, IsVerdict, robots_file}
 pub use Rattle.texting_robots.specs.Decision.{IsBetter, IsDecidingRule, IsDecidingLine, IsLongestMatch}
 pub use Rattle.texting_robots.specs.Decision.{LooksForRules, as_long_as, IsDecisionOn}

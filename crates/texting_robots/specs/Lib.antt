@@ -18,7 +18,6 @@ pub mod View
 pub mod Cost
 pub mod Robot
 pub mod Prepared
-pub mod AllocationFree
 pub mod Address
 pub mod Theorems
 pub mod MainTheorem

@@ -1,15 +1,15 @@
 //! Absolute URLs that the crate `url` would leave unchanged. Their match target is their last part, so it can be
 //! borrowed.
-ghost use Rattle.std.specs.Prelude.{◌≡◌, ◌<◌, ◌≤◌, ◌≢◌, ◌↔◌, ℕ, List, false, true, length, map, slice_index};
-ghost use Rattle.std.specs.Prelude.{IfSome, IsSome, IsSomeAnd, IsTrue, option_map};
+ghost use Rattle.std.specs.Prelude.{◌≡◌, ◌<◌, ◌≤◌, ◌≢◌, ◌↔◌, false, true, length, map, slice_index};
+ghost use Rattle.std.specs.Prelude.{IfSome, IsTrue};
 ghost use Rattle.std.specs.Char.{is_ascii_lowercase};
 ghost use Rattle.std.specs.List.{prefix_len};
 ghost use Rattle.std.specs.Simd.Lanes.{Each1};
 ghost use Rattle.url.specs.{Input.rsplit_once, Path.dot_count, Path.dot_len};
-ghost use Rattle.texting_robots.specs.AllocationFree.{EndsSite, IsAuthority, IsNormalizedUrl, IsPort, IsSite, IsTarget};
 ghost use Rattle.texting_robots.specs.Prepared.{prepared};
 ghost use Rattle.texting_robots.specs.Internal.Normalized.{after, after_delimited, begins_dotted, begins_plainly, kept_prefix};
-ghost use Rattle.texting_robots.specs.Internal.Normalized.{IsOther, Leaves, past_path, is_kept};
+ghost use Rattle.texting_robots.specs.Internal.Normalized.{IsAuthority, IsOther, IsPath, IsPort, IsSite};
+ghost use Rattle.texting_robots.specs.Internal.Normalized.{IsTarget, Leaves, is_kept};
 
 use std::simd::prelude::*;
 
@@ -126,7 +126,7 @@ fn begins_plainly(digits: &[u8]) -> bool
 /// Few URLs have a port, so it isn't inlined either.
 #[inline(never)]
 fn is_port(own: u16, digits: &[u8]) -> bool
-    ensures { IsTrue result ↔ IsOther own digits.now }
+    ensures { IsTrue result → IsOther own digits.now }
 {
     let Ok(text) = str::from_utf8(digits) else {
         return false;
@@ -139,9 +139,7 @@ fn is_port(own: u16, digits: &[u8]) -> bool
 
 /// `None` if the port isn't as `url` writes it, or is the scheme's default port, `own`.
 fn after_port(own: u16, text: &[u8]) -> Option<&[u8]>
-    ensures some { IfSome result (λ rest. Leaves (IsPort own) text.now rest.now) }
-    ensures whole { (rest : List ℕ) → EndsSite rest → Leaves (IsPort own) text.now rest
-        → IsSomeAnd result (λ found. found.now ≡ rest) }
+    ensures { IfSome result (λ rest. Leaves (IsPort own) text.now rest.now) }
 {
     let [b':', following @ ..] = text else {
         return Some(text);
@@ -156,9 +154,7 @@ fn after_port(own: u16, text: &[u8]) -> Option<&[u8]>
 
 #[inline(always)]
 fn after_authority(own: u16, text: &[u8]) -> Option<&[u8]>
-    ensures some { IfSome result (λ rest. Leaves (IsAuthority own) text.now rest.now) }
-    ensures whole { (rest : List ℕ) → EndsSite rest → Leaves (IsAuthority own) text.now rest
-        → IsSomeAnd result (λ found. found.now ≡ rest) }
+    ensures { IfSome result (λ rest. Leaves (IsAuthority own) text.now rest.now) }
 {
     let (host, rest) = split(NAME, text);
     if begins_with_letter(last_label(host)) {
@@ -169,9 +165,7 @@ fn after_authority(own: u16, text: &[u8]) -> Option<&[u8]>
 }
 
 fn after_site(url: &[u8]) -> Option<&[u8]>
-    ensures some { IfSome result (λ rest. Leaves IsSite url.now rest.now) }
-    ensures whole { (rest : List ℕ) → EndsSite rest → Leaves IsSite url.now rest
-        → IsSomeAnd result (λ found. found.now ≡ rest) }
+    ensures { IfSome result (λ rest. Leaves IsSite url.now rest.now) }
 {
     match url.strip_prefix(b"https://") {
         Some(authority) => after_authority(443, authority),
@@ -210,10 +204,10 @@ fn begins_dotted(text: &[u8]) -> bool
     }
 }
 
-/// Skips leading segments of a path that begin with neither a dot nor an escape. What follows the path stays the same.
+/// Skips leading segments of a path that begin with neither a dot nor an escape.
 #[inline(always)]
 fn after_plain(text: &[u8]) -> &[u8]
-    ensures passed { past_path text.now ≡ past_path result.now }
+    ensures passed { Leaves IsPath text.now result.now }
     ensures within { length result.now ≤ length text.now }
 {
     let [b'/', following @ ..] = text else {
@@ -234,7 +228,7 @@ fn after_plain(text: &[u8]) -> &[u8]
 
 /// What follows a path, or `None` if a segment of it is `.` or `..`, where each dot may be escaped.
 fn after_path(text: &[u8]) -> Option<&[u8]>
-    ensures { past_path text.now ≡ option_map (λ rest. rest.now) result }
+    ensures { IfSome result (λ rest. Leaves IsPath text.now rest.now) }
 {
     let mut rest = after_plain(text);
     while let [b'/', following @ ..] = rest {
@@ -265,7 +259,7 @@ fn after_delimited<'a>(delimiter: u8, part: &[u8; 16], text: &'a [u8]) -> &'a [u
 }
 
 fn is_target(text: &[u8]) -> bool
-    ensures { IsTrue result ↔ IsTarget text.now }
+    ensures { IsTrue result → IsTarget text.now }
 {
     let Some(query) = after_path(text) else {
         return false;
@@ -275,10 +269,9 @@ fn is_target(text: &[u8]) -> bool
 }
 
 /// The match target of a URL that `url` would leave unchanged, or of which only the slash of the path is
-/// missing.
+/// missing. `None` says nothing about the URL; that it isn't returned for usual ones is tested.
 pub(crate) fn borrowed_target(url: &str) -> Option<&str>
-    ensures text { IfSome result (λ target. target.now ≡ prepared url.now) }
-    ensures plain { IsNormalizedUrl url.now → IsSome result }
+    ensures { IfSome result (λ target. target.now ≡ prepared url.now) }
 {
     let target = after_site(url.as_bytes())?;
     match target {

@@ -1,7 +1,6 @@
 //! Match targets: what patterns are compared with.
-ghost use Rattle.std.specs.Prelude.{◌≡◌, IfOk, IsOk, string_bytes};
+ghost use Rattle.std.specs.Prelude.{◌≡◌, IfOk, string_bytes};
 ghost use Rattle.std.specs.Cow.{cow_str_bytes};
-ghost use Rattle.texting_robots.specs.AllocationFree.{IsAllocationFree};
 ghost use Rattle.texting_robots.specs.Prepared.{prepared, target_of};
 
 use crate::escape::escaped;
@@ -13,8 +12,7 @@ use url::{ParseError, Position, Url};
 /// The match target. It is borrowed for a path in which no byte is escaped, and for a URL that
 /// [`borrowed_target`] accepts. A string that begins with a slash isn't a URL, so it isn't parsed.
 pub(crate) fn prepare<'a>(alloc: Global, url: &'a str) -> Result<CowStr<'a, Global>, AllocError>
-    ensures ok { IfOk result (λ text. cow_str_bytes text ≡ prepared url.now) }
-    ensures without_memory { IsAllocationFree url.now → IsOk result }
+    ensures { IfOk result (λ text. cow_str_bytes text ≡ prepared url.now) }
 {
     if url.is_empty() {
         return Ok(CowStr::Borrowed("/"));

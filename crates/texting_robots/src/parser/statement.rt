@@ -185,6 +185,7 @@ fn holds_hash_among(bytes: &[u8]) -> bool
 }
 
 /// The first and the last `N` bytes, which may overlap.
+#[tactic(auto, using(crate::proofs::LabelLemmas::either_end, crate::proofs::LabelLemmas::front_tells))]
 #[inline(always)]
 fn ends_hold_hash<const N: usize>(text: &[u8]) -> bool
     requires { (N ≤ length text.now) × (length text.now ≤ N + N) }
@@ -194,6 +195,7 @@ fn ends_hold_hash<const N: usize>(text: &[u8]) -> bool
 }
 
 /// Eight to 32 bytes are tested as two parts of equal length.
+#[tactic(auto, using(crate::proofs::LabelLemmas::some_found))]
 fn holds_hash(text: &[u8]) -> bool
     ensures { result ≡ list_any (λ byte. byte == hash) text.now }
 {
@@ -237,6 +239,7 @@ fn trimmed_by_chars<'a>(text: &'a [u8]) -> &'a [u8]
 }
 
 /// Nothing is decoded if the first and last bytes are visible ASCII characters.
+#[tactic(auto, using(crate::proofs::TrimLemmas::graphic_ends))]
 fn trimmed<'a>(text: &'a [u8]) -> &'a [u8]
     ensures { result.now ≡ trimmed text.now }
 {

@@ -8,8 +8,8 @@ number_of-requires c =
     line_below c.args.robot.now.rules (prepared c.args.url.now) c.in_ok-decision.decision.line c.requires
     c.in_ok-decision.ensures.line
 
-pub returns-clause-number : goal.returns-clause-number
-returns-clause-number c =
+pub returns : goal.returns
+returns c =
     written_says c.args.robot.now.rules (prepared c.args.url.now) _ _ c.requires
     c.in_ok-decision.ensures.verdict
     c.in_ok-decision.ensures.line _ c.number_of.ensures (search rules)

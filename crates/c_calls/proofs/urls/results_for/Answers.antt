@@ -17,7 +17,7 @@ loop-url-preserved c =
     c.next.ensures.steps in
     let fits : SFits w64 c.in_ok-number_for.field-0 = search rules in
     rw (c.in_ok-push.ensures.items, to_z-of_z w64 c.in_ok-number_for.field-0 fits, length_push)
-    (one_more _ _ _ _ _ _ here c.loop-url.invariant c.in_ok-number_for.ensures.number)
+    (one_more _ _ _ _ _ _ here c.loop-url.invariant c.in_ok-number_for.ensures)
 
 pub returns : goal.returns
 returns c =

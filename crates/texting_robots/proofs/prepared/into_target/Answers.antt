@@ -1,6 +1,6 @@
 use Rattle.std.proofs.Common.{ap, arith, drop_at, length, length-append, ◌∙◌, ◌≡◌, ◌-◌, drop}
 use Rattle.url.specs.{Parts.text_before, declared.slicing.Position.TheVariants.BeforePath}
-use Rattle.texting_robots.{specs.Prepared.target_of, proofs.AllocationFreeLemmas.target_last}
+use Rattle.texting_robots.{specs.Prepared.target_of, proofs.PreparedLemmas.target_last}
 use Rattle.texting_robots.proofs.prepared.into_target.Goals as goal
 
 pub returns : goal.returns

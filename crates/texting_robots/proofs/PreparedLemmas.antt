@@ -1,4 +1,4 @@
--- Strings for which no match target is allocated: URLs in normal form, and others.
+-- Match targets: of URLs in normal form, and of strings that can't be parsed as URLs.
 use Rattle.std.specs.Prelude.{reverse}
 use Rattle.std.proofs.Common.{◌≡◌, ℕ, ◌<◌, ◌&&◌, ◌||◌, ◌==◌, Bool, true, false, not, List, [], ◌∷◌, ◌++◌, All}
 use Rattle.std.proofs.Common.{IfSome, None, Ok, Option, Some, codes, decimal, drop, get_or, length, sym, refl}
@@ -34,11 +34,10 @@ use Rattle.url.proofs.InputLemmas.{All_from_list_all, IsNot, Passes, StopsAt, fi
 use Rattle.url.proofs.InputLemmas.{lowercase_other, map_fixed, prefix_len_at, prefix_len_is, split_once_none}
 use Rattle.texting_robots.specs.Prepared.{with_delimiter, prepared, target_of}
 use Rattle.texting_robots.specs.declared.normalized.TheConstants.{FRAGMENT as TAIL, QUERY}
-use Rattle.texting_robots.specs.AllocationFree.{IsAuthority, IsDelimited, IsName, IsPath, IsSite, IsTarget}
-use Rattle.texting_robots.specs.{Internal.Normalized.EndsPath, Escape.escaped}
-use Rattle.texting_robots.specs.Internal.Normalized.{Leaves, after_delimited, kept_prefix, past_path, is_kept}
-use Rattle.texting_robots.proofs.NormalizedLemmas.{after_at, kept_all, kept_but, not_ended, path_left}
-use Rattle.texting_robots.proofs.NormalizedLemmas.{occurs_all}
+use Rattle.texting_robots.specs.Internal.Normalized.{IsAuthority, IsDelimited, IsName, IsPath, IsSite}
+use Rattle.texting_robots.specs.Internal.Normalized.{IsTarget, Leaves, after_delimited, kept_prefix, is_kept}
+use Rattle.texting_robots.specs.Escape.{escaped}
+use Rattle.texting_robots.proofs.NormalizedLemmas.{kept_all, kept_but}
 
 -- ---- How `url` parses an absolute URL in normal form
 
@@ -59,16 +58,6 @@ module _ (delimiter : ℕ) (part : List ℕ) (set : AsciiSet)
         ),
       ))
       (grind arith) (cases_Bool (b == delimiter))
-
-  pub labeled_left : (text rest : List ℕ) → IsDelimited (delimiter ∷ []) set text
-      → StopsAt (is_kept part) rest
-      → after_delimited delimiter part rest ≡ rest → after_delimited delimiter part (text ++ rest) ≡ rest
-  labeled_left text rest (None, written, kept) stops stays = grind arith
-  labeled_left text rest (Some inside, written, kept) stops stays =
-      let stand = occurs_all part set (λ x. false) same inside kept (λ k d below. refl) in
-      ap (λ t. after_delimited delimiter part (t ++ rest)) written
-      ∙ cond-true (delimiter == delimiter) _ _ (grind (arith, nat_tests))
-      ∙ after_at part inside rest stand stops
 
 no_number : (label : List ℕ) → is_ascii_lowercase (slice_index label 0) ≡ true
     → (not (is_empty label) && list_all is_ascii_digit label || is_number (parse_number label))
@@ -277,35 +266,19 @@ prepared_alone front is_site =
     let long : 0 < length front = grind (arith, length-append) in
     prepared_parsed front (alone front site) long (alone_parsed front site)
 
-module _ (target : List ℕ) (is : IsTarget target) where
-  tail_ends : EndsPath (is.query ++ is.fragment)
-  tail_ends = grind arith
+no_slash : (query fragment : Option (List ℕ))
+    → get_or (with_delimiter (codes "?") query ++ with_delimiter (codes "#") fragment) 0 0 ≢ 47
+no_slash None None = λ slash. absurd (omega arith)
+no_slash None (Some part) = λ slash. absurd (omega arith)
+no_slash (Some part) fragment = λ slash. absurd (omega arith)
 
-  pub target_past : past_path target ≡ Some (is.query ++ is.fragment)
-  target_past = grind (arith, path_left, tail_ends)
-
-  pub tail_left : after_delimited 35 TAIL.now (after_delimited 63 QUERY.now (is.query ++ is.fragment)) ≡ []
-  unfolding is_kept should_percent_encode
-  tail_left =
-      let (stop, stay) = stops is.is_fragment.0 is.is_fragment.1 in
-      cc (
-        labeled_left 63 QUERY.now SPECIAL_QUERY refl is.query is.fragment is.is_query stop stay,
-        append-nil is.fragment,
-        labeled_left 35 TAIL.now FRAGMENT refl is.fragment [] is.is_fragment tt refl,
-      )
-    where
-      stops : (part : Option (List ℕ)) → is.fragment ≡ with_delimiter (codes "#") part
-          → StopsAt (is_kept QUERY.now) is.fragment
-          × (after_delimited 63 QUERY.now is.fragment ≡ is.fragment)
-      stops None written = rw written (tt, refl)
-      stops (Some part) written = rw written (refl, refl)
-
-  pub path_some : get_or target 0 0 ≡ 47 → 0 < length is.path
-  path_some slash = by is.path is.assembled
-    where
-      by : (path : List ℕ) → target ≡ path ++ (is.query ++ is.fragment) → 0 < length path
-      by [] same = absurd (not_ended target slash (subst EndsPath (sym same) tail_ends))
-      by (b ∷ path) same = omega arith
+pub path_some : (target : List ℕ) → get_or target 0 0 ≡ 47 → (is : IsTarget target) → 0 < length is.path
+path_some target slash is = by is.path is.assembled
+  where
+    by : (path : List ℕ) → target ≡ path ++ (is.query ++ is.fragment) → 0 < length path
+    by [] same = absurd (no_slash is.is_query.0 is.is_fragment.0
+        (sym (ap (λ t. get_or t 0 0) (same ∙ (λ i. is.is_query.1 i ++ is.is_fragment.1 i))) ∙ slash))
+    by (b ∷ path) same = omega arith
 
 pub target_read : (target tail rest end : List ℕ) → Leaves IsPath target tail
     → rest ≡ after_delimited 63 QUERY.now tail → end ≡ after_delimited 35 TAIL.now rest → end ≡ []
