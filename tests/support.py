@@ -1,4 +1,4 @@
-"""What the tests share: running a program, the messages in tests/warnings.toml, and the notation of golden cases."""
+"""What the tests share: running a program, the messages in tests/warnings.txt, and the notation of golden cases."""
 
 import json
 import os
@@ -82,11 +82,33 @@ IGNORING = ["AdsBot-Google", "AdsBot-Google-Mobile", "APIs-Google", "Mediapartne
 STILL_OPEN = f"; but crawlers that obey only a group with their own name may fetch all: {', '.join(IGNORING[:3])} and 4 more"
 
 
+# what the program says in many golden cases
+PHRASES = {
+    "everyone": "group: everyone (no User-agent line is read; all rules are applied)",
+    "star": "group: * (Ferris has no group of its own)",
+    "none": "group: none (no group for Ferris or *; everything is allowed)",
+    "no group": "crawler *: no group, may fetch everything",
+    "ignores": "; but it ignores the group *, and obeys only one with its own name, so it may fetch all: the verdicts are the file's, not the crawler's",
+    "vendor": "; but its vendor applies another group, whose verdicts may differ",
+    "same": "same group, delay and rules as read here, so the same verdicts",
+    "empty": "but where an empty Disallow is no rule, as for RFC 9309 and Google,",
+    "long": "a pattern with $ longer than 4,096 bytes isn't supported; shorten it",
+    "token": "a crawler's name is a product token without a version, such as Googlebot",
+    "url": "this is neither a path that starts with / nor a valid http:// or https:// URL",
+    "word": "this is neither a path that starts with / nor a URL; for a crawler, write --agent NAME, for a file of URLs --urls FILE, for a level --strict=LEVEL",
+    "segment": "URL has a . or .. segment or a #, which crawlers resolve or drop; write the path that they ask for",
+    "space": "white space in a URL; write it as %20, and another URL or a comment on a line of its own",
+    "usage": "usage: robots_audit [OPTIONS] FILE [URL]..",
+}
+
+
 def spelled(text):
-    r"""The bytes that a golden case means: \\ is a backslash, \r CR, \xHH a byte, \{N TEXT} N times the TEXT, \* who may fetch what is
-    denied to *, \i their names in JSON, and \v what --version says of proofs."""
-    escapes = {b"\\": b"\\", b"r": b"\r", b"*": STILL_OPEN.encode(), b"i": json.dumps(IGNORING, separators=(",", ":")).encode(), b"v": PROOF.encode()}
-    return re.sub(rb"\\(?:x([0-9A-F]{2})|(.?))", lambda it: bytes.fromhex(it[1].decode()) if it[1] else escapes[it[2]], repeated(text).encode())
+    r"""The bytes that a golden case means: \\ is a backslash, \r CR, \xHH a byte, \{N TEXT} N times the TEXT, \[NAME] a phrase, \* who may
+    fetch what is denied to *, \i their names in JSON, and \v what --version says of proofs."""
+    escapes = {"\\": "\\", "r": "\r", "*": STILL_OPEN, "i": json.dumps(IGNORING, separators=(",", ":")), "v": PROOF}
+    escapes |= {f"[{name}]": phrase for name, phrase in PHRASES.items()}
+    found = re.compile(rb"\\(?:x([0-9A-F]{2})|(\[[^]]+\]|.?))")
+    return found.sub(lambda it: bytes.fromhex(it[1].decode()) if it[1] else escapes[it[2].decode()].encode(), repeated(text).encode())
 
 
 def tables(document):
@@ -100,8 +122,8 @@ def shown(document):
     return "".join(line[4:] + "\n" for line in document.splitlines() if line.startswith("    "))
 
 
-# each warning in the order of the program's list
-ALL_WARNINGS = tomllib.loads((ROOT / "tests/warnings.toml").read_text())["warning"]
+# each warning in the order of the program's list, of which tests/warnings.txt is the approved output
+ALL_WARNINGS = [re.fullmatch(r"(?P<level>\w+) (?P<name>[a-z0-9-]+): (?P<text>.*)", it).groupdict() for it in (ROOT / "tests/warnings.txt").read_text().splitlines()]
 
 # the levels and messages of each warning by its name
 WARNINGS = {}
@@ -123,11 +145,10 @@ WORDS = {"space", "comma", "tag", "invisible", "=", "??", "nothing"}  # each in 
 
 
 def level_and_text(name, detail=""):
-    """The level and message of a warning. Its detail is, if that depends on the size, that the file is too `large`, of some after the line of another one; the field name that may be meant; the level of one before the last; a word of its
-    message; how many rules it is about; the line of another rule; the kind of a needless rule, possibly with such a line; the name of a
-    crawler that may be meant, possibly after a name in quotes and `warning`; the name of one of several crawlers, in quotes, and that of the group that
-    its vendor applies, if it isn't Googlebot; of `closes-everything` and `closes-home-page` the level, such a name, and how many other crawlers there are, if
-    there are some; or else the URL that the warning is about."""
+    """The level and message of a warning. Its detail is the level; a word of its message; the field name or crawler that may be meant,
+    possibly after a name in quotes and `warning`; how many rules it is about; the line of another rule, possibly before `large` for a
+    large file; the kind of a needless rule, possibly with such a line; the name of one of several crawlers, in quotes, and that of the
+    group that its vendor applies, or how many others are closed out; or else the URL that the warning is about."""
     if name == "needless-rule":
         kind, _, other = detail.partition(" ")
         level, text = WARNINGS[name][NEEDLESS.index(kind)]
@@ -212,9 +233,8 @@ def together(lines):
 
 
 def warning_lines(warnings, file="robots.txt", agent=None, seeks_needless=False):
-    """The lines for such warnings, by line and level: those about needless rules are one; those with one message are one, and a note may
-    name another crawler or URL; of each name and level the first twenty, and how many more there are; and how many of each level there
-    are, in how many messages, and, in a report on one crawler, that rules of others aren't checked, or for being needless alone."""
+    """The lines for such warnings, by line and level, those with one message as one; of each name and level the first twenty, and how many
+    more there are; and how many of each level, in how many messages, and what of other crawlers' rules isn't checked."""
     joined, met = [], {}
     ordered = sorted(warnings, key=order_of)
     needless = [int(line) for line, name, *_ in map(parts_of, ordered) if name == "needless-rule"]
@@ -257,16 +277,29 @@ def files_beside(case):
     return {f"{key}.txt": spelled(case[key]) for key in ("expect", "old") if key in case}
 
 
+def rows_of(table, columns):
+    """The cases of a table of `[[rows]]`, each with its own keys: those of the table, and the cells of a row, whose keys `columns` names."""
+    keys = {key: value for key, value in table.items() if key not in ("columns", "cases")}
+    for row in table["cases"].splitlines():
+        case = dict(keys)
+        for key, cell in zip(table.get("columns", columns).split(), row.split(" | ")):
+            if cell or key == "name":
+                cell = "" if cell == "-" else cell.replace("⏎", "\n")
+                case[key] = str(keys.get(key, "{}")).replace("{}", cell) if "{}" in str(keys.get(key, "{}")) else cell
+        yield case.pop("name").removesuffix(": "), case | ({"status": int(case["status"])} if "status" in case else {})
+
+
 def cases_of(text):
     """The cases of a file by name, each with all its keys: its own, those of the case that it is `like`, and the file's defaults."""
     tables = tomllib.loads(text)
-    defaults = {key: value for key, value in tables.items() if not isinstance(value, dict)}
+    defaults = {key: value for key, value in tables.items() if isinstance(value, (bool, int, str))}
+    columns = defaults.pop("columns", "")
+    given = [row for table in tables.pop("rows", []) for row in rows_of(table, columns)]
+    given += [(name, it) for name, it in tables.items() if isinstance(it, dict)]
     cases = {}
-    for name, own in tables.items():
-        if not isinstance(own, dict):
-            continue
+    for name, own in given:
         case = {**(cases[own["like"]] if "like" in own else defaults), **own}
-        assert case.keys() <= KEYS, f"{name}: unknown keys {case.keys() - KEYS}"
+        assert name not in cases and case.keys() <= KEYS, f"{name}: {case.keys() - KEYS}"
         if "more" in own:
             case["out"] += "\n" + case.pop("more")
         cases[name] = case
@@ -304,8 +337,8 @@ def with_texts(out):
 def standard_lines(words):
     """What a text report says of a file by RFC 9309; `words` are those of the key `rfc`."""
     kind, _, line = words.partition(" ")
-    if kind == "line":
-        return f"not RFC 9309 syntax, first at line {line}"
+    if kind.isdecimal():
+        return f"not RFC 9309 syntax, first at line {kind}"
     return f"RFC 9309 syntax; verdicts may differ from RFC 9309's: line {line}" if kind == "syntax" else VERDICTS
 
 

@@ -12,7 +12,7 @@ import tempfile
 from itertools import count
 
 import pytest
-from support import CRATES, FORMATS, ROOT, SIZES, Result, run, warning_lines
+from support import CRATES, FORMATS, PHRASES, ROOT, SIZES, Result, run, warning_lines
 
 CALLS = [line.removesuffix(": right") for line in (CRATES / "texting_robots_tests/stdout").read_text().splitlines()]
 WITHOUT_MEMORY = [name for name in CALLS if name.endswith(" without memory")]
@@ -298,7 +298,7 @@ def test_no_size_is_out_of_memory(what):
         assert (as_json.status, len(json.loads(as_json.out)["agents"][0]["verdicts"])) == (1, len(urls)), (size, as_json.err)
 
 
-DENIED = "group: everyone (no User-agent line is read; all rules are applied)\ndelay: none\ndeny 1 /b\n"
+DENIED = PHRASES["everyone"] + "\ndelay: none\ndeny 1 /b\n"
 OTHER = "not RFC 9309 syntax, first at line 1\n"
 
 
@@ -348,11 +348,11 @@ OF_AN_AUDIT = {
     "the name of a missing older file": lambda size: (["--compare", "a" * size, "-"], "", unread("a" * size)),
     "a name that no crawler has": lambda size: (
         ["--agent", "%" * size, "-"], "",
-        error(f"{'%' * size}: a crawler's name is a product token without a version, such as Googlebot"),
+        error(f"{'%' * size}: {PHRASES['token']}"),
     ),
     "neither a path nor a URL": lambda size: (
         ["-", "b" * size], "",
-        error(f"{'b' * size}: this is neither a path that starts with / nor a URL; for a crawler, write --agent NAME, for a file of URLs --urls FILE, for a level --strict=LEVEL"),
+        error(f"{'b' * size}: {PHRASES['word']}"),
     ),
 }  # fmt: skip
 

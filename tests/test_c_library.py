@@ -10,7 +10,6 @@ import shutil
 import subprocess
 import sys
 from decimal import Decimal
-from itertools import chain, product
 from pathlib import Path
 
 import pytest
@@ -35,78 +34,6 @@ def test_called_from_c(objects, tmp_path, sanitizers):
     failed = [line for line in result.out.splitlines() if line.endswith("FAILED")]
     assert (result.status, failed, result.err) == (0, [], "")
     assert re.search(r"^[1-9]\d* passed, 0 failed$", result.out.splitlines()[-1])
-
-
-def test_outputs_may_be_uninitialized(objects, tmp_path):
-    """memcheck reports each decision on a value that nothing wrote, and each block that stays allocated."""
-    if not shutil.which("valgrind"):
-        pytest.skip("valgrind is missing")
-    (tmp_path / "outputs.c").write_text(OUTPUTS)
-    program = compiled(tmp_path / "outputs", *STRICT, "-g", "-Wno-maybe-uninitialized", tmp_path / "outputs.c", *objects)
-    words = ["-q", "--error-exitcode=9", "--leak-check=full", "--errors-for-leak-kinds=all", program]
-    assert run(Path(shutil.which("valgrind")), words) == Result(0, b"", b"")
-
-
-OUTPUTS = r"""
-#include "robots.h"
-#include <stdlib.h>
-#define FILE_OF(text) (text), sizeof(text) - 1
-#define FILE FILE_OF("User-agent: *\nDisallow: /a\nCrawl-delay: 1\nSitemap: b")
-/* The sum decides the status: each value was written by a call. */
-static int wrong;
-static void is(int64_t value, int64_t wanted) { wrong += value != wanted; }
-int main(void) {
-    robots_robot *robot, *own;
-    robots_site *site;
-    int64_t result, *results = malloc(4 * sizeof *results);
-    uint64_t delay;
-    size_t line, len;
-    char *out = malloc(64);
-    if (!results || !out)
-        return 2;
-    is(robots_open("Bot", 3, FILE, &robot, &line), ROBOTS_OK);
-    is(robots_query(robot, "/a", 2, &result), ROBOTS_OK);
-    is(result, -2);
-    is(robots_query(robot, "/\xC3\xA9", 3, &result), ROBOTS_OK);
-    is(robots_query_many(robot, "/a\n/\xC3\xA9", 6, results, 4), ROBOTS_OK);
-    is(results[0] + results[1], -2);
-    is(robots_query_within(robot, "/a", 2, 9, &result), ROBOTS_OK);
-    is(result, -2);
-    is(robots_query_delay(robot, &delay), ROBOTS_OK);
-    is((int64_t)delay, 1000000);
-    is(robots_bytes(robot) > 64, 1);
-    free(results);
-    results = malloc(4 * sizeof *results);
-    is(robots_query_batch(robot, "/a/b", 4, (size_t[]){2, 4}, 2, results), ROBOTS_OK);
-    is(results[0] + results[1], -2);
-    robots_close(robot);
-    is(robots_site_open(FILE, &site), ROBOTS_OK);
-    is(robots_site_robot(site, "Bot", 3, &own, &line), ROBOTS_OK);
-    is(robots_site_bytes(site) > 64, 1);
-    robots_close(own);
-    free(results);
-    results = malloc(4 * sizeof *results);
-    is(robots_site_matrix(site, "A\nB", 3, "/a", 2, results, 4), ROBOTS_OK);
-    is(results[0] + results[1], -4);
-    is(robots_site_matrix(site, "A\nB", 3, "/a\n/b\n/c", 8, results, 4), ROBOTS_BUFFER_TOO_SMALL);
-    is(robots_site_delay(site, "Bot", 3, &delay), ROBOTS_OK);
-    is(robots_site_sitemaps(site, out, 64, &len), ROBOTS_OK);
-    is((int64_t)len + out[0] + out[1], 2 + 'b' + '\n');
-    is(robots_site_agents(site, out, 1, &len), ROBOTS_BUFFER_TOO_SMALL);
-    is((int64_t)len, 2);
-    is(robots_site_agents(site, out, 64, &len), ROBOTS_OK);
-    robots_site_close(site);
-    free(results);
-    results = malloc(4 * sizeof *results);
-    is(robots_decide("Bot", 3, FILE, "/a\n/b", 5, results, 4, &line), ROBOTS_OK);
-    is(results[0] + results[1], -2);
-    is(robots_address(FILE_OF("https://example.com/a"), out, 64, &len), ROBOTS_OK);
-    is(robots_address("mailto:a", 8, out, 64, &len), ROBOTS_NO_ADDRESS);
-    free(results);
-    free(out);
-    return wrong;
-}
-"""
 
 
 # ---- packaged by bindings/c/Makefile
@@ -197,22 +124,6 @@ def test_program_with_the_installed_library(request, tmp_path, folder, linked):
     assert run(ask, ["Ferris", "/a"], b"Disallow: /a") == Result(1, b"delay none\ndeny 1 /a\n", b"")
 
 
-def test_installed_files_for_cmake(installed):
-    """What they name is installed: the archive and the shared object below the folder two above theirs, the header, and the version."""
-    folder = installed / "lib/cmake/robots_c"
-    config, version = ((folder / f"robots_c{name}.cmake").read_text() for name in ("Config", "ConfigVersion"))
-    folders = {name: folder / way for name, way in re.findall(r'get_filename_component\((robots_c_\w+dir) "\$\{robots_c_folder\}/([^"]+)" ABSOLUTE\)', config)}
-    targets = dict(re.findall(r"add_library\((robots_c::\w+) (STATIC|SHARED) IMPORTED\)", config))
-    places = dict(re.findall(r'set_target_properties\((robots_c::\w+) PROPERTIES\s+IMPORTED_LOCATION "\$\{robots_c_libdir\}/([^"]+)"', config))
-    assert targets == {"robots_c::robots_c": "STATIC", "robots_c::shared": "SHARED"}
-    assert places == {"robots_c::robots_c": "librobots_c.a", "robots_c::shared": "librobots_c.so"}
-    assert all((folders["robots_c_libdir"] / name).is_file() for name in places.values())
-    headers = re.findall(r'INTERFACE_INCLUDE_DIRECTORIES "\$\{(\w+)\}"', config)
-    assert len(headers) == 2 and all((folders[it] / "robots.h").is_file() for it in headers)
-    text = re.search(r'ROBOTS_VERSION_TEXT "(.*)"', (LIBRARY / "robots.h").read_text())[1]
-    assert re.findall(r"\d+\.\d+\.\d+", version) == [text, text] and "PACKAGE_FIND_VERSION VERSION_GREATER PACKAGE_VERSION" in version
-
-
 CMAKE = """
 cmake_minimum_required(VERSION 3.10)
 project(caller C)
@@ -246,8 +157,6 @@ def test_texts_of_statuses(robots):
     texts = {numbers[name]: text for name, text in re.findall(r'case (ROBOTS_\w+): return "([^"]*)";', source)}
     assert sorted(texts) == sorted(numbers.values()) == [*range(-8, 1)]
     assert [texts[-number] for number in range(6)] == robots.TEXTS
-    names = dict(NOT_UTF8="isn't UTF-8", OUT_OF_MEMORY="out of memory", BUFFER_TOO_SMALL="too small", NO_DELAY="no delay", NO_ADDRESS="no robots.txt", OVERLONG_RULE="too long", INVALID_ENDS="invalid", TOO_COSTLY="too costly")
-    assert all(text in texts[numbers[f"ROBOTS_{name}"]] for name, text in names.items())
 
 
 def test_each_status_has_to_be_used():
@@ -255,36 +164,6 @@ def test_each_status_has_to_be_used():
     header = re.sub(r"/\*.*?\*/", "", (LIBRARY / "robots.h").read_text(), flags=re.S)
     declared = re.findall(r"^(ROBOTS_CHECK )?int32_t (robots_\w+)\(", header, re.M)
     assert len(declared) >= 15 and [name for check, name in declared if not check] == []
-
-
-def test_place_of_a_result_in_the_matrix(robots):
-    """As the comment of robots_site_matrix says."""
-    place = re.search(r"the result of crawler i for URL j is results\[(.*?)\], counted from 0", (LIBRARY / "robots.h").read_text())[1]
-    agents, urls, out = ["a", "b"], ["/a", "/b", "/c"], (ctypes.c_int64 * 6)()
-    file = b"User-agent: a\nDisallow: /b\nUser-agent: b\nDisallow: /c\nAllow: /a"
-    with robots.Site(file) as site:
-        assert robots.library.robots_site_matrix(site.handle, *robots.joined(agents), *robots.joined(urls), out, 6) == robots.OK
-    for i, agent in enumerate(agents):
-        assert [out[eval(place, {"i": i, "j": j, "URLs": len(urls)})] for j in range(3)] == robots.decide(agent, file, urls)
-
-
-def test_another_allocator(objects, installed, tmp_path):
-    source = tmp_path / "heap.c"
-    source.write_text(HEAP)
-    ask = compiled(tmp_path / "ask", *STRICT, source, "examples/ask.c", installed / "lib/librobots_c.a")
-    assert run(ask, ["Ferris", "/a"], b"Disallow: /a") == Result(2, b"", b"ask: out of memory\n")
-
-
-HEAP = """
-#include <stddef.h>
-struct tried { _Bool worked; void *block; };
-static char nothing;
-struct tried rattle_alloc(size_t length, size_t alignment) { return (void)length, (void)alignment, (struct tried){0, &nothing}; }
-struct tried rattle_realloc(void *block, size_t used, size_t length, size_t alignment) {
-    return (void)block, (void)used, rattle_alloc(length, alignment);
-}
-void rattle_dealloc(void *block) { (void)block; }
-"""
 
 
 FILE = (
@@ -318,14 +197,6 @@ def test_python_verdicts(robots):
         assert [robot.query(url) for url in URLS] == robot.query_many(URLS) == VERDICTS
         assert robot.delay() == robots.delay("Bot", FILE) == 2_500_000
         assert status_of(robots, robot.query, b"\xff") == (robots.NOT_UTF8, 0)
-
-
-def test_small_rules_match_themselves(robots):
-    """Each text of at most six bytes out of /, a, * and $. A pattern without `$` matches itself, since a star matches a star, and an
-    empty Disallow allows."""
-    for text in map("".join, chain(*(product("/a*$", repeat=length) for length in range(7)))):
-        verdicts = robots.decide("Bot", f"Disallow: {text}".encode(), [text])
-        assert "$" in text or verdicts == [-1 if text else 1]
 
 
 def test_python_texts(robots):

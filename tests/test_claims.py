@@ -1,6 +1,5 @@
 """What documents claim: a sentence, an item or a row of a table with the word "proved" names, in backticks, a theorem, a contract or a
-specification that says it, or `rt check`, which proves every function; one with the word "tested" names tests. As a program, this lists the
-claims with these names: python3 tests/test_claims.py"""
+specification that says it, or `rt check`, which proves every function; one with the word "tested" names tests."""
 
 import re
 
@@ -49,9 +48,3 @@ def test_claims_name_what_shows_them(name):
 def test_claims_are_seen():
     text = "No claim.\n\nIt is proved. It is tested (`tests/wild`).\n\n| A | Proved |\n|---|---|\n| `Robot::new` | b |\n"
     assert [names for _, _, names in claims(text)] == [[], ["tests/wild"], ["Robot::new"]]
-
-
-if __name__ == "__main__":
-    for page, text in PAGES.items():
-        for part, claim, names in claims(text):
-            print(f"{page}: {part}\n    {claim}: {', '.join(names) or 'nothing'}")

@@ -6,7 +6,7 @@ import random
 import re
 
 import pytest
-from support import run
+from support import PHRASES, run
 
 OLD = b"""User-agent: *
 Disallow: /search
@@ -43,16 +43,14 @@ crawler *: + Disallow: /products (line 3)
 crawler *: verdicts change, for example /products: allow -> deny 3
 """
 
-USAGE = "usage: robots_audit [OPTIONS] FILE [URL].."
-SAME_TEXT = "same group, delay and rules as read here, so the same verdicts\n"
+USAGE = PHRASES["usage"]
+SAME_TEXT = PHRASES["same"] + "\n"
 NOTHING = f"crawler Ferris: {SAME_TEXT}"
 ALL = f"all compared crawlers: {SAME_TEXT}"
 OTHERS = f"crawler GPTBot: {SAME_TEXT}"
-NAME = "a crawler's name is a product token without a version, such as Googlebot"
-URL = "this is neither a path that starts with / nor a valid http:// or https:// URL"
-MAYBE = "this is neither a path that starts with / nor a URL; for a crawler, write --agent NAME, for a file of URLs --urls FILE, for a level --strict=LEVEL"
+NAME, URL, MAYBE = (PHRASES[it] for it in ("token", "url", "word"))
 TOO_LONG = b"User-agent: *\nDisallow: /" + b"x" * 4096 + b"$\n"
-REASON = "a pattern with $ longer than 4,096 bytes isn't supported; shorten it\n"
+REASON = PHRASES["long"] + "\n"
 
 def compare(folder, old, new, *words, file="-"):
     """The result for two files."""
@@ -93,12 +91,6 @@ crawler Googlebot /cart: allow -> deny 6, closed
 crawler Googlebot https://shop.example/search/milk: deny 2 -> allow, opened
 """
     assert reported(compare(tmp_path, OLD, NEW, "--urls", "list.txt", "--agent=Googlebot", "/search/tea")) == (1, GOOGLEBOT + lines, "")
-
-
-@pytest.mark.parametrize("text, why", [(b"# none\n", "list.txt: there are no URLs"), (b"/a\n\xff\n", "list.txt:2: the line isn't valid UTF-8"), (b"/a\ntea\n", f"list.txt:2: {URL}")], ids=["no URL", "not UTF-8", "neither a path nor a URL"])
-def test_file_of_urls_that_is_none(tmp_path, text, why):
-    (tmp_path / "list.txt").write_bytes(text)
-    assert outcome(for_ferris(tmp_path, OLD, NEW, "--urls", "list.txt")) == (2, "", f"robots_audit: {why}\n")
 
 
 def test_urls_from_standard_input(tmp_path):
@@ -236,25 +228,6 @@ def test_rules_by_chance(tmp_path):
             assert (is_allowed(before, path) == is_allowed(after, path)) is not bool(example), (before, after, path)
 
 
-NOT_ROBOTS = {
-    "a page": (b"\n <!doctype html>\n<p>not found</p>", "this looks like HTML, not like a robots.txt file"),
-    "UTF-16": (b"\xff\xfe" + "Disallow: /a".encode("utf-16-le"), "this looks like UTF-16, not like a robots.txt file; save it as UTF-8"),
-    "another text": (b"# a shop\nno such page", "this has no line of a robots.txt file, such as User-agent or Disallow"),
-}
-
-
-@pytest.mark.parametrize("text, why", NOT_ROBOTS.values(), ids=NOT_ROBOTS)
-def test_a_file_that_is_no_robots_file(tmp_path, text, why):
-    assert outcome(compare(tmp_path, text, NEW, "/a")) == (2, "", f"robots_audit: old.txt: {why}\n")
-    assert outcome(compare(tmp_path, OLD, text, "/a")) == (2, "", f"robots_audit: -: {why}\n")
-    assert outcome(compare(tmp_path, text, text)) == (2, "", f"robots_audit: old.txt: {why}\n")
-
-
-@pytest.mark.parametrize("text", [b"\n", b"\n\n", b"\xef\xbb\xbf# none"], ids=["nothing", "blank lines", "a comment"])
-def test_a_file_without_directives_is_compared(tmp_path, text):
-    assert reported(for_ferris(tmp_path, text, text), "old.txt (empty)", "- (empty)") == (0, NOTHING, "")
-
-
 def test_rejected_files(tmp_path):
     old = f"the old file is rejected for Ferris: line 2: {REASON}"
     new = f"the new file is rejected for Ferris: line 2: {REASON}"
@@ -283,36 +256,15 @@ def test_no_command_of_a_workflow(tmp_path):
     assert reported(for_ferris(tmp_path, b"", b"Disallow: /", "/##[error]x", "/#["), "old.txt (empty)") == (1, lines, "")
 
 
-def test_a_name_that_looks_like_a_command(tmp_path):
-    new = b"User-agent: ::error title=tea::milk\nDisallow: /"
-    name = "crawler ::error title=tea::milk"
-    lines = "crawler *: group everyone -> none\ncrawler *: no URL's verdict changes\n"
-    lines += f"{name}: group everyone -> ::error title=tea::milk\n{name}: + Disallow: / (line 2)\n{name}: may fetch everything -> nothing, for example /: allow -> deny 2\n"
-    assert reported(compare(tmp_path, b"", new), "old.txt (empty)") == (1, lines, "")
-
-
 def test_files_by_name(tmp_path):
     (tmp_path / "robots.txt").write_bytes(OLD)
     assert reported(for_ferris(tmp_path, OLD, NEW, file="robots.txt"), new="robots.txt") == (0, NOTHING, "")
-    assert outcome(for_ferris(tmp_path, OLD, NEW, file="missing")) == (2, "", "robots_audit: cannot read missing: no such file\n")
-    missing = run("robots_audit", ["--compare", "missing.txt", "-"], NEW, cwd=tmp_path)
-    assert outcome(missing) == (2, "", "robots_audit: cannot read missing.txt: no such file\n")
-
-
-def test_folders_in_place_of_files(tmp_path):
-    """They can be opened, but each read fails."""
-    (tmp_path / "folder").mkdir()
-    assert outcome(for_ferris(tmp_path, OLD, NEW, file="folder")) == (2, "", "robots_audit: cannot read folder: it is a folder\n")
-    folder = run("robots_audit", ["--compare", "folder", "-"], NEW, cwd=tmp_path)
-    assert outcome(folder) == (2, "", "robots_audit: cannot read folder: it is a folder\n")
 
 
 def test_older_file_from_standard_input(tmp_path):
     (tmp_path / "robots.txt").write_bytes(NEW)
     result = run("robots_audit", ["--compare", "-", "robots.txt", "--agent=Googlebot"], OLD, cwd=tmp_path)
     assert reported(result, "-", "robots.txt") == (1, GOOGLEBOT, "")
-    message = f"robots_audit: standard input can't be two files; give the name of one; {USAGE}\n"
-    assert outcome(run("robots_audit", ["--compare", "-", "-"], OLD)) == (2, "", message)
 
 
 @pytest.mark.parametrize("name, shown", [("", '""'), ("Googlebot/2.1", "Googlebot/2.1"), ("Googlebot.2", "Googlebot.2"), ("Googlebot*", "Googlebot*"), (" Bingbot", " Bingbot"), ("a\x1bb", "a%1Bb"), ("Caf\u00e9", "Caf\u00e9")])

@@ -4,7 +4,7 @@ import json
 from itertools import permutations
 
 import pytest
-from support import IGNORING, run
+from support import IGNORING, PHRASES, run
 
 ROBOTS = b"""User-agent: *
 Disallow: /private/
@@ -16,8 +16,6 @@ Disallow: /
 
 User-agent: Longbot
 Disallow: /""" + b"x" * 4096 + b"$\n"
-
-USAGE = "usage: robots_audit [OPTIONS] FILE [URL].."
 
 HOLDING = b"""# what must hold after each change
 allow Googlebot /products/tea
@@ -38,9 +36,7 @@ NAMED = "".join(f"User-agent: {name}\n" for name in ["*", *IGNORING]).encode()
 # `*`, those fail that ignore it; with one of Googlebot, those too that get this one from their vendor.
 ANY = {
     "no group": (b"Disallow: /a", b"deny any /a", [], None),
-    "allowed to all": (b"User-agent: *\nDisallow: /a", b"allow any /b", [], None),
     "denied to *": (b"User-agent: *\nDisallow: /a", b"allow any /a", ["*", *IGNORING], "line 2 denies it"),
-    "those that ignore *": (b"User-agent: *\nDisallow: /a", b"deny any /a", IGNORING, "its vendor doesn't apply the group * to it"),
     "which are named": (NAMED + b"Disallow: /a", b"deny-all Any /a", [], None),
     "a crawler of the file": (NAMED + b"Disallow: /a\nUser-agent: Ferris\nDisallow: /b", b"deny-all any /a", ["Ferris"], "no rule denies /a"),
     "a name with a version": (b"User-agent: A/2\nDisallow: /a", b"allow ANY /a", ["A/2"], "line 2 denies it"),
@@ -59,7 +55,7 @@ NEAR_NAMES = {"googlebott": "Googlebot", "GTPBot": "GPTBot", "GPT-Bot": "GPTBot"
 
 FORM = 'write "allow AGENT URL" or "deny AGENT URL", or for a pattern allow-all or deny-all'
 NOT_UTF_8 = "the line isn't valid UTF-8"
-URL = "this is neither a path that starts with / nor a valid http:// or https:// URL"
+URL = PHRASES["url"]
 
 def check(folder, text, *more, robots=ROBOTS, file="-"):
     """The result for a text of expectations, in a file `expect.txt`."""
@@ -172,20 +168,6 @@ def test_all_malformed_lines(tmp_path):
     assert outcome(check(tmp_path, text)) == (2, "", "".join(f"robots_audit: expect.txt:{line}: {why}\n" for line, why in lines))
 
 
-NOT_ROBOTS = {
-    "a page": (b"<html>\n", "this looks like HTML, not like a robots.txt file"),
-    "UTF-16": (b"\xfe\xff\0#", "this looks like UTF-16, not like a robots.txt file; save it as UTF-8"),
-    "another text": (b"not found", "this has no line of a robots.txt file, such as User-agent or Disallow"),
-}
-
-
-@pytest.mark.parametrize("text, why", NOT_ROBOTS.values(), ids=NOT_ROBOTS)
-def test_a_file_that_is_no_robots_file(tmp_path, text, why):
-    (tmp_path / "page.html").write_bytes(text)
-    for file in ("-", "page.html"):
-        assert outcome(check(tmp_path, HOLDING, robots=text, file=file)) == (2, "", f"robots_audit: {file}: {why}\n")
-
-
 @pytest.mark.parametrize("text", [b"", b"# nothing", b"\n \n"], ids=["empty", "a comment", "blank lines"])
 def test_a_file_without_directives(tmp_path, text):
     """It is valid, and allows everything."""
@@ -196,29 +178,6 @@ def test_a_file_without_directives(tmp_path, text):
 def test_files_by_name(tmp_path):
     (tmp_path / "robots.txt").write_bytes(ROBOTS)
     assert outcome(check(tmp_path, HOLDING, robots=b"User-agent: *\nDisallow: /", file="robots.txt")) == (0, HOLD, "")
-    assert outcome(check(tmp_path, HOLDING, file="missing")) == (2, "", "robots_audit: cannot read missing: no such file\n")
-    missing = run("robots_audit", ["--expect", "missing.txt", "-"], ROBOTS, cwd=tmp_path)
-    assert outcome(missing) == (2, "", "robots_audit: cannot read missing.txt: no such file\n")
-
-
-def test_folders_in_place_of_files(tmp_path):
-    """They can be opened, but each read fails."""
-    (tmp_path / "folder").mkdir()
-    assert outcome(check(tmp_path, HOLDING, file="folder")) == (2, "", "robots_audit: cannot read folder: it is a folder\n")
-    assert outcome(run("robots_audit", ["--expect", "folder", "-"], ROBOTS, cwd=tmp_path)) == (2, "", "robots_audit: cannot read folder: it is a folder\n")
-
-
-def test_expectations_from_standard_input(tmp_path):
-    (tmp_path / "robots.txt").write_bytes(ROBOTS)
-    result = run("robots_audit", ["--expect", "-", "robots.txt"], b"allow Googlebot /\nallow GPTBot /\n", cwd=tmp_path)
-    assert outcome(result) == (1, "-:2: GPTBot must be allowed /, but line 7 denies it\n", "")
-    message = f"robots_audit: standard input can't be two files; give the name of one; {USAGE}\n"
-    assert outcome(run("robots_audit", ["--expect", "-", "-"], HOLDING)) == (2, "", message)
-
-
-def test_file_is_missing():
-    result = run("robots_audit", ["--expect", "expect.txt"])
-    assert (result.status, result.out) == (2, "") and result.err.startswith(f"robots_audit: missing FILE; {USAGE}\n")
 
 
 @pytest.mark.parametrize("more", ["/a", "--agent=Ferris", "--urls=list.txt", "--denied", "-q", "--html", "--date=x", "--color=auto", "--strict", "--needless", "--only=missing-slash", "--ignore=missing-slash"])

@@ -1,5 +1,5 @@
-"""`robots_audit --list-warnings` and `--explain`: the list is that of tests/warnings.toml, each example that they print triggers its
-warning, and each corrected one doesn't."""
+"""`robots_audit --list-warnings` and `--explain`: the list is tests/warnings.txt, each example that they print triggers its warning, and
+each corrected one doesn't."""
 
 import re
 import shlex
@@ -11,10 +11,7 @@ from support import ALL_WARNINGS, CRATES, ROOT, WARNINGS, run, spelled
 PART = r"(\S.*)\nfor example:\n((?:    .*\n)+)(?:instead:\n((?:    .*\n)+))?"
 
 
-def listed():
-    """The list: a line for each message."""
-    for row in ALL_WARNINGS:
-        yield row, f"{row['level']} {row['name']}: {row['text']}"
+LISTED = (ROOT / "tests/warnings.txt").read_text()
 
 
 def explained(name):
@@ -25,47 +22,29 @@ def explained(name):
     return parts, re.sub(PART, "", result.out).splitlines()
 
 
-def file_of(example):
-    """The file that an example shows, and the arguments for which it is one."""
+def given(example, folder):
+    """The warnings that are given for the file that an example shows, with the arguments that it names."""
     file = spelled(re.sub("^    ", "", example, flags=re.M).removesuffix("\n"))
     named = re.match(rb"# robots_audit (.+)\n", file) or re.fullmatch(rb"robots_audit (.+)", file)
-    args = shlex.split(named[1].decode()) if named else ["-"]
-    return file, args
-
-
-def given(example, folder):
-    """The warnings that are given for an example."""
-    file, args = file_of(example)
     (folder / "robots.txt").write_bytes(file)
-    return run("robots_audit", args, file, cwd=folder).err
+    return run("robots_audit", shlex.split(named[1].decode()) if named else ["-"], file, cwd=folder).err
 
 
 def test_list():
     result = run("robots_audit", ["--list-warnings"])
-    assert (result.status, result.out.splitlines(), result.err) == (0, [line for _, line in listed()], "")
+    assert (result.status, result.out, result.err) == (0, LISTED, "")
 
 
 @pytest.mark.parametrize("name", WARNINGS)
 def test_explanation(name, tmp_path):
     parts, below = explained(name)
-    assert [part[0] for part in parts] == [line for row, line in listed() if row["name"] == name]
+    assert [part[0] for part in parts] == [line for line in LISTED.splitlines() if line.split(" ")[1] == f"{name}:"]
     for line, example, corrected in parts:
         level, message = line.split()[0], line.split(": ", 1)[1]
         shown = re.sub(r"(?:URL|crawler) '.*?': | \([^)]*\)(?= \[)", "", given(example, tmp_path))
         assert f"{level}: {message} [{name}]" in shown
         assert not corrected or f"[{name}]" not in given(corrected, tmp_path)
     assert [line.split(":")[0] for line in below] in (["given"], ["given", "proved"])
-
-
-def test_examples_are_those_of_the_data():
-    for name in WARNINGS:
-        shown = []
-        for _, example, _ in explained(name)[0]:
-            file, args = file_of(example)
-            shown.append((args, re.sub(rb"\A(?:# )?robots_audit .+(?:\n|\Z)", b"", file)))
-        rows = [row for row in ALL_WARNINGS if row["name"] == name]
-        for row in rows:
-            assert (shlex.split(row.get("args", "-")), spelled(row.get("file", ""))) in shown
 
 
 @pytest.mark.parametrize(

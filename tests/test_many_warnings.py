@@ -13,10 +13,6 @@ def audit(text, *args):
     return run("robots_audit", ["-q", "--agent", "Ferris", *args, "-"], text.encode())
 
 
-def lines(*numbers, name="unrecognized-line", file="robots.txt"):
-    return "".join(warning_line(f"{number} {name}", file) for number in numbers)
-
-
 def total(text, file="robots.txt"):
     return f"{file}: {text} (rules for crawlers other than Ferris aren't checked)\n"
 
@@ -110,19 +106,6 @@ def test_those_with_other_messages_between_them():
     assert audit(text).err == wanted + total("2 warnings, 4 notes in 3 messages")
 
 
-def test_one_of_each_level():
-    text = "User-agent: *\nDisallow: a\nhello\nClean-param: a /\n"
-    wanted = lines(2, name="missing-slash") + lines(3) + lines(4, name="clean-param-line")
-    assert audit(text).err == wanted + total("1 error, 1 warning, 1 note")
-
-
-def test_notes_about_another_line_stay_apart():
-    """Their messages end with the line of the other one."""
-    sitemap = "Sitemap: https://example.com/s\n"
-    err = audit(FRONT + sitemap * 3).err
-    assert err.count("(see line 3) [repeated-sitemap]") == 2 and "(also" not in err and err.endswith(total("2 notes"))
-
-
 # `Disallow: /p` covers each of the 25 longer Disallows, and an Allow decides only where none of them does. So all 50 can be deleted, but
 # without the first twenty alone the first twenty Allows decide.
 LETTERS = "abcdefghijklmnopqrstuvwxy"
@@ -142,20 +125,9 @@ def test_needless_rules_of_another_crawler_go_with_them():
     assert err.startswith("robots.txt:3: note: lines 3, 7-8 can be deleted together; deleting only some may change a verdict [needless-rule]\n")
 
 
-def test_needless_rules_are_one_annotation():
-    out = run("robots_audit", ["--github", "--agent=Ferris", "--needless", "-"], NEEDLESS.encode()).out
-    assert out == f"::notice file=robots.txt,line=3,title=needless-rule::{TOGETHER}\n"
-
-
 def test_needless_rules_are_one_row_of_a_page():
     out = run("robots_audit", ["--html", "--agent=Ferris", "--needless", "-"], NEEDLESS.encode()).out
     assert (out.count(TOGETHER), out.count("needless-rule")) == (2, 2)  # in the list at its top, and below line 3
-
-
-def test_each_result_on_a_needless_rule_names_all():
-    out = run("robots_audit", ["--sarif", "--agent=Ferris", "--needless", "-"], NEEDLESS.encode()).out
-    texts = [it["message"]["text"] for it in json.loads(out)["runs"][0]["results"]]
-    assert len(texts) == 50 and all(it.endswith("; all needless rules: lines 3-52") for it in texts)
 
 
 def test_a_file_of_a_hundred_closed_groups():

@@ -9,7 +9,7 @@ from html.parser import HTMLParser
 import page_style
 import pytest
 from browser import Browser
-from support import ROOT, STILL_OPEN, also_in, level_and_text, run, shared
+from support import PHRASES, ROOT, also_in, level_and_text, run, shared
 
 SOURCE, STYLE = page_style.SOURCE.read_text(), page_style.STYLE.read_text()
 
@@ -222,8 +222,8 @@ def test_table_of_crawlers():
 
 
 @pytest.mark.parametrize("agent, vendor, fetch", [
-    ("AdsBot-Google", "; but it ignores the group *, and obeys only one with its own name, so it may fetch all: the verdicts are the file's, not the crawler's", "everything"),
-    ("Googlebot-Image", "; but its vendor applies another group, whose verdicts may differ", "not decided"),
+    ("AdsBot-Google", PHRASES["ignores"], "everything"),
+    ("Googlebot-Image", PHRASES["vendor"], "not decided"),
 ])
 def test_page_has_what_vendors_do(agent, vendor, fetch):
     file = b"User-agent: *\nDisallow: /a\nCrawl-delay: 10\nUser-agent: Googlebot\nDisallow:"
@@ -251,16 +251,6 @@ def test_page_has_the_sentence_about_the_standard(file, sentence):
     assert entries_of("-", file=file).get("Syntax") == sentence
 
 
-def verdict(it):
-    return f"{'allowed' if it['allowed'] else 'denied'}, {'no line' if it['line'] is None else 'line ' + str(it['line'])}"
-
-
-def test_page_has_the_verdicts_of_the_json():
-    elements, found = Reader(page(*FERRIS, *URLS)).elements, audit(*FERRIS, *URLS)
-    rows = [["URL", "Verdict"], *([it["url"], verdict(it)] for it in found["agents"][0]["verdicts"])]
-    assert [cells for _, cells in children(elements, "tr")][: len(rows)] == rows
-
-
 @pytest.mark.parametrize("file, crawlers", [(b"Disallow: /a", "all crawlers"), (b"User-agent: A\nDisallow: /a", "2 crawlers")])
 def test_title_without_an_agent(file, crawlers):
     """The second report is about `*` and `A`."""
@@ -269,18 +259,6 @@ def test_title_without_an_agent(file, crawlers):
 
 def test_title_with_an_agent_twice():
     assert "<title>robots.txt for Ferris</title>" in page("--agent=Ferris", "--agent=ferris", "-", file=b"User-agent: A")
-
-
-def test_page_about_all_crawlers():
-    elements, found = Reader(page("-", *URLS)).elements, audit("-", *URLS)
-    rows = [["Crawler", "Group", "Rules", "Crawl delay", "May fetch", *URLS]]
-    for it in found["agents"]:
-        verdicts = [one["url"] + verdict(one) for one in it["verdicts"]]
-        still_open = STILL_OPEN if it["group"]["ignored_by"] else ""
-        rows.append([it["agent"], f"{it['agent']}, line {it['group']['line']}{still_open}", str(it["rules"]), delay(it["delay"]), it["may_fetch"].replace("by-rules", "what its rules allow"), *verdicts])
-    assert [row[4] for row in rows] == ["May fetch", "what its rules allow", "nothing"]
-    assert [cells for _, cells in children(elements, "tr")][: len(rows)] == rows
-    assert [row for row in children(elements, "tr") if row[0]] == rows_of({**audit("--agent=*", "-"), "warnings": found["warnings"]})
 
 
 def entries_of(*args, **options):
@@ -308,14 +286,6 @@ def test_page_says_what_a_crawler_may_fetch(file):
 @pytest.mark.parametrize("file, is_mistake", [(b"<html>", True), (b"\n", True), (b"U\0s\0e\0r\0", True), (b"User-agent: *", False)])
 def test_what_a_mistake_opens_is_not_marked_as_good(file, is_mistake):
     assert ('<main class="mistake">' in page("-", file=file)) is is_mistake
-
-
-def test_page_has_the_name_of_the_file_and_the_version(tmp_path):
-    (tmp_path / "a<b.txt").write_bytes(EXAMPLE)
-    ended = run("robots_audit", ["--html", "a<b.txt"], cwd=tmp_path)
-    elements = Reader(ended.out).elements
-    assert texts(elements, "dd")[0] == "a<b.txt" and texts(elements, "footer") == [f"robots_audit {VERSION}"]
-    assert entries_of("-")["File"] == "robots.txt"
 
 
 @pytest.mark.parametrize("date, text", [("2026-11-27", "2026-11-27"), ("", '""'), ("a\nb\x1b[31m\u202e", "a%0Ab%1B[31m%E2%80%AE")])

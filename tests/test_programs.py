@@ -5,7 +5,7 @@ A case is a table in tests/golden/PROGRAM/*.toml, named by what it shows:
 ```toml
 ["a URL is denied"]
 args = '- -q --agent Ferris /a%20b'
-rfc = 'line 2'
+rfc = '2'
 file = '''
 User-agent: Ferris
 Disallow: /a b
@@ -20,6 +20,10 @@ warn = '''
 status = 1
 ```
 
+`[[rows]]` is a table with a case in each line of its `cases`. Its `columns`, or else those above all cases, name the keys of the cells
+between ` | `, in which ⏎ is a line feed and `-` an empty text. A cell replaces the table's value for its key, or the `{}` in that; an empty cell,
+or one that is left out, leaves it.
+
 | Key | Meaning |
 |---|---|
 | `args` | the arguments, separated by spaces; a named file is the first one, so that `warn` can name it |
@@ -27,9 +31,9 @@ status = 1
 | `expect`, `old` | runs in a folder with a file `expect.txt` or `old.txt` of this text |
 | `agent`, `robots` | for `robots_verdict`: the input is this crawler, the URLs in `out`, and this file |
 | `out`, `err` | the lines of standard output and standard error; none if left out |
-| `warn` | instead of `err`, for each warning, also if the program counts it only, a line `[LINE] NAME [DETAIL]`; the detail is its URL, the name of one of several crawlers in quotes, or the directive that may be meant. Messages come from tests/warnings.toml |
+| `warn` | instead of `err`, for each warning, also if the program counts it only, a line `[LINE] NAME [DETAIL]`; the detail is its URL, the name of one of several crawlers in quotes, or the directive that may be meant. Messages come from tests/warnings.txt |
 | `status` | the exit status, if it isn't 0 |
-| `rfc` | what the report says of the file by RFC 9309: `verdicts`, `syntax LINE` or `line LINE` |
+| `rfc` | what the report says of the file by RFC 9309: `verdicts`, `syntax LINE`, or the first line that isn't of its syntax |
 | `like`, `more` | a case above, whose keys apply here too; more lines of standard output. Keys above all cases apply to each |
 | `pieces`, `room` | how many bytes are read at a time; how many standard output accepts, or `'closed'` |
 | `indented` | also runs the case with each line of `robots` indented |
@@ -38,7 +42,7 @@ The detail in `warn` can also be the level, if the name has several; a word of t
 `comma`, `invisible` or `=`; the number in `(3 rules)` or `(see line 3)`; or for `needless-rule`,
 `never`, `nothing`, `allowed` or `covered`, and then the line. In JSON, a warning is written without
 its level, and with `[NAME]` or `[NAME DETAIL]` as its text. In strings, `\\` is a backslash, `\r`
-CR, `\xHH` a byte, and `\{N TEXT}` N times the TEXT.
+CR, `\xHH` a byte, `\{N TEXT}` N times the TEXT, and `\[NAME]` a phrase of tests/support.py.
 `pytest tests -k 'URL and denied'` runs the cases with these words in their names.
 
 Larger inputs are made here.
@@ -129,11 +133,13 @@ def test_golden(name, case, indented, tmp_path):
 
 
 def test_all_golden_cases_are_run():
-    """Each table of each file, and the one in this module's comment."""
-    tables = [name for path in Path(ROOT, "tests/golden").glob("*/*.toml") for name in re.findall(r"""^\[["'].*["']\]$""", path.read_text(), re.M)]
+    """Each table of each file, each row of `[[rows]]`, and the case in this module's comment."""
+    texts = [path.read_text() for path in Path(ROOT, "tests/golden").glob("*/*.toml")]
+    count = sum(len(re.findall(r"""^\[["'].*["']\]$""", text, re.M)) for text in texts)
+    count += sum(rows.count("\n") + 1 for text in texts for rows in re.findall(r"^cases = '''\n(.*?)\n?'''$", text, re.M | re.S))
     folders = {path.name for path in Path(ROOT, "tests/golden").iterdir() if path.is_dir()}
     values = [it.values for it in golden()]
-    assert len([indented for _, _, indented in values if not indented]) == len(tables) + 1
+    assert len([indented for _, _, indented in values if not indented]) == count + 1
     assert {name for name, _, _ in values} == folders == {"robots_audit", "robots_verdict"}
 
 

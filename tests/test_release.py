@@ -395,14 +395,6 @@ def test_a_program_on_an_older_processor(name, words):
     assert (result.status, result.out) == (127, "") and "this machine lacks a feature of x86-64-v2" in result.err
 
 
-def test_manual_pages_name_the_options_of_help():
-    option = r"(?<![\w-])(?:--[a-z-]+|-[a-zA-Z])(?![\w-])"
-    page = (ROOT / "man/robots_audit.1").read_text().split(".SH OPTIONS")[1].split("\n.SH ")[0]
-    headings = "\n".join(re.findall(r"^\.TP\n(.*)$", page, re.M)).replace("\\-", "-")
-    usage = run("robots_audit", ["--help"]).out
-    assert sorted(re.findall(option, re.sub(r"\\f[BIR]", " ", headings))) == sorted(set(re.findall(option, usage.split("\nOptions:")[1].split("\n\n")[0])))
-
-
 @pytest.mark.parametrize("name", ["robots_audit", "robots_verdict"])
 def test_manual_pages_are_well_formed(name):
     if not shutil.which("groff"):

@@ -13,9 +13,6 @@ of them, from its start, and a record ends where its length says, so that nothin
 of a folder, that can't be understood is listed as damaged. A source that can't be read on, or of which a worker dies, is listed as unread,
 with the place of the last record that was read. The others are counted.
 
-WARC files are read by FastWARC, or by warcio, if one can be imported, and else by this program, which notices more damage between records.
-For warcio, each record has to be compressed alone.
-
 The rows of each JSONL or WARC file, and of each --batch files of a folder, are a part. Parts are written to files, which are then merged,
 so that no process needs more memory for more sites. With --parts FOLDER, which all workers have to see, a run that was ended goes on: a
 part is used again if it is whole, and this program, the agents and paths, and the names, sizes and times of its sources are the same.
@@ -34,7 +31,6 @@ import gzip
 import hashlib
 import heapq
 import html
-import importlib
 import io
 import itertools
 import json
@@ -125,39 +121,12 @@ def read_json(line):
 
 def warc(path):
     with open(path, "rb") as file:
-        for place, *record in RECORDS.get(warc_module(), records_here)(file):
+        for place, *record in records_of(file):
             yield (path, place), attempt(read_response, *record)
 
 
-def warc_module():
-    """Which module reads WARC files: that of FastWARC or of warcio, if it can be imported, or else none but this one."""
-    return next((it for it in RECORDS if not isinstance(attempt(importlib.import_module, it), Exception)), "")
-
-
-# Each gives the place of a record, its fields and its content.
-
-
-def records_by_fastwarc(file):
-    from fastwarc.warc import ArchiveIterator
-
-    for record in ArchiveIterator(file, parse_http=False):
-        fields = {name.lower(): value for name, value in record.headers.items()}
-        yield record.stream_pos, fields, content_of(record.reader, fields)
-    if file.read(1):
-        raise ValueError("FastWARC ends before the file does")
-
-
-def records_by_warcio(file):
-    from warcio.archiveiterator import ArchiveIterator
-
-    records = ArchiveIterator(file, no_record_parse=True)
-    for record in records:
-        fields = {name.lower(): value for name, value in record.rec_headers.headers}
-        content = content_of(record.raw_stream, fields)
-        yield records.get_record_offset(), fields, content  # to count, it reads to the record's end
-
-
-def records_here(file):
+def records_of(file):
+    """The place of each record, its fields and its content."""
     stream = gzip.open(file) if file.peek(2).startswith(GZIP) else file
     place, version = next_record(stream)
     while version:
@@ -169,9 +138,6 @@ def records_here(file):
         if isinstance(following, Exception):
             raise following
         place, version = following
-
-
-RECORDS = {"fastwarc.warc": records_by_fastwarc, "warcio.archiveiterator": records_by_warcio}
 
 
 def next_record(stream):
@@ -409,7 +375,7 @@ def merged(paths, *words):
 
 def part_of(batch, agents, paths, program, parts, scratch):
     """The files with the rows of a batch, and its tally: from the folder of parts, if an earlier run has made them of the same."""
-    made_of = [program, __version__, agents, paths, batch, [stamp(path) for path in batch[1:]], warc_module()]
+    made_of = [program, __version__, agents, paths, batch, [stamp(path) for path in batch[1:]]]
     name = os.path.join(parts, hashlib.sha256(json.dumps(made_of).encode()).hexdigest()[:32])
     with contextlib.suppress(FileNotFoundError), open(f"{name}.json", encoding="utf-8") as file:
         _, count, items = json.load(file)

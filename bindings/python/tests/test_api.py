@@ -64,18 +64,6 @@ def test_many_urls_may_be_few():
     assert shop.matrix({"/": 1}, iter(["a\nb", "SlowBot"])) == [[Verdict(True, None)], [Verdict(False, 7)]]
 
 
-def test_rules_whose_adjacent_bytes_a_url_lacks_cost_one():
-    """Compared with all of this path, one of these rules would cost thousands."""
-    robots = Robots(b"User-agent: *\nDisallow: *ab\nDisallow: *cd\n")
-    path = "/" + "e" * 2000
-    assert robots.cost(len(path), "x") == 2 * (1 + 2 * 2001)
-    assert robots.verdict_within(path, "x", 2) == Verdict(True, None)
-    with pytest.raises(TooCostlyError):
-        robots.verdict_within(path, "x", 1)
-    with pytest.raises(TooCostlyError):
-        robots.verdict_within(path + "ab", "x", 2)
-
-
 def test_verdicts_within_a_budget():
     """The longer rule is tried first, and no byte is compared if it is longer than the URL's path."""
     shop = Robots(SHOP)
@@ -283,29 +271,6 @@ def test_bodies_of_text():
                 call(body)
 
 
-@pytest.mark.parametrize(
-    "front, back, lost",
-    [
-        ("User-agent: *\nDisallow: /a # ", "", None),
-        ("User-agent: *\nDisallow: /a", "", "rule"),
-        ("User-agent: *\nDisallow", ": /a", "rule"),
-        ("User-agent: *", "\nDisallow: /a", "rule"),
-        ("User-agent", ": *\nDisallow: /a\nUser-agent: other", "rule"),
-        ("User-agent: *\nCrawl-delay: 1", "\nDisallow: /a", "delay"),
-        ("User-agent: *\nDisallow: /a\nSitemap: /s", "", "sitemap"),
-    ],
-)
-def test_what_a_byte_costs_that_is_not_utf8(front, back, lost):
-    """In a comment nothing, and elsewhere what its line says."""
-    whole, robots = Robots(front + back), Robots(front.encode() + b"\xff" + back.encode())
-    for name, results in {
-        "rule": [it.allowed("/a", "FerrisBot") for it in (whole, robots)],
-        "delay": [it.delay("FerrisBot") for it in (whole, robots)],
-        "sitemap": [it.sitemaps for it in (whole, robots)],
-    }.items():
-        assert (results[0] == results[1]) == (name != lost), name
-
-
 def test_a_body_that_changes_later():
     body = bytearray(SHOP)
     shop = Robots(body)
@@ -508,12 +473,3 @@ if __name__ == "__main__":
 def test_robots_and_errors_go_to_another_process_and_back(tmp_path):
     (tmp_path / "worker.py").write_text(IN_A_WORKER)
     assert package.run([tmp_path / "worker.py"]) == "False Verdict(allowed=True, line=None)\n4\n"
-
-
-def test_what_the_docstrings_say_of_constants_and_urls():
-    words = " ".join(texting_robots.__doc__.split())
-    for value in (f"({FILE_LIMIT:,})", f"({LIFETIME:,}, a day)", f"({REDIRECT_LIMIT})"):
-        assert value in words
-    robots = Robots(b"User-agent: *\nDisallow: /private\n")
-    assert [robots.allowed(url, "x") for url in ("https://example.com/a/../private", "/a/../private")] == [False, True]
-    assert "matches ``https://example.com/a/../private``, and not ``/a/../private``" in " ".join(Robots.__doc__.split())

@@ -3,11 +3,9 @@
 import ast
 import gzip
 import itertools
-import random
 import re
 import time
 import types
-import zlib
 
 import package
 import pytest
@@ -54,21 +52,14 @@ MEANINGS = {
     "301 to another scheme": (answers(301, Location="data:text/plain,"), []),
     "206": (answers(206), []),
     "304": (answers(304, b""), []),
-    "401": (answers(401, CLOSED), PAGES),
     "403": (answers(403, CLOSED), PAGES),
     "404": (answers(404, CLOSED), PAGES),
-    "429": (answers(429, b""), []),
     "500": (FAILS, []),
-    "503": (answers(503), []),
     "nothing": (closes, []),
     "no answer": (never, []),
     "half a body": (HALF, []),
     "half a body for Scrapy": (HALF, []),
     "gzip": (answers(200, gzip.compress(RULES), **GZIP), PUBLIC),
-    "gzip, said but isn't": (answers(200, **GZIP), PUBLIC),
-    "gzip, cut": (answers(200, gzip.compress(RULES + random.Random(1).randbytes(5000))[:-60], **GZIP), PUBLIC),
-    "gzip of 50 MB": (answers(200, gzip.compress(RULES + bytes(50_000_000)), **GZIP), PUBLIC),
-    "deflate, cut": (answers(200, zlib.compress(RULES + b"# x\n" * 99)[:-9], **{"Content-Encoding": "deflate"}), PUBLIC),
     "brotli": (answers(200, **{"Content-Encoding": "br"}), []),
 }
 SETTINGS = {
@@ -273,43 +264,6 @@ def test_a_site_is_a_scheme_with_a_host_and_a_port():
     assert crawler.engine.urls() == [f"{it}/robots.txt" for it in schemes]
 
 
-def test_lifetime(monkeypatch):
-    now = [0.0]
-    robots, crawler = ours(file())
-    monkeypatch.setattr(robots._cache, "_clock", lambda: now[0])
-
-    def after(seconds, answer):
-        now[0], crawler.engine.answer, before = now[0] + seconds, answer, len(crawler.engine.requests)
-        return allowed(robots, "http://a.example/"), allowed(robots, "http://a.example/private/"), len(crawler.engine.requests) - before
-
-    assert after(0, file(status=500)) == (False, False, 1)
-    assert after(4, file()) == (False, False, 0)
-    assert after(2, file()) == (True, False, 1)
-    assert after(82_799, file(CLOSED)) == (True, False, 0)
-    assert after(2, file(status=500)) == (True, False, 1)
-    assert after(4, file(CLOSED)) == (True, False, 0)
-    assert after(2, file(status=404)) == (True, True, 1)
-    assert after(82_799, file(CLOSED)) == (True, True, 0)
-    assert after(3602, file(CLOSED)) == (False, False, 1)
-    assert robots._cache.size == sum(it.memory + it.size for it in robots._cache._memory.sites.values())
-
-
-def test_the_file_that_was_not_used_for_longest_goes_first():
-    """The bytes are random, so that none is kept compressed."""
-    filler = b"#" + random.Random(1).randbytes(9000).replace(b"\n", b"#")
-    robots, crawler = ours(file(filler), TEXTING_ROBOTS_BUDGET=36_000)
-    for name, fetched in [("a", 1), ("b", 1), ("a", 0), ("c", 1), ("a", 0), ("c", 0), ("b", 1), ("a", 1)]:
-        before = len(crawler.engine.requests)
-        assert allowed(robots, f"http://{name}.example/") and len(crawler.engine.requests) - before == fetched, name
-    assert robots._cache.size == sum(site.memory + site.size for site in robots._cache._memory.sites.values()) <= 36_000
-
-
-def test_a_file_that_is_larger_than_the_budget_is_kept_alone():
-    robots, crawler = ours(file(b"#" * 9000), TEXTING_ROBOTS_BUDGET=1)
-    assert [allowed(robots, url) for url in ("http://a.example/", "http://a.example/x", "http://b.example/")] == [True] * 3
-    assert len(crawler.engine.requests) == 2 and list(robots._cache._memory.sites) == ["http://b.example/robots.txt"]
-
-
 def fails(error):
     return lambda request: Failure(error)
 
@@ -369,25 +323,6 @@ def test_the_name_of_the_crawler():
     assert groups(headers={"User-Agent": "Nobody"}, ROBOTSTXT_USER_AGENT="Other") == other
 
 
-def test_the_longest_delay_and_the_memory_of_several_crawlers_count():
-    robots, _ = ours(file(b"User-agent: A\nCrawl-delay: 3\n\nUser-agent: B\nCrawl-delay: 2\n"))
-    for name in "AB":
-        assert allowed(robots, "http://a.example/", headers={"User-Agent": name})
-        (kept,) = robots._cache._memory.sites.values()
-        assert kept.longest_delay == 3 and robots._cache.size == kept.memory + kept.rules.size
-
-
-def test_other_sitemaps_of_a_later_file_come_too():
-    robots, crawler = ours(file(), TEXTING_ROBOTS_LIFETIME=0.01)
-    found, names = [], ["a", "a", "b", None, "b"]
-    crawler.signals.send_catch_log = lambda signal, sitemaps=(), **_: found.extend(sitemaps)
-    for name in names:
-        time.sleep(0.02)
-        crawler.engine.answer = file(f"Sitemap: {name}\n".encode() if name else b"")
-        assert allowed(robots, "http://a.example/")
-    assert found == ["a", "b", "b"]
-
-
 def test_a_newer_scrapy():
     """Its engine has a coroutine, and it gives no spider."""
     robots, crawler = ours(file())
@@ -397,12 +332,6 @@ def test_a_newer_scrapy():
 
     crawler.engine.download_async, crawler.engine.download = download_async, None
     assert allowed(robots, "http://a.example/") and not allowed(robots, "http://a.example/private/")
-
-
-def test_redirects_that_lead_nowhere():
-    for location in ["ftp://a.example/", "file:///etc/passwd", "http://[/", "data:,"]:
-        robots, crawler = ours(file(CLOSED, 301, Location=location))
-        assert not allowed(robots, "http://a.example/") and len(crawler.engine.requests) == 1
 
 
 def test_downloads_end_after_what_counts():

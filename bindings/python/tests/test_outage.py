@@ -45,9 +45,6 @@ OUTAGES = {
     "with asyncio": ([FAILS, answers(200)], WAITS | {"TWISTED_REACTOR": "twisted.internet.asyncioreactor.AsyncioSelectorReactor"}, 2, PUBLIC),
 }
 MANY = [f"/public/{number}" for number in range(25)]
-SHORT_LIFE = WAITS | {"TEXTING_ROBOTS_LIFETIME": 6, "TEXTING_ROBOTS_RETRY": 30, "TEXTING_ROBOTS_TIMEOUT": 8, "DOWNLOAD_DELAY": 0.2, "CONCURRENT_REQUESTS": 2}
-
-
 @pytest.fixture(scope="module")
 def crawls(tmp_path_factory):
     """The sites after the crawls, by name, and the log."""
@@ -56,7 +53,6 @@ def crawls(tmp_path_factory):
         by_reactor["TWISTED_REACTOR" in settings][name] = Site(*several, settings=settings)
     sites = by_reactor[0]
     sites["many of a site"] = Site(FAILS, FAILS, answers(200), settings=WAITS | {"CONCURRENT_REQUESTS": 2}, links={"/": MANY})
-    sites["a refresh"] = Site(answers(200), never, settings=SHORT_LIFE, links={"/": MANY})
     # a site whose file can't be fetched, and one that can, and then still is crawled
     sites["busy"] = Site(FAILS, FAILS, FAILS, FAILS, answers(200), settings=WAITS)
     links = {"/": [sites["busy"].address + f"/public/{number}" for number in range(20)] + ["/public/a"], "/public/a": ["/public/b"]}
@@ -91,13 +87,6 @@ def test_requests_that_wait_hold_no_others_up(crawls):
     assert set(other.paths()) == {"/robots.txt", "/", "/public/a", "/public/b"} and len(busy.got) == 25
     assert other.got[-1][0] < busy.got[4][0] and [path for _, path in busy.got[:5]] == ["/robots.txt"] * 5
     assert sorted(crawls[0]["many of a site"].paths()) == sorted(["/", *MANY] + ["/robots.txt"] * 3)
-
-
-def test_no_page_waits_while_a_file_is_fetched_again(crawls):
-    """The server hangs for longer than the file's lifetime, and isn't asked again meanwhile."""
-    crawl = crawls[0]["a refresh"]
-    files, pages = ([moment for moment, path in crawl.got if (path == "/robots.txt") is is_file] for is_file in (True, False))
-    assert len(pages) == 26 and len([it for it in files if it < files[1] + SHORT_LIFE["TEXTING_ROBOTS_TIMEOUT"]]) == 2 and max(gaps(pages)) < 5
 
 
 def test_a_site_with_a_delay_slows_down_no_other_in_its_slot(crawls):
@@ -466,14 +455,6 @@ def test_an_idle_time_begins_again_when_the_spider_was_busy():
         assert bool(robots._parking._idle_since) is begun
 
 
-def test_requests_that_have_waited_for_too_long():
-    robots, crawler, _, outcomes = waiting(2, TEXTING_ROBOTS_PARKED_SECONDS=10)
-    for later in (6, 20):
-        robots._cache._clock = lambda: time.time() + later
-        robots._parking._ask_again("http://a.example/robots.txt")
-    assert [type(it[0]) for it in outcomes] == [Unreachable] * 2 and crawler.stats.get_value("robotstxt/unreachable") == 2
-
-
 @pytest.mark.parametrize("error", [Forbidden("http://a/robots.txt", 3), Forbidden("http://a/robots.txt", None, "x"), Unreachable("http://a/robots.txt", 2.5), Postponed("http://a/robots.txt")])
 def test_an_exception_can_be_pickled(error):
     again = pickle.loads(pickle.dumps(error))
@@ -568,14 +549,3 @@ def test_a_site_with_a_delay_gets_a_slot_of_its_own(slot, settings, given):
     again = request.replace(url="http://b.example/")
     crawler.engine.answer = file(RULES)
     assert outcome(robots, again) == [None] and again.meta.get("download_slot") == slot
-
-
-def test_http_and_https_of_a_site_take_one_file():
-    def answer(request):
-        if request.url.startswith("https:"):
-            return Response(request.url, 200, body=RULES)
-        return Response(request.url, 301, {"Location": request.url.replace("http:", "https:")})
-
-    robots, crawler = ours(answer)
-    assert outcome(robots, Request("http://a.example/")) == outcome(robots, Request("https://a.example/")) == [None]
-    assert crawler.engine.urls() == ["http://a.example/robots.txt", "https://a.example/robots.txt"]

@@ -1,8 +1,7 @@
-"""The wheel: it installs into a virtual environment, and there the lines of the README print what they say. The README itself."""
+"""The wheel: it installs into a virtual environment, and there the lines of the README print what they say."""
 
 import email
 import importlib.util
-import re
 import runpy
 import shutil
 import subprocess
@@ -15,9 +14,7 @@ import package
 import pytest
 from library import LIBRARY, archive
 from support import ROOT
-from test_documents import PRIVATE_WORDS, anchors, prose, tables
 
-README = (package.PACKAGE / "README.md").read_text()
 WHEEL = next((package.BUILT / "dist").iterdir())
 
 
@@ -191,13 +188,3 @@ visit: Optional[protego.VisitTime] = protego_file.visit_time("a/1.0")
 errors: List[Type[RobotsError]] = [AgentError, OverlongRuleError, TooCostlyError, UrlError]
 Robots(bytearray()), Robots(memoryview(b"")), Robots.parse(mmap(-1, 1)), Matrix({"/"}, ["a"]).denials(array("b"))
 """
-
-
-def test_the_readme_keeps_the_rules_of_the_documents():
-    assert len(README.encode()) <= 6000
-    assert not [line for line in prose(README) if len(line) > 100]
-    for target in re.findall(r"\]\(([^)\s]+)\)", README):
-        path, _, anchor = target.partition("#")
-        assert (package.PACKAGE / path).exists() and (not anchor or anchor in anchors((package.PACKAGE / path).read_text())), target
-    text = re.sub(r"`[^`]*`", "", "\n".join([*prose(README), *(" | ".join(row) for row in tables(README))]))
-    assert not re.findall(rf"\b(?:{PRIVATE_WORDS})\b", text, re.I)

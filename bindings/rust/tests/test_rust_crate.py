@@ -1,4 +1,4 @@
-"""The crate: its own tests, the golden cases through its example program, another crate that uses it, and its README."""
+"""The crate: its own tests, the golden cases through its example program, and another crate that uses it."""
 
 import os
 import re
@@ -9,7 +9,7 @@ from pathlib import Path
 import pytest
 from library import LIBRARY, archive
 from support import ROOT, cases_of, compiled, input_of, run, spelled, wanted_of
-from test_documents import PRIVATE_WORDS, anchors, code, prose, tables
+from test_documents import code
 
 CRATE = Path(__file__).resolve().parent.parent
 README = (CRATE / "README.md").read_text()
@@ -153,13 +153,3 @@ def test_the_raw_crate_has_the_calls_and_constants_of_the_header():
     numbers = re.findall(r"^(?:    |#define )(ROBOTS_\w+)(?: =)? (-?\d+)\b,?", header, re.M)
     constants = re.findall(r"^pub const (ROBOTS_\w+): \w+ = (-?\d+);", raw.replace("_000", "000"), re.M)
     assert set(constants) - set(numbers) == {("ROBOTS_VERSION", "10000")} and len(constants) == 17
-
-
-def test_the_readme_keeps_the_rules_of_the_documents():
-    assert len(README.encode()) <= 5000
-    assert not [line for line in prose(README) if len(line) > 100]
-    for target in re.findall(r"\]\(([^)\s]+)\)", README):
-        path, _, anchor = target.partition("#")
-        assert (CRATE / path).exists() and (not anchor or anchor in anchors((CRATE / path).read_text())), target
-    text = re.sub(r"`[^`]*`", "", "\n".join([*prose(README), *(" | ".join(row) for row in tables(README))]))
-    assert not re.findall(rf"\b(?:{PRIVATE_WORDS})\b", text, re.I)
