@@ -1,6 +1,7 @@
-"""Threads that share a robot or a site of the C library, URLs with the places where they end, and programs in C++."""
+"""Threads that share a robot or a site of the C library, URLs with the places where they end, and programs in C++ and Go."""
 
 import ctypes
+import os
 import random
 import re
 import shutil
@@ -256,5 +257,62 @@ int main() {
     std::thread([&] { status = robots_query_batch(other.get(), joined.data(), joined.size(), ends.data(), ends.size(), batch.data()); }).join();
     std::cout << robots_may_fetch(one) << ' ' << many[1] << ' ' << batch[1] << ' ' << batch[0] << '\n';
     return status == ROBOTS_OK && robots_status_text(status) == std::string("no error") ? 0 : 5;
+}
+"""
+
+
+def test_called_from_go(installed, tmp_path):
+    if not shutil.which("go"):
+        pytest.skip("go is missing")
+    (tmp_path / "go.mod").write_text("module caller\n\ngo 1.18\n")
+    (tmp_path / "main.go").write_text(GO)
+    flags = {"CGO_ENABLED": "1", "CGO_CFLAGS": f"-I{installed}/include", "CGO_LDFLAGS": f"{installed}/lib/librobots_c.a", "CC": CC}
+    caches = {"GOCACHE": f"{tmp_path}/cache", "GOPATH": f"{tmp_path}/path", "GOFLAGS": "-mod=mod", "GOPROXY": "off", "GO111MODULE": "on"}
+    ended = subprocess.run(["go", "build", "-o", "program"], cwd=tmp_path, env=os.environ | flags | caches, capture_output=True, text=True)
+    assert ended.returncode == 0, ended.stderr
+    assert run(tmp_path / "program") == Result(0, b"true 0 [0 -2] [-2 0]\n", b"")
+
+
+GO = r"""
+package main
+
+// #include "robots.h"
+import "C"
+
+import (
+	"fmt"
+	"os"
+	"unsafe"
+)
+
+func text(s string) (*C.char, C.size_t) { return (*C.char)(unsafe.Pointer(&[]byte(s)[0])), C.size_t(len(s)) }
+
+func must(status C.int32_t) {
+	if status != C.ROBOTS_OK {
+		fmt.Fprintln(os.Stderr, C.GoString(C.robots_status_text(status)))
+		os.Exit(1)
+	}
+}
+
+func main() {
+	agent, agentLen := text("Bot")
+	file, fileLen := text("User-agent: *\nDisallow: /a")
+	var robot *C.robots_robot
+	must(C.robots_open(agent, agentLen, unsafe.Pointer(file), fileLen, &robot, nil))
+	var one C.int64_t
+	url, urlLen := text("/b")
+	must(C.robots_query(robot, url, urlLen, &one))
+	many := make([]C.int64_t, 2)
+	urls, urlsLen := text("/b\n/a")
+	must(C.robots_query_many(robot, urls, urlsLen, &many[0], 2))
+	done := make(chan []C.int64_t)
+	go func() {
+		batch, ends := make([]C.int64_t, 2), []C.size_t{2, 4}
+		joined, joinedLen := text("/a/b")
+		must(C.robots_query_batch(robot, unsafe.Pointer(joined), joinedLen, &ends[0], 2, &batch[0]))
+		done <- batch
+	}()
+	fmt.Println(C.robots_may_fetch(one) == 1, C.robots_line(one), many, <-done)
+	C.robots_close(robot)
 }
 """
