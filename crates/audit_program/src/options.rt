@@ -78,7 +78,7 @@ const PARAMETERS: &[Parameter] = &[
         short: None,
         long: Some("denied"),
         value: Value::Absent,
-        help: "List only the URLs that are denied and, in text, crawlers with such URLs",
+        help: "List only the URLs that are denied and, in text, crawlers with such URLs or a rejected file",
         excludes: &[],
     },
     Parameter {

@@ -381,7 +381,7 @@ macro_rules! every_row { ($column:ident) => { $column![
         "may fetch nothing, or only what Allows for the home page, sitemaps or files such as style sheets match; if search engines should read the site, delete this rule or add a longer Allow"
         "User-agent: *\nDisallow: /"
         "User-agent: *\nDisallow: /private/"
-        "a Disallow matches every path, and each Allow at least as long is /$, /robots.txt or the path of a sitemap of the file, begins with /.well-known or /sitemap, ends as static files do (/*.js, which also matches /a.jsp), or matches no path; not if the vendor applies another group, or the name gives misspelled-name. A warning for large search engines, and for * and crawlers without a group if no group lets a large search engine in; else a note",
+        "a Disallow matches every path, and each Allow at least as long is /$, /robots.txt or the path of a sitemap of the file, begins with /.well-known or /sitemap, ends as static files do (/*.js, which also matches /a.jsp), or matches no path; not if the vendor applies another group, or the name is in the file and gives misspelled-name. A warning for large search engines, and for * and crawlers without a group if no group lets a large search engine in; else a note",
     ClosesEverything Note "closes-everything"
         "may fetch nothing, or only what Allows for the home page, sitemaps or files such as style sheets match; if that isn't meant, delete this rule or add a longer Allow"
         "User-agent: GPTBot\nDisallow: /"
