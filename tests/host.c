@@ -309,6 +309,7 @@ static struct outcome keep(void) {
     known &= robots_query(robot, "", 0, &plain) == ROBOTS_OK && plain == 0;
     known &= robots_query(robot, ROBOTS_STRING("https://example.com:8080/private/open?a#b"), &plain) == ROBOTS_OK && plain == 3;
     known &= robots_query_delay(robot, &wait) == ROBOTS_OK && wait == 2500000 && line == 7 && robots_bytes(robot) > 3 * 64;
+    known &= robots_cost(robot, 0) == 3;
     struct outcome many = query_with(robot, COUNT);
     status = robots_query(robot, ROBOTS_STRING("/private/\xC3\xA9 b"), &out);
     known &= status == ROBOTS_OK ? out == -2 : out == 77;

@@ -1,6 +1,6 @@
-/* The calls of robots.h. Each is the proved function of the same name, which the Makefile renames to proved_robots_.., but for two things
- * that no contract grants: a text or a buffer of length 0 and a line may be NULL, and a variable for a result may be uninitialized.
- * A buffer is passed as it is. */
+/* The calls of robots.h. Each calls a proved function, whose name the Makefile begins with `proved_`: that of the same name, or one that
+ * serves several calls. Here is what no contract grants: a text or a buffer of length 0 and a line may be NULL, and a variable for a
+ * result may be uninitialized. A buffer is passed as it is. */
 #include "robots.h"
 
 #define HIDDEN __attribute__((visibility("hidden")))
@@ -9,31 +9,30 @@ PROVED(robots_version);
 PROVED(robots_open);
 PROVED(robots_query);
 PROVED(robots_query_within);
-PROVED(robots_query_many);
-PROVED(robots_query_delay);
 PROVED(robots_close);
 PROVED(robots_decide);
 PROVED(robots_site_open);
 PROVED(robots_site_robot);
 PROVED(robots_site_matrix);
-PROVED(robots_site_delay);
-PROVED(robots_site_sitemaps);
-PROVED(robots_site_agents);
-PROVED(robots_site_is_named);
 PROVED(robots_site_close);
 PROVED(robots_address);
 PROVED(robots_response_meaning);
 PROVED(robots_may_fetch);
 PROVED(robots_line);
 
-/* These proved functions write the number, and their status is 0. */
-extern int32_t proved_robots_cost(const robots_robot *robot, size_t length, uint64_t *cost) HIDDEN;
-extern int32_t proved_robots_bytes(const robots_robot *robot, size_t *bytes) HIDDEN;
-extern int32_t proved_robots_site_bytes(const robots_site *site, size_t *bytes) HIDDEN;
+/* The numbers of a robot, of which only the cost takes a length; and of a site, of which its bytes take no crawler. */
+enum { COST, ROBOT_BYTES, ROBOT_DELAY };
+enum { SITE_BYTES, IS_NAMED, SITE_DELAY };
+extern int32_t proved_robots_number(const robots_robot *robot, size_t which, size_t length, uint64_t *number) HIDDEN;
+extern int32_t proved_robots_site_number(const robots_site *site, size_t which, const char *agent, size_t agent_len,
+                                         uint64_t *number) HIDDEN;
 
-/* The proved function has a length for the results, too. */
-extern int32_t proved_robots_query_batch(const robots_robot *robot, const void *urls, size_t urls_len, const size_t *ends, size_t n,
-                                         int64_t *results, size_t results_len) HIDDEN;
+/* Its sitemaps, or else the names in its user-agent lines. */
+extern int32_t proved_robots_site_texts(const robots_site *site, bool are_agents, char *out, size_t out_len, size_t *len) HIDDEN;
+
+/* URLs that end at these places, or else those that LF separates. */
+extern int32_t proved_robots_results(const robots_robot *robot, const void *urls, size_t urls_len, const size_t *ends, size_t n,
+                                     bool are_ended, int64_t *results, size_t results_len) HIDDEN;
 
 /* A text or a buffer, with an address in place of NULL if the length is 0, so that nothing is read or written there. */
 static int64_t nowhere;
@@ -56,6 +55,12 @@ static int32_t with_delay(int32_t status, uint64_t *microseconds, uint64_t delay
     if (status == ROBOTS_OK)
         *microseconds = delay;
     return status;
+}
+
+static int32_t texts(const robots_site *site, bool are_agents, char *out, size_t out_len, size_t *len) {
+    size_t length = 0;
+    int32_t status = proved_robots_site_texts(site, are_agents, AT(out, out_len), &length);
+    return with_length(status, len, length);
 }
 
 uint32_t robots_version(void) { return proved_robots_version(); }
@@ -87,27 +92,27 @@ int32_t robots_query_within(const robots_robot *robot, const char *url, size_t u
 
 uint64_t robots_cost(const robots_robot *robot, size_t length) {
     uint64_t cost = 0;
-    proved_robots_cost(robot, length, &cost);
+    proved_robots_number(robot, COST, length, &cost);
     return cost;
 }
 
 size_t robots_bytes(const robots_robot *robot) {
-    size_t bytes = 0;
-    proved_robots_bytes(robot, &bytes);
+    uint64_t bytes = 0;
+    proved_robots_number(robot, ROBOT_BYTES, 0, &bytes);
     return bytes;
 }
 
 int32_t robots_query_many(const robots_robot *robot, const char *urls, size_t urls_len, int64_t *results, size_t results_len) {
-    return proved_robots_query_many(robot, AT(urls, urls_len), AT(results, results_len));
+    return proved_robots_results(robot, AT(urls, urls_len), AT(NULL, 0), false, AT(results, results_len));
 }
 
 int32_t robots_query_batch(const robots_robot *robot, const void *urls, size_t urls_len, const size_t *ends, size_t n, int64_t *results) {
-    return proved_robots_query_batch(robot, AT(urls, urls_len), AT(ends, n), AT(results, n));
+    return proved_robots_results(robot, AT(urls, urls_len), AT(ends, n), true, AT(results, n));
 }
 
 int32_t robots_query_delay(const robots_robot *robot, uint64_t *microseconds) {
     uint64_t delay = 0;
-    int32_t status = proved_robots_query_delay(robot, &delay);
+    int32_t status = proved_robots_number(robot, ROBOT_DELAY, 0, &delay);
     return with_delay(status, microseconds, delay);
 }
 
@@ -145,30 +150,28 @@ int32_t robots_site_matrix(const robots_site *site, const char *agents, size_t a
 
 int32_t robots_site_delay(const robots_site *site, const char *agent, size_t agent_len, uint64_t *microseconds) {
     uint64_t delay = 0;
-    int32_t status = proved_robots_site_delay(site, AT(agent, agent_len), &delay);
+    int32_t status = proved_robots_site_number(site, SITE_DELAY, AT(agent, agent_len), &delay);
     return with_delay(status, microseconds, delay);
 }
 
 size_t robots_site_bytes(const robots_site *site) {
-    size_t bytes = 0;
-    proved_robots_site_bytes(site, &bytes);
+    uint64_t bytes = 0;
+    proved_robots_site_number(site, SITE_BYTES, AT("", 0), &bytes);
     return bytes;
 }
 
 int32_t robots_site_sitemaps(const robots_site *site, char *out, size_t out_len, size_t *len) {
-    size_t length = 0;
-    int32_t status = proved_robots_site_sitemaps(site, AT(out, out_len), &length);
-    return with_length(status, len, length);
+    return texts(site, false, out, out_len, len);
 }
 
 int32_t robots_site_agents(const robots_site *site, char *out, size_t out_len, size_t *len) {
-    size_t length = 0;
-    int32_t status = proved_robots_site_agents(site, AT(out, out_len), &length);
-    return with_length(status, len, length);
+    return texts(site, true, out, out_len, len);
 }
 
 int32_t robots_site_is_named(const robots_site *site, const char *agent, size_t agent_len) {
-    return proved_robots_site_is_named(site, AT(agent, agent_len));
+    uint64_t is_named = 0;
+    int32_t status = proved_robots_site_number(site, IS_NAMED, AT(agent, agent_len), &is_named);
+    return status == ROBOTS_OK ? (int32_t)is_named : status;
 }
 
 void robots_site_close(robots_site *site) { proved_robots_site_close(site); }

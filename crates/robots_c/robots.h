@@ -50,13 +50,14 @@
  * that robots_site_open opened; each is closed once, in any order. Robots and sites don't need each other, nor the texts that they were
  * opened with. No call keeps a pointer to a text.
  *
- * PROOF. crates/robots_c/src has a contract for each call, from the file's bytes to every number written; of robots_bytes and
- * robots_site_bytes it has only a lower bound, and tests compare them with malloc. For which URLs robots_query doesn't allocate is tested.
- * That NULL and uninitialized outputs are allowed isn't in the contracts: bindings/c/robots.c replaces NULL by an address, and single
- * outputs by variables of its own, and that is tested. Of threads it is proved that robots and sites can be shared between them (Send and
- * Sync), and that several calls with one handle can have what each requires (robots_lent_to_two_calls); as the logic is one of sequential
- * programs, that calls which overlap don't disturb each other is tested, by ThreadSanitizer, helgrind and DRD. docs/PROOFS.md states what
- * is proved and what is tested. The compiled library is for Linux on x86-64-v2 processors (SSE4.2, POPCNT), and on arm64. */
+ * PROOF. crates/robots_c/src has a contract for each function that bindings/c/robots.c makes these calls of, from the file's bytes to
+ * every number written; of robots_bytes and robots_site_bytes it has only a lower bound, and tests compare them with malloc. For which
+ * URLs robots_query doesn't allocate is tested. What robots.c adds isn't in the contracts, and is tested: NULL and uninitialized outputs
+ * are allowed, since it replaces NULL by an address, and single outputs by variables of its own; and it says which of its results it wants
+ * of a function that serves several calls. Of threads it is proved that robots and sites can be shared between them (Send and Sync), and
+ * that several calls with one handle can have what each requires (robots_lent_to_two_calls); as the logic is one of sequential programs,
+ * that calls which overlap don't disturb each other is tested, by ThreadSanitizer, helgrind and DRD. docs/PROOFS.md states what is proved
+ * and what is tested. The compiled library is for Linux on x86-64-v2 processors (SSE4.2, POPCNT), and on arm64. */
 #ifndef ROBOTS_H
 #define ROBOTS_H
 #include <stdbool.h>

@@ -1,5 +1,5 @@
 -- Borrowing what C keeps: calls, and what they lend.
-use Rattle.std.proofs.Common.{◌<◌, ◌^◌, ℤ, sym, subst, Bor, ◌++◌}
+use Rattle.std.proofs.Common.{◌<◌, ◌^◌, Bool, ℤ, sym, subst, Bor, ◌++◌}
 use Rattle.c_calls.specs.File.{IsRobotFor, IsRobotOfSomeFile, bytes_read}
 use Rattle.c_calls.specs.Kept.{Robots, Sites, opened_at, owned_at, owned_or_null}
 use Rattle.std.specs.contracts.alloc.Global as Global
@@ -15,9 +15,9 @@ use base.Share
 use base.Fml.{Fml, Lft, Share, ftrue, fat, fsep, feq, Incl, Incl-refl}
 use base.Logic.{SProp, emp, ent, ex, fst∗, snd∗, guard, id⊢, never, sep, via, never_e, wand}
 use contract.Monad.{fact_use}
-use mir.Syntax.{Callee, Fn, Place, Opd as Operand, Body, Ty, call, named, seq, ty_int, ty_ptr, w32, w64}
+use mir.Syntax.{Callee, Fn, Place, Opd as Operand, Body, Ty, call, named, seq, ty_bool, ty_int, ty_ptr, w32, w64}
 use mir.Syntax.{addr_of, copy, deref, place as local_place, rv_opd}
-use mir.Val.{Val, WT, has_ty, vint, vptr}
+use mir.Val.{Val, WT, has_ty, vbool, vint, vptr}
 use mir.ValLaws.{of_z_fits}
 use prog.Model.{Model}
 use prog.Wp.{Closed, Env, WpFn, spot_of}
@@ -122,6 +122,9 @@ number {n} {vs} (is, fits) = record {
   is = is;
   good = (tt, record { fits = fits });
 }
+
+abbrev pub flag : {b : Bool} {vs : List Val} → vs ≡ vbool b ∷ [] → Word
+flag {b} is = record { type = ty_bool; listed = _; value = vbool b; is = is; good = (tt, tt) }
 
 abbrev pub pointer : {M : Type 1} {𝓤 : Ura M} (𝓛 : Logic 𝓤) → Ptr → Word
 pointer 𝓛 p = record {

@@ -1,5 +1,5 @@
 -- What the bytes of a file mean for one crawler, or for all crawlers.
-use Rattle.std.specs.Prelude.{◌≡◌, ℕ, IsUtf8, List, Option, take}
+use Rattle.std.specs.Prelude.{◌≡◌, ℕ, Bool, true, false, IsUtf8, List, Option, take}
 use Rattle.printable_text.specs.Lines.{ended}
 use Rattle.texting_robots.specs.Callers.{AreSitemapsOf, HasLines, IsDelayFor, IsRobotWithoutSitemaps}
 use Rattle.texting_robots.specs.Callers.{RobotValue, agents_in, file_limit, file_lines}
@@ -35,3 +35,7 @@ pub record AreSitemaps (site text : List ℕ) : Type 0 where
 -- the names in the site's user-agent lines, each once and followed by LF
 abbrev pub AreAgents : List ℕ → List ℕ → Type 0
 AreAgents site text = text ≡ ended (agents_in (file_lines site))
+
+abbrev pub AreTexts : Bool → List ℕ → List ℕ → Type 0
+AreTexts true site text = AreAgents site text
+AreTexts false site text = AreSitemaps site text

@@ -40,8 +40,9 @@ HasResult rules url number = IsUtf8 url × IsResult rules url number
 abbrev pub HasResults : List PlacedRule → List ℕ → List ℤ → Type 0
 HasResults rules text numbers = IsUtf8 text × AllZip (IsResult rules) (items_in text) numbers
 
-abbrev pub ArePutIn : List PlacedRule → List ℕ → List ℤ → List ℤ → Type 0
-ArePutIn rules text old new = (numbers : List ℤ) × HasResults rules text numbers × IsPutIn old new numbers
+-- numbers with the property P are written to the start of the buffer, in order
+abbrev pub ArePutIn : (List ℤ → Type 0) → List ℤ → List ℤ → Type 0
+ArePutIn P old new = (numbers : List ℤ) × P numbers × IsPutIn old new numbers
 
 -- ---- the results of many crawlers: a row for each crawler with a number for each URL
 
@@ -66,10 +67,6 @@ pub record HasMatrix (site agents urls : List ℕ) (numbers : List ℤ) : Type 0
   pub agents_utf8 : IsUtf8 agents
   pub urls_utf8 : IsUtf8 urls
   pub rows : AreRows site (map prepared (items_in urls)) (items_in agents) numbers
-
-abbrev pub IsMatrixPutIn : List ℕ → List ℕ → List ℕ → List ℤ → List ℤ → Type 0
-IsMatrixPutIn site agents urls old new =
-    (numbers : List ℤ) × HasMatrix site agents urls numbers × IsPutIn old new numbers
 
 abbrev pub number_of : Bool → Option ℕ → ℤ
 number_of allowed None = pos 0

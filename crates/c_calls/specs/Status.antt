@@ -1,10 +1,9 @@
 -- The statuses that C functions return, and their causes.
-use Rattle.std.specs.Prelude.{◌≡◌, ◌⊎◌, ℕ, ◌*◌, ◌<◌, ◌≤◌, ℤ, pos, negsuc, List, Option, None, Ok, Err, IsUtf8}
-use Rattle.std.specs.Prelude.{if◌then◌else◌, length}
-use Rattle.texting_robots.specs.Callers.{IsFirstOverlong, file_lines, is_named, PlacedRule}
+use Rattle.std.specs.Prelude.{◌≡◌, ◌⊎◌, ℕ, ◌*◌, ◌<◌, ◌≤◌, ℤ, pos, negsuc, List, Ok, Err, IsUtf8, length}
+use Rattle.texting_robots.specs.Callers.{IsFirstOverlong, file_lines, PlacedRule}
 use Rattle.texting_robots.specs.Callers.{cost_of, placed_rules, prepared, robots_address}
 use Rattle.url.specs.declared.error.{ParseError.ParseError}
-use Rattle.c_calls.specs.{File.HasDelay, Results.items_in, declared.error.Error.Error}
+use Rattle.c_calls.specs.{Results.items_in, declared.error.Error.Error}
 use Rattle.c_calls.specs.declared.error.Error.TheVariants.{Memory, NoAddress, NoDelay, BufferTooSmall}
 use Rattle.texting_robots.specs.declared.error.RobotError.{RobotError}
 use Rattle.texting_robots.specs.declared.error.RobotError.TheVariants as rejection
@@ -95,17 +94,6 @@ IsWhyNotWithin rules url budget TooCostly =
     IsUtf8 url × (budget < cost_of rules (length (prepared url)))
 IsWhyNotWithin rules url budget _ = ⊥
 
--- the delay of a robot
-abbrev pub IsWhyNone : Option ℕ → Error → Type 0
-IsWhyNone delay NoDelay = delay ≡ None
-IsWhyNone delay _ = ⊥
-
--- the delay of a crawler, which needs no allocation
-abbrev pub IsWhyNoDelay : List ℕ → List ℕ → Error → Type 0
-IsWhyNoDelay agent site NotUtf8 = ¬ IsUtf8 agent
-IsWhyNoDelay agent site NoDelay = HasDelay agent site None
-IsWhyNoDelay agent site _ = ⊥
-
 -- the robots.txt address for the site of a URL that is UTF-8
 abbrev pub IsAddress : List ℕ → List ℕ → Type 0
 IsAddress url text = IsUtf8 url × (robots_address url ≡ Ok text)
@@ -116,9 +104,3 @@ IsWhyNoAddress url NotUtf8 = ¬ IsUtf8 url
 IsWhyNoAddress url Memory = IsUtf8 url
 IsWhyNoAddress url NoAddress = IsUtf8 url × ((error : ParseError) × (robots_address url ≡ Err error))
 IsWhyNoAddress url _ = ⊥
-
--- 1 if one does, 0 if none does, and the status of an error if the crawler's name isn't UTF-8
-abbrev pub SaysNamed : List ℕ → List ℕ → ℤ → Type 0
-SaysNamed agent site number =
-    (IsUtf8 agent × (number ≡ (if is_named agent (file_lines site) then pos 1 else pos 0)))
-    ⊎ ((¬ IsUtf8 agent) × (number ≡ status_of NotUtf8))

@@ -1,12 +1,12 @@
-//! The results for URLs in one text, each with the place where it ends.
+//! The results for URLs in one text: each with the place where it ends, or separated by LF.
 ghost use Rattle.std.specs.Prelude.{◌≡◌, ◌≢◌, ◌≤◌, IfErr, IfOk, IsUtf8, MatchBool, length, pos};
 ghost use Rattle.std.specs.List.{All, AllZip};
-ghost use Rattle.c_calls.specs.Batch.{Ascend, IsBatchPutIn, IsWhyNoBatch, pieces};
-ghost use Rattle.c_calls.specs.{File.IsRobotOfSomeFile, Results.HasResult, Status.HasError};
+ghost use Rattle.c_calls.specs.Batch.{AreResults, Ascend, IsWhyNone, pieces};
+ghost use Rattle.c_calls.specs.{File.IsRobotOfSomeFile, Results.ArePutIn, Results.HasResult, Status.HasError};
 
 use crate::error::Error;
 use crate::file::text_of;
-use crate::urls::result_for;
+use crate::urls::{result_for, results_of};
 use std::alloc::Global;
 use texting_robots::Robot;
 
@@ -55,19 +55,22 @@ fn numbers_at(alloc: Global, robot: &Robot, text: &[u8], ends: &[usize]) -> Resu
     Ok(numbers)
 }
 
-fn results_at(
+fn results_in(
     alloc: Global,
     robot: &Robot,
     text: &[u8],
     ends: &[usize],
+    are_ended: bool,
     capacity: usize,
 ) -> Result<Vec<i64>, Error>
     requires { IsRobotOfSomeFile robot.now }
-    ensures ends { IfOk result (λ _. Ascend 0 ends.now (length text.now)) }
-    ensures ok { IfOk result (λ numbers. AllZip (HasResult robot.now.rules) (pieces text.now 0 ends.now) numbers.items) }
+    ensures ok { IfOk result (λ numbers. AreResults robot.now.rules text.now ends.now are_ended numbers.items) }
     ensures capacity { IfOk result (λ numbers. length numbers.items ≤ capacity) }
-    ensures error { IfErr result (IsWhyNoBatch text.now ends.now capacity) }
+    ensures error { IfErr result (IsWhyNone text.now ends.now are_ended capacity) }
 {
+    if !are_ended {
+        return results_of(alloc, robot, text, capacity);
+    }
     if !ascend(ends, text.len()) {
         return Err(Error::InvalidEnds);
     }
@@ -81,20 +84,22 @@ fn results_at(
     Ok(numbers)
 }
 
-/// Each URL ends at one of these places.
-pub fn query_batch(
+/// Each URL ends at one of these places, or else LF separates them, and the places don't matter.
+pub fn query_many(
     alloc: Global,
     robot: &Robot,
     text: &[u8],
     ends: &[usize],
+    are_ended: bool,
     out: &mut [i64],
 ) -> i32
     requires { IsRobotOfSomeFile robot.now }
-    ensures written { result ≡ pos 0 → IsBatchPutIn robot.now.rules text.now ends.now out.old out.new }
+    ensures written { result ≡ pos 0
+        → ArePutIn (AreResults robot.now.rules text.now ends.now are_ended) out.old out.new }
     ensures kept { result ≢ pos 0 → out.new ≡ out.old }
-    ensures why { HasError (IsWhyNoBatch text.now ends.now (length out.old)) result }
+    ensures why { HasError (IsWhyNone text.now ends.now are_ended (length out.old)) result }
 {
-    match results_at(alloc, robot, text, ends, out.len()) {
+    match results_in(alloc, robot, text, ends, are_ended, out.len()) {
         Ok(numbers) => {
             out[..numbers.len()].copy_from_slice(&numbers);
             0

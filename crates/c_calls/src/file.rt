@@ -1,7 +1,7 @@
 //! What a file means for a crawler.
-ghost use Rattle.std.specs.Prelude.{◌≡◌, IfErr, IfOk, IsUtf8, Some};
-ghost use Rattle.c_calls.specs.File.{HasDelay, IsRobotFor, bytes_read};
-ghost use Rattle.c_calls.specs.Status.{IsWhyNoDelay, IsWhyNoRobot};
+ghost use Rattle.std.specs.Prelude.{◌≡◌, IfErr, IfOk, IsUtf8};
+ghost use Rattle.c_calls.specs.File.{IsRobotFor, bytes_read};
+ghost use Rattle.c_calls.specs.Status.{IsWhyNoRobot};
 
 use crate::error::Error;
 use std::alloc::Global;
@@ -34,16 +34,5 @@ pub(crate) fn robot_of(alloc: Global, agent: &[u8], file: &[u8]) -> Result<Robot
             Ok(site.robot_without_sitemaps(alloc, agent)?)
         }
         Err(LibraryError::Memory | LibraryError::InvalidRobots) => Err(Error::Memory),
-    }
-}
-
-/// In microseconds. Rules that are too long don't matter, and it doesn't allocate.
-pub(crate) fn delay_in(site: &Site, agent: &[u8]) -> Result<u64, Error>
-    ensures ok { IfOk result (λ delay. HasDelay agent.now site.now (Some delay)) }
-    ensures error { IfErr result (IsWhyNoDelay agent.now site.now) }
-{
-    match site.delay(text_of(agent)?) {
-        Some(delay) => Ok(delay),
-        None => Err(Error::NoDelay),
     }
 }

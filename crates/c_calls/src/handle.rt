@@ -1,8 +1,8 @@
 //! A robot that C keeps between calls.
-ghost use Rattle.std.specs.Prelude.{◌≡◌, ◌≢◌, ◌≤◌, ◌*◌, Some, None, IfErr, IfOk, length, pos};
+ghost use Rattle.std.specs.Prelude.{◌≡◌, ◌≢◌, ◌<◌, Some, None, IfErr, IfOk, pos};
 ghost use Rattle.c_calls.specs.File.{GivesRobot, IsRobotFor, bytes_read};
-ghost use Rattle.c_calls.specs.Status.{HasError, HasErrorAt, IsWhyNoRobot, IsWhyNone};
-ghost use Rattle.texting_robots.specs.Callers.{cost_of, seen_of};
+ghost use Rattle.c_calls.specs.Number.{IsNumber};
+ghost use Rattle.c_calls.specs.Status.{HasErrorAt, IsWhyNoRobot, status_of};
 
 use crate::error::Error;
 use crate::file::robot_of;
@@ -46,11 +46,23 @@ pub fn opened(
     }
 }
 
-pub fn query_delay(robot: &Robot, out: &mut u64) -> i32
-    ensures written { result ≡ pos 0 → robot.now.delay ≡ Some out.new }
+/// Writes a number: for 0 what a query within a budget costs at most for a match target of this length, for 1
+/// how many bytes of memory the robot takes with this handle, and else its delay in microseconds. It doesn't
+/// allocate.
+pub fn number(robot: &Robot, which: usize, length: usize, out: &mut u64) -> i32
+    ensures written { result ≡ pos 0 → IsNumber robot.now which length out.new }
     ensures kept { result ≢ pos 0 → out.new ≡ out.old }
-    ensures why { HasError (IsWhyNone robot.now.delay) result }
+    ensures no_delay { result ≢ pos 0
+        → (1 < which) × (robot.now.delay ≡ None) × (result ≡ status_of Error.NoDelay) }
 {
+    if which == 0 {
+        *out = robot.cost(length);
+        return 0;
+    }
+    if which == 1 {
+        *out = robot.bytes() as u64;
+        return 0;
+    }
     match robot.delay {
         Some(delay) => {
             *out = delay;
@@ -58,20 +70,4 @@ pub fn query_delay(robot: &Robot, out: &mut u64) -> i32
         }
         None => Error::NoDelay.status(),
     }
-}
-
-pub fn cost(robot: &Robot, length: usize, out: &mut u64) -> i32
-    ensures status { result ≡ pos 0 }
-    ensures written { out.new ≡ seen_of (cost_of robot.now.rules length) }
-{
-    *out = robot.cost(length);
-    0
-}
-
-pub fn bytes(robot: &Robot, out: &mut usize) -> i32
-    ensures status { result ≡ pos 0 }
-    ensures written { seen_of (64 * length robot.now.rules) ≤ out.new }
-{
-    *out = robot.bytes();
-    0
 }

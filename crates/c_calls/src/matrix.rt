@@ -3,7 +3,7 @@ ghost use Rattle.std.specs.Prelude.{◌≡◌, ◌≢◌, ◌<◌, ◌≤◌, �
 ghost use Rattle.std.specs.Prelude.{string_bytes};
 ghost use Rattle.std.specs.List.{AllZip};
 ghost use Rattle.c_calls.specs.File.{IsSiteOfSomeFile};
-ghost use Rattle.c_calls.specs.Results.{AreRows, HasMatrix, IsMatrixPutIn, IsResultOn, IsRow, LinesFit, items_in};
+ghost use Rattle.c_calls.specs.Results.{ArePutIn, AreRows, HasMatrix, IsResultOn, IsRow, LinesFit, items_in};
 ghost use Rattle.c_calls.specs.Status.{HasError, IsWhyNoMatrix};
 ghost use Rattle.texting_robots.specs.Callers.{prepared};
 
@@ -155,7 +155,7 @@ fn matrix_in(
 
 pub fn matrix_by(alloc: Global, site: &Site, agents: &[u8], urls: &[u8], out: &mut [i64]) -> i32
     requires { IsSiteOfSomeFile site.now }
-    ensures written { result ≡ pos 0 → IsMatrixPutIn site.now agents.now urls.now out.old out.new }
+    ensures written { result ≡ pos 0 → ArePutIn (HasMatrix site.now agents.now urls.now) out.old out.new }
     ensures kept { result ≢ pos 0 → out.new ≡ out.old }
     ensures why { HasError (IsWhyNoMatrix agents.now urls.now (length out.old)) result }
 {

@@ -1,15 +1,15 @@
 //! A site that C keeps between calls: a file that is read once for all crawlers.
-ghost use Rattle.std.specs.Prelude.{◌≡◌, ◌≢◌, ◌≤◌, ◌⊎◌, Some, IfErr, IfOk, length, pos};
-ghost use Rattle.c_calls.specs.File.{AreAgents, AreSitemaps, GivesRobot, HasDelay, IsRobotFor, bytes_read};
-ghost use Rattle.c_calls.specs.Status.{HasError, HasErrorAt, IsWhyNoDelay, IsWhyNoSite, IsWhyNoRobot};
-ghost use Rattle.c_calls.specs.Status.{SaysNamed, status_of};
+ghost use Rattle.std.specs.Prelude.{◌≡◌, ◌≢◌, ◌⊎◌, Some, IfErr, IfOk, length, pos};
+ghost use Rattle.c_calls.specs.File.{AreTexts, GivesRobot, IsRobotFor, bytes_read};
+ghost use Rattle.c_calls.specs.Number.{IsSiteNumber, IsWhyNoSiteNumber};
+ghost use Rattle.c_calls.specs.Status.{HasError, HasErrorAt, IsWhyNoSite, IsWhyNoRobot, status_of};
 ghost use Rattle.c_calls.specs.Text.{IsTooLong, IsWritten};
 
 use crate::error::Error;
-use crate::file::{delay_in, text_of};
+use crate::file::text_of;
 use crate::handle::for_any_thread;
 use crate::kept::{Handle, Kept};
-use crate::texts::{agents_in, put, sitemaps_in};
+use crate::texts::{put, texts_in};
 use std::alloc::{AllocError, Global};
 use texting_robots::{Robot, Site};
 
@@ -65,59 +65,52 @@ pub fn robot_opened(
     }
 }
 
-pub fn delay(site: &Site, agent: &[u8], out: &mut u64) -> i32
-    ensures written { result ≡ pos 0 → HasDelay agent.now site.now (Some out.new) }
-    ensures kept { result ≢ pos 0 → out.new ≡ out.old }
-    ensures why { HasError (IsWhyNoDelay agent.now site.now) result }
+fn number_in(site: &Site, which: usize, agent: &[u8]) -> Result<u64, Error>
+    ensures ok { IfOk result (IsSiteNumber site.now which agent.now) }
+    ensures error { IfErr result (IsWhyNoSiteNumber site.now which agent.now) }
 {
-    match delay_in(site, agent) {
-        Ok(delay) => {
-            *out = delay;
+    if which == 0 {
+        return Ok(site.bytes() as u64);
+    }
+    let agent = text_of(agent)?;
+    if which == 1 {
+        return Ok(u64::from(site.is_named(agent)));
+    }
+    match site.delay(agent) {
+        Some(delay) => Ok(delay),
+        None => Err(Error::NoDelay),
+    }
+}
+
+/// Writes a number: for 0 how many bytes of memory the site takes with this handle, for 1 whether a user-agent
+/// line names the crawler, as 1 or 0, and else the crawler's delay in microseconds. Rules that are too long
+/// don't matter, and it doesn't allocate.
+pub fn number(site: &Site, which: usize, agent: &[u8], out: &mut u64) -> i32
+    ensures written { result ≡ pos 0 → IsSiteNumber site.now which agent.now out.new }
+    ensures kept { result ≢ pos 0 → out.new ≡ out.old }
+    ensures why { HasError (IsWhyNoSiteNumber site.now which agent.now) result }
+{
+    match number_in(site, which, agent) {
+        Ok(number) => {
+            *out = number;
             0
         }
         Err(error) => error.status(),
     }
 }
 
-pub fn bytes(site: &Site, out: &mut usize) -> i32
-    ensures status { result ≡ pos 0 }
-    ensures written { length site.now ≤ out.new }
-{
-    *out = site.bytes();
-    0
-}
-
-pub fn sitemaps(alloc: Global, site: &Site, out: &mut [u8], len: &mut usize) -> i32
-    ensures written { result ≡ pos 0 → IsWritten (AreSitemaps site.now) out.old out.new len.new }
-    ensures buffer_too_small { result ≡ status_of Error.BufferTooSmall → IsTooLong (AreSitemaps site.now) (length out.old) len.new }
+/// Writes the names in the site's user-agent lines, or else its sitemaps, each followed by LF, and their total
+/// length. If the buffer is too small, it writes only the length.
+pub fn texts(alloc: Global, site: &Site, are_agents: bool, out: &mut [u8], len: &mut usize) -> i32
+    ensures written { result ≡ pos 0 → IsWritten (AreTexts are_agents site.now) out.old out.new len.new }
+    ensures buffer_too_small { result ≡ status_of Error.BufferTooSmall
+        → IsTooLong (AreTexts are_agents site.now) (length out.old) len.new }
     ensures length_kept { result ≢ pos 0 → result ≢ status_of Error.BufferTooSmall → len.new ≡ len.old }
     ensures kept { result ≢ pos 0 → out.new ≡ out.old }
     ensures why { (result ≡ pos 0) ⊎ ((result ≡ status_of Error.BufferTooSmall) ⊎ (result ≡ status_of Error.Memory)) }
 {
-    match sitemaps_in(alloc, site) {
+    match texts_in(alloc, site, are_agents) {
         Ok(text) => put(&text, out, len),
         Err(AllocError) => Error::Memory.status(),
-    }
-}
-
-pub fn agents(alloc: Global, site: &Site, out: &mut [u8], len: &mut usize) -> i32
-    ensures written { result ≡ pos 0 → IsWritten (AreAgents site.now) out.old out.new len.new }
-    ensures buffer_too_small { result ≡ status_of Error.BufferTooSmall → IsTooLong (AreAgents site.now) (length out.old) len.new }
-    ensures length_kept { result ≢ pos 0 → result ≢ status_of Error.BufferTooSmall → len.new ≡ len.old }
-    ensures kept { result ≢ pos 0 → out.new ≡ out.old }
-    ensures why { (result ≡ pos 0) ⊎ ((result ≡ status_of Error.BufferTooSmall) ⊎ (result ≡ status_of Error.Memory)) }
-{
-    match agents_in(alloc, site) {
-        Ok(text) => put(&text, out, len),
-        Err(AllocError) => Error::Memory.status(),
-    }
-}
-
-pub fn is_named(site: &Site, agent: &[u8]) -> i32
-    ensures { SaysNamed agent.now site.now result }
-{
-    match text_of(agent) {
-        Ok(agent) => i32::from(site.is_named(agent)),
-        Err(error) => error.status(),
     }
 }

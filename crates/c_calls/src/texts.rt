@@ -2,7 +2,7 @@
 ghost use Rattle.std.specs.Prelude.{◌≡◌, ◌≢◌, ◌<◌, ◌⊎◌, IfErr, IfOk, length, map, pos, string_bytes};
 ghost use Rattle.printable_text.specs.Lines.{ended};
 ghost use Rattle.c_calls.specs.Status.{IsAddress, IsWhyNoAddress, status_of};
-ghost use Rattle.c_calls.specs.{File.AreAgents, File.AreSitemaps, Text.IsPutIn};
+ghost use Rattle.c_calls.specs.{File.AreTexts, Text.IsPutIn};
 
 use crate::error::Error;
 use crate::file::text_of;
@@ -21,18 +21,15 @@ fn lines_of(alloc: Global, texts: &[&str]) -> Result<String, AllocError>
     Ok(lines)
 }
 
-pub(crate) fn sitemaps_in(alloc: Global, site: &Site) -> Result<String, AllocError>
-    ensures { IfOk result (λ text. AreSitemaps site.now (string_bytes text)) }
+pub(crate) fn texts_in(alloc: Global, site: &Site, are_agents: bool) -> Result<String, AllocError>
+    ensures { IfOk result (λ text. AreTexts are_agents site.now (string_bytes text)) }
 {
+    if are_agents {
+        let agents = site.agents(alloc)?;
+        return lines_of(alloc, &agents);
+    }
     let sitemaps = site.sitemaps(alloc)?;
     lines_of(alloc, &sitemaps)
-}
-
-pub(crate) fn agents_in(alloc: Global, site: &Site) -> Result<String, AllocError>
-    ensures { IfOk result (λ text. AreAgents site.now (string_bytes text)) }
-{
-    let agents = site.agents(alloc)?;
-    lines_of(alloc, &agents)
 }
 
 pub fn address(alloc: Global, url: &[u8]) -> Result<String, Error>

@@ -2,7 +2,7 @@
 ghost use Rattle.std.specs.Prelude.{◌≡◌, ◌≢◌, ◌<◌, ◌≤◌, ◌==◌, ◌^◌, IfErr, IfOk, IfSome, IsUtf8, count_by, length, pos, string_bytes};
 ghost use Rattle.std.specs.List.{AllZip};
 ghost use Rattle.c_calls.specs.File.{GivesRobot, IsRobotOfSomeFile, bytes_read};
-ghost use Rattle.c_calls.specs.Results.{ArePutIn, HasResult, HasResults, IsResult, IsResultOn, LinesFit, number_of, items_in, lf};
+ghost use Rattle.c_calls.specs.Results.{HasResult, HasResults, IsResult, IsResultOn, LinesFit, number_of, items_in, lf};
 ghost use Rattle.c_calls.specs.Status.{HasError, IsWhyNoResult, IsWhyNoResults, IsWhyNotWithin, IsWhyUndecided};
 
 use crate::error::Error;
@@ -118,7 +118,12 @@ pub fn decide(
     Ok(numbers)
 }
 
-fn results_of(alloc: Global, robot: &Robot, urls: &[u8], capacity: usize) -> Result<Vec<i64>, Error>
+pub(crate) fn results_of(
+    alloc: Global,
+    robot: &Robot,
+    urls: &[u8],
+    capacity: usize,
+) -> Result<Vec<i64>, Error>
     requires { IsRobotOfSomeFile robot.now }
     ensures ok { IfOk result (λ numbers. HasResults robot.now.rules urls.now numbers.items) }
     ensures capacity { IfOk result (λ numbers. length numbers.items ≤ capacity) }
@@ -153,21 +158,6 @@ pub fn query_within(alloc: Global, robot: &Robot, url: &[u8], budget: u64, out: 
     match result_within(alloc, robot, url, budget) {
         Ok(number) => {
             *out = number;
-            0
-        }
-        Err(error) => error.status(),
-    }
-}
-
-pub fn query_many(alloc: Global, robot: &Robot, urls: &[u8], out: &mut [i64]) -> i32
-    requires { IsRobotOfSomeFile robot.now }
-    ensures written { result ≡ pos 0 → ArePutIn robot.now.rules urls.now out.old out.new }
-    ensures kept { result ≢ pos 0 → out.new ≡ out.old }
-    ensures why { HasError (IsWhyNoResults urls.now (length out.old)) result }
-{
-    match results_of(alloc, robot, urls, out.len()) {
-        Ok(numbers) => {
-            out[..numbers.len()].copy_from_slice(&numbers);
             0
         }
         Err(error) => error.status(),

@@ -1,34 +1,34 @@
-//! The functions of `robots.h`, next to `src/`.
+//! The functions of which `bindings/c/robots.c` makes those of `robots.h`, next to `src/`.
 //!
 //! A function that can fail returns a status: 0, or the negative number of an error. It writes its result
 //! only if the status is 0. Some also write the length that they need, or the line of a rule that is too
 //! long, if they fail for this reason.
 #![tactic(auto)]
 
-ghost use Rattle.std.specs.Prelude.{◌≡◌, ◌≢◌, ◌≤◌, ◌*◌, ◌⊎◌, Some, if◌then◌else◌, length, pos, unwrap_or};
+ghost use Rattle.std.specs.Prelude.{◌≡◌, ◌≢◌, ◌<◌, ◌⊎◌, None, if◌then◌else◌, length, pos, unwrap_or};
 ghost use Rattle.std.specs.Borrow.{sem};
 ghost use base.Fml.{Lft, Share, flft};
-ghost use Rattle.c_calls.specs.Batch.{IsBatchPutIn, IsWhyNoBatch};
+ghost use Rattle.c_calls.specs.Batch.{AreResults, IsWhyNone};
 ghost use Rattle.c_calls.specs.File.{GivesRobot, IsRobotFor, IsRobotOfSomeFile, bytes_read};
 ghost use Rattle.c_calls.specs.Kept.{Robots, lends, opens, owned_or_null};
+ghost use Rattle.c_calls.specs.Number.{IsNumber};
 ghost use Rattle.c_calls.specs.Response.{SaysMeaning};
-ghost use Rattle.c_calls.specs.Results.{ArePutIn, HasResult, is_allowed, line_named, no_result};
-ghost use Rattle.c_calls.specs.Status.{HasError, HasErrorAt, IsAddress, IsWhyNoAddress};
-ghost use Rattle.c_calls.specs.Status.{IsWhyNoResult, IsWhyNoResults, IsWhyNoRobot, IsWhyNone};
-ghost use Rattle.c_calls.specs.Status.{IsWhyNotWithin, IsWhyUndecided, status_of};
+ghost use Rattle.c_calls.specs.Results.{ArePutIn, HasResult, HasResults, is_allowed, line_named, no_result};
+ghost use Rattle.c_calls.specs.Status.{HasError, HasErrorAt, IsAddress, IsWhyNoAddress, IsWhyNoResult};
+ghost use Rattle.c_calls.specs.Status.{IsWhyNoRobot, IsWhyNotWithin, IsWhyUndecided, status_of};
 ghost use Rattle.c_calls.specs.Text.{IsTooLong, IsWritten};
-ghost use Rattle.texting_robots.specs.Callers.{RobotValue, cost_of, seen_of};
+ghost use Rattle.texting_robots.specs.Callers.{RobotValue};
 
 mod site;
 
-use c_calls::batch::query_batch;
+use c_calls::batch::query_many;
 use c_calls::error::Error;
-use c_calls::handle::{bytes, close, cost, opened, query_delay};
+use c_calls::handle::{close, number, opened};
 use c_calls::kept::{Handle, Kept};
 use c_calls::matrix::NO_RESULT;
 use c_calls::response::meaning;
 use c_calls::texts::{address, put};
-use c_calls::urls::{decide, query, query_many, query_within};
+use c_calls::urls::{decide, query, query_within};
 use std::alloc::Global;
 use texting_robots::Robot;
 
@@ -52,7 +52,7 @@ pub extern "C" fn robots_decide(
     line: &mut usize,
 ) -> i32
     ensures written { result ≡ pos 0
-        → GivesRobot agent.now (bytes_read file.now) (λ robot. ArePutIn robot.rules urls.now out.old out.new) }
+        → GivesRobot agent.now (bytes_read file.now) (λ robot. ArePutIn (HasResults robot.rules urls.now) out.old out.new) }
     ensures kept { result ≢ pos 0 → out.new ≡ out.old }
     ensures why { HasErrorAt (IsWhyUndecided agent.now (bytes_read file.now) urls.now (length out.old)) result line.old line.new }
 {
@@ -117,31 +117,6 @@ pub unsafe extern "C" fn robots_query(
     query(alloc, &*(robot as *const Robot), url, out)
 }
 
-/// Writes what `robots_query_within` costs at most for a match target of this length. It doesn't allocate.
-#[unsafe(no_mangle)]
-pub unsafe extern "C" fn robots_cost(robot: *const u8, length: usize, out: &mut u64) -> i32
-    ghost g: { Lft × Share × RobotValue }
-    requires* lent { sem 𝓛 (lends Robots robot g) }
-    ensures* lent { sem 𝓛 (flft g.0 g.1) }
-    ensures status { result ≡ pos 0 }
-    ensures written { out.new ≡ seen_of (cost_of g.2.rules length) }
-{
-    cost(&*(robot as *const Robot), length, out)
-}
-
-/// Writes how many bytes of memory the robot takes with this handle. Only a bound is proved. It doesn't
-/// allocate.
-#[unsafe(no_mangle)]
-pub unsafe extern "C" fn robots_bytes(robot: *const u8, out: &mut usize) -> i32
-    ghost g: { Lft × Share × RobotValue }
-    requires* lent { sem 𝓛 (lends Robots robot g) }
-    ensures* lent { sem 𝓛 (flft g.0 g.1) }
-    ensures status { result ≡ pos 0 }
-    ensures written { seen_of (64 * length g.2.rules) ≤ out.new }
-{
-    bytes(&*(robot as *const Robot), out)
-}
-
 /// Writes the result for one URL, as `robots_query` does, unless that may take more looks than the budget.
 #[unsafe(no_mangle)]
 pub unsafe extern "C" fn robots_query_within(
@@ -162,56 +137,48 @@ pub unsafe extern "C" fn robots_query_within(
     query_within(alloc, &*(robot as *const Robot), url, budget, out)
 }
 
-/// Writes the results for many URLs, as `robots_decide` does.
+/// Writes the results for many URLs: those that end at these places in the text, each from the end before it,
+/// or else those that LF separates, as `robots_decide` does.
 #[unsafe(no_mangle)]
-pub unsafe extern "C" fn robots_query_many(
-    alloc: Global,
-    robot: *const u8,
-    urls: &[u8],
-    out: &mut [i64],
-) -> i32
-    ghost g: { Lft × Share × RobotValue }
-    requires* lent { sem 𝓛 (lends Robots robot g) }
-    requires robot { IsRobotOfSomeFile g.2 }
-    ensures* lent { sem 𝓛 (flft g.0 g.1) }
-    ensures written { result ≡ pos 0 → ArePutIn g.2.rules urls.now out.old out.new }
-    ensures kept { result ≢ pos 0 → out.new ≡ out.old }
-    ensures why { HasError (IsWhyNoResults urls.now (length out.old)) result }
-{
-    query_many(alloc, &*(robot as *const Robot), urls, out)
-}
-
-/// The same for URLs that are the parts of one text that end at these places, each from the end before it.
-#[unsafe(no_mangle)]
-pub unsafe extern "C" fn robots_query_batch(
+pub unsafe extern "C" fn robots_results(
     alloc: Global,
     robot: *const u8,
     urls: &[u8],
     ends: &[usize],
+    are_ended: bool,
     out: &mut [i64],
 ) -> i32
     ghost g: { Lft × Share × RobotValue }
     requires* lent { sem 𝓛 (lends Robots robot g) }
     requires robot { IsRobotOfSomeFile g.2 }
     ensures* lent { sem 𝓛 (flft g.0 g.1) }
-    ensures written { result ≡ pos 0 → IsBatchPutIn g.2.rules urls.now ends.now out.old out.new }
+    ensures written { result ≡ pos 0
+        → ArePutIn (AreResults g.2.rules urls.now ends.now are_ended) out.old out.new }
     ensures kept { result ≢ pos 0 → out.new ≡ out.old }
-    ensures why { HasError (IsWhyNoBatch urls.now ends.now (length out.old)) result }
+    ensures why { HasError (IsWhyNone urls.now ends.now are_ended (length out.old)) result }
 {
-    query_batch(alloc, &*(robot as *const Robot), urls, ends, out)
+    query_many(alloc, &*(robot as *const Robot), urls, ends, are_ended, out)
 }
 
-/// Writes a robot's delay in microseconds. It doesn't allocate.
+/// Writes a number: for 0 what `robots_query_within` costs at most for a match target of this length, for 1
+/// how many bytes of memory the robot takes with this handle, of which only a bound is proved, and else its
+/// delay in microseconds. It doesn't allocate.
 #[unsafe(no_mangle)]
-pub unsafe extern "C" fn robots_query_delay(robot: *const u8, out: &mut u64) -> i32
+pub unsafe extern "C" fn robots_number(
+    robot: *const u8,
+    which: usize,
+    length: usize,
+    out: &mut u64,
+) -> i32
     ghost g: { Lft × Share × RobotValue }
     requires* lent { sem 𝓛 (lends Robots robot g) }
     ensures* lent { sem 𝓛 (flft g.0 g.1) }
-    ensures written { result ≡ pos 0 → g.2.delay ≡ Some out.new }
+    ensures written { result ≡ pos 0 → IsNumber g.2 which length out.new }
     ensures kept { result ≢ pos 0 → out.new ≡ out.old }
-    ensures why { HasError (IsWhyNone g.2.delay) result }
+    ensures no_delay { result ≢ pos 0
+        → (1 < which) × (g.2.delay ≡ None) × (result ≡ status_of Error.NoDelay) }
 {
-    query_delay(&*(robot as *const Robot), out)
+    number(&*(robot as *const Robot), which, length, out)
 }
 
 /// Frees what `robots_open` or `robots_site_robot` opened. A null pointer is ignored.

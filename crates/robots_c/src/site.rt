@@ -1,12 +1,12 @@
 //! The functions of `robots.h` for sites.
-ghost use Rattle.std.specs.Prelude.{◌≡◌, ◌≢◌, ◌≤◌, ◌⊎◌, ℕ, List, Some, length, pos};
+ghost use Rattle.std.specs.Prelude.{◌≡◌, ◌≢◌, ◌⊎◌, ℕ, List, length, pos};
 ghost use Rattle.std.specs.Borrow.{sem};
 ghost use base.Fml.{Lft, Share, flft};
-ghost use Rattle.c_calls.specs.{File.AreAgents, Results.IsMatrixPutIn, Text.IsTooLong, Text.IsWritten};
-ghost use Rattle.c_calls.specs.File.{AreSitemaps, HasDelay, IsRobotFor, IsSiteOfSomeFile, bytes_read};
+ghost use Rattle.c_calls.specs.{Results.ArePutIn, Results.HasMatrix, Text.IsTooLong, Text.IsWritten};
+ghost use Rattle.c_calls.specs.File.{AreTexts, IsRobotFor, IsSiteOfSomeFile, bytes_read};
 ghost use Rattle.c_calls.specs.Kept.{Robots, Sites, lends, opens, owned_or_null};
-ghost use Rattle.c_calls.specs.Status.{HasError, HasErrorAt, IsWhyNoDelay, IsWhyNoSite, IsWhyNoMatrix};
-ghost use Rattle.c_calls.specs.Status.{IsWhyNoRobot, SaysNamed, status_of};
+ghost use Rattle.c_calls.specs.Number.{IsSiteNumber, IsWhyNoSiteNumber};
+ghost use Rattle.c_calls.specs.Status.{HasError, HasErrorAt, IsWhyNoMatrix, IsWhyNoRobot, IsWhyNoSite, status_of};
 
 use c_calls::error::Error;
 use c_calls::kept::{Handle, Kept};
@@ -70,89 +70,54 @@ pub unsafe extern "C" fn robots_site_matrix(
     requires* lent { sem 𝓛 (lends Sites site g) }
     requires site { IsSiteOfSomeFile g.2 }
     ensures* lent { sem 𝓛 (flft g.0 g.1) }
-    ensures written { result ≡ pos 0 → IsMatrixPutIn g.2 agents.now urls.now out.old out.new }
+    ensures written { result ≡ pos 0 → ArePutIn (HasMatrix g.2 agents.now urls.now) out.old out.new }
     ensures kept { result ≢ pos 0 → out.new ≡ out.old }
     ensures why { HasError (IsWhyNoMatrix agents.now urls.now (length out.old)) result }
 {
     matrix_by(alloc, &*(site as *const Site), agents, urls, out)
 }
 
-/// Writes a crawler's delay in microseconds. It doesn't allocate.
+/// Writes one of a site's numbers: for 0 how many bytes of memory it takes with this handle, of which only a
+/// bound is proved, for 1 whether a user-agent line names the crawler, as 1 or 0, and else the crawler's delay
+/// in microseconds. It doesn't allocate.
 #[unsafe(no_mangle)]
-pub unsafe extern "C" fn robots_site_delay(site: *const u8, agent: &[u8], out: &mut u64) -> i32
+pub unsafe extern "C" fn robots_site_number(
+    site: *const u8,
+    which: usize,
+    agent: &[u8],
+    out: &mut u64,
+) -> i32
     ghost g: { Lft × Share × List ℕ }
     requires* lent { sem 𝓛 (lends Sites site g) }
     ensures* lent { sem 𝓛 (flft g.0 g.1) }
-    ensures written { result ≡ pos 0 → HasDelay agent.now g.2 (Some out.new) }
+    ensures written { result ≡ pos 0 → IsSiteNumber g.2 which agent.now out.new }
     ensures kept { result ≢ pos 0 → out.new ≡ out.old }
-    ensures why { HasError (IsWhyNoDelay agent.now g.2) result }
+    ensures why { HasError (IsWhyNoSiteNumber g.2 which agent.now) result }
 {
-    site::delay(&*(site as *const Site), agent, out)
+    site::number(&*(site as *const Site), which, agent, out)
 }
 
-/// Writes how many bytes of memory the site takes with this handle. It doesn't allocate.
+/// Writes the names in the file's user-agent lines, each once, or else the sitemaps that it lists, each
+/// followed by LF, and their total length. If the buffer is too small, it writes only the length.
 #[unsafe(no_mangle)]
-pub unsafe extern "C" fn robots_site_bytes(site: *const u8, out: &mut usize) -> i32
-    ghost g: { Lft × Share × List ℕ }
-    requires* lent { sem 𝓛 (lends Sites site g) }
-    ensures* lent { sem 𝓛 (flft g.0 g.1) }
-    ensures status { result ≡ pos 0 }
-    ensures written { length g.2 ≤ out.new }
-{
-    site::bytes(&*(site as *const Site), out)
-}
-
-/// Writes the sitemaps that the file lists, each followed by LF, and their total length. If the buffer is too
-/// small, it writes only the length.
-#[unsafe(no_mangle)]
-pub unsafe extern "C" fn robots_site_sitemaps(
+pub unsafe extern "C" fn robots_site_texts(
     alloc: Global,
     site: *const u8,
+    are_agents: bool,
     out: &mut [u8],
     len: &mut usize,
 ) -> i32
     ghost g: { Lft × Share × List ℕ }
     requires* lent { sem 𝓛 (lends Sites site g) }
     ensures* lent { sem 𝓛 (flft g.0 g.1) }
-    ensures written { result ≡ pos 0 → IsWritten (AreSitemaps g.2) out.old out.new len.new }
-    ensures buffer_too_small { result ≡ status_of Error.BufferTooSmall → IsTooLong (AreSitemaps g.2) (length out.old) len.new }
+    ensures written { result ≡ pos 0 → IsWritten (AreTexts are_agents g.2) out.old out.new len.new }
+    ensures buffer_too_small { result ≡ status_of Error.BufferTooSmall
+        → IsTooLong (AreTexts are_agents g.2) (length out.old) len.new }
     ensures length_kept { result ≢ pos 0 → result ≢ status_of Error.BufferTooSmall → len.new ≡ len.old }
     ensures kept { result ≢ pos 0 → out.new ≡ out.old }
     ensures why { (result ≡ pos 0) ⊎ ((result ≡ status_of Error.BufferTooSmall) ⊎ (result ≡ status_of Error.Memory)) }
 {
-    site::sitemaps(alloc, &*(site as *const Site), out, len)
-}
-
-/// The same for the names in the file's user-agent lines, each once.
-#[unsafe(no_mangle)]
-pub unsafe extern "C" fn robots_site_agents(
-    alloc: Global,
-    site: *const u8,
-    out: &mut [u8],
-    len: &mut usize,
-) -> i32
-    ghost g: { Lft × Share × List ℕ }
-    requires* lent { sem 𝓛 (lends Sites site g) }
-    ensures* lent { sem 𝓛 (flft g.0 g.1) }
-    ensures written { result ≡ pos 0 → IsWritten (AreAgents g.2) out.old out.new len.new }
-    ensures buffer_too_small { result ≡ status_of Error.BufferTooSmall → IsTooLong (AreAgents g.2) (length out.old) len.new }
-    ensures length_kept { result ≢ pos 0 → result ≢ status_of Error.BufferTooSmall → len.new ≡ len.old }
-    ensures kept { result ≢ pos 0 → out.new ≡ out.old }
-    ensures why { (result ≡ pos 0) ⊎ ((result ≡ status_of Error.BufferTooSmall) ⊎ (result ≡ status_of Error.Memory)) }
-{
-    site::agents(alloc, &*(site as *const Site), out, len)
-}
-
-/// 1 if a user-agent line names the crawler, 0 if none does, so that it has the robot of `*`, and -1 if its
-/// name isn't UTF-8. It doesn't allocate.
-#[unsafe(no_mangle)]
-pub unsafe extern "C" fn robots_site_is_named(site: *const u8, agent: &[u8]) -> i32
-    ghost g: { Lft × Share × List ℕ }
-    requires* lent { sem 𝓛 (lends Sites site g) }
-    ensures* lent { sem 𝓛 (flft g.0 g.1) }
-    ensures named { SaysNamed agent.now g.2 result }
-{
-    site::is_named(&*(site as *const Site), agent)
+    site::texts(alloc, &*(site as *const Site), are_agents, out, len)
 }
 
 /// Frees what `robots_site_open` opened. A null pointer is ignored.

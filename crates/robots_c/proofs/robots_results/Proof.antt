@@ -2,39 +2,40 @@ use Rattle.c_calls.proofs.Borrowing.{ℕ, [], ◌∷◌, refl, ◌$◌, ◌∵�
 use Rattle.c_calls.proofs.Borrowing as m
 use Rattle.c_calls.specs.Kept.{Robots}
 use Rattle.c_calls.specs.File.{IsRobotOfSomeFile}
-use Rattle.c_calls.specs.contracts.urls.query_many as callee
-use Rattle.c_calls.proofs.urls.query_many.Met.{met}
-use Rattle.robots_c.proofs.robots_query_many.Statement.{statement}
-use Rattle.robots_c.specs.contracts.robots_query_many as self
-use Rattle.robots_c.proofs.robots_query_many.Code as code
+use Rattle.c_calls.specs.contracts.batch.query_many as callee
+use Rattle.c_calls.proofs.batch.query_many.Met.{met}
+use Rattle.robots_c.proofs.robots_results.Statement.{statement}
+use Rattle.robots_c.specs.contracts.robots_results as self
+use Rattle.robots_c.proofs.robots_results.Code as code
 
-pub robots_query_many_spec : {M : Type 1} → statement M
-robots_query_many_spec 𝓤 𝓛 𝓜 𝓡 wired =
+pub robots_results_spec : {M : Type 1} → statement M
+robots_results_spec 𝓤 𝓛 𝓜 𝓡 wired =
     let S = self.signature in
     m.meets 𝓛 𝓜 𝓡 S (self.spec 𝓛 𝓜.mem 𝓡.returns) self.Key.name code.function (code.unfolded 𝓤 𝓛.H 𝓜 𝓡 wired)
     (λ z are.
     let a = z.0.3 in let vs = z.0.4 in let κ = z.1.0 in let q = z.1.1 in let x = z.1.2 in
-    let κs : m.Lfts 3 = (κ, z.0.0) in
+    let κs : m.Lfts 4 = (κ, z.0.0) in
     let given_at : ℕ → ℕ → m.Args callee.signature κs = λ b o. (a.0, (m.reference x b o, a.1.1)) in
     m.qed 𝓛 (m.context 𝓛 Robots a.1.0 x κ q S z.0 (m.raw (m.fact 𝓤 (IsRobotOfSomeFile x)) ∷ [])) ∵
     m.borrows 𝓛 𝓜 𝓡 Robots a.1.0 x κ q (_ ∷ []) _ _ _
     (m.lasts callee.ended κs (given_at 0 0))
     (m.ensured_by callee.ended (callee.clauses 𝓛 𝓜.mem 𝓡.returns) κs (given_at 0 0) tt) _ (λ b o e.
     let ws = m.heap 𝓛 a.0 vs.0 are.0 ∷ m.lent_place are.1.0 e ∷ m.slice are.1.1.0.0
-    ∷ m.slice are.1.1.1.0.0 ∷ [] in (
+    ∷ m.slice are.1.1.1.0.0 ∷ m.flag are.1.1.1.1.0 ∷ m.slice are.1.1.1.1.1.0.0 ∷ [] in (
       ws,
       refl,
       λ X Q given. m.enter ! _ _ _ _ _ $ m.alloc_all ! (λ l. m.pass_all ! refl (m.goods ws) $
           m.sets ! (m.local ! refl) refl (tt, tt) $
           m.sets ! (m.again ! refl) refl (tt, tt) $
-          m.sets ! (m.addr ! (m.from ! (m.fld ! refl (m.hop ! (m.look_in_at ! 4 (m.sub ! 0 refl (m.whole !)))
+          m.sets ! (m.addr ! (m.from ! (m.fld ! refl (m.hop ! (m.look_in_at ! 6 (m.sub ! 0 refl (m.whole !)))
           (m.stop !))))) refl (tt, tt) $
           m.sets ! (m.agg ! (m.and_then ! (m.get ! refl) (m.and_then ! (m.get_in ! (m.fld ! refl (m.stop !))
           (m.sub ! 1 refl (m.whole !))) (m.no_more !)))) refl
-          (tt, (tt, (record { fits = are.1.1.1.0.0.1.0 }, tt))) $
-          m.hands_on 𝓛 𝓜 𝓡 ! given (m.arg ! refl (m.arg ! refl (m.arg ! refl (m.arg ! refl (m.no_more !)))))
-          (λ v r good. m.lands_as ! refl refl good $
-          m.returns ! (m.look_at ! 0 refl) $ m.free_all ! refl $ m.done !)),
+          (tt, (tt, (record { fits = are.1.1.1.1.1.0.0.1.0 }, tt))) $
+          m.hands_on 𝓛 𝓜 𝓡 ! given (m.arg ! refl (m.arg ! refl (m.arg ! refl (m.arg ! refl (m.arg ! refl
+          (m.arg ! refl (m.no_more !)))))))
+          (λ v r good. m.lands_as ! refl refl good $ m.returns ! (m.look_at ! 0 refl) $ m.free_all ! refl $
+          m.done !)),
     ))
-    (λ b o. met 𝓤 𝓛 𝓜 𝓡 (code.calls-c_calls::urls::query_many 𝓡.env wired)
+    (λ b o. met 𝓤 𝓛 𝓜 𝓡 (code.calls-c_calls::batch::query_many 𝓡.env wired)
     ((κs, (q, z.0.1), tt, given_at b o, vs), tt)))

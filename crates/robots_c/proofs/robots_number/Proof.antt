@@ -1,14 +1,14 @@
 use Rattle.c_calls.proofs.Borrowing.{ℕ, [], ◌∷◌, refl, ◌$◌, ◌∵◌, ! }
 use Rattle.c_calls.proofs.Borrowing as m
 use Rattle.c_calls.specs.Kept.{Robots}
-use Rattle.c_calls.specs.contracts.handle.cost as callee
-use Rattle.c_calls.proofs.handle.cost.Met.{met}
-use Rattle.robots_c.proofs.robots_cost.Statement.{statement}
-use Rattle.robots_c.specs.contracts.robots_cost as self
-use Rattle.robots_c.proofs.robots_cost.Code as code
+use Rattle.c_calls.specs.contracts.handle.number as callee
+use Rattle.c_calls.proofs.handle.number.Met.{met}
+use Rattle.robots_c.proofs.robots_number.Statement.{statement}
+use Rattle.robots_c.specs.contracts.robots_number as self
+use Rattle.robots_c.proofs.robots_number.Code as code
 
-pub robots_cost_spec : {M : Type 1} → statement M
-robots_cost_spec 𝓤 𝓛 𝓜 𝓡 wired =
+pub robots_number_spec : {M : Type 1} → statement M
+robots_number_spec 𝓤 𝓛 𝓜 𝓡 wired =
     let S = self.signature in
     m.meets 𝓛 𝓜 𝓡 S (self.spec 𝓛 𝓜.mem 𝓡.returns) self.Key.name code.function (code.unfolded 𝓤 𝓛.H 𝓜 𝓡 wired)
     (λ z are.
@@ -19,16 +19,16 @@ robots_cost_spec 𝓤 𝓛 𝓜 𝓡 wired =
     m.and_nothing 𝓛 (m.borrows 𝓛 𝓜 𝓡 Robots a.0 x κ q [] _ _ _
     (m.lasts callee.ended κs (given_at 0 0))
     (m.ensured_by callee.ended (callee.clauses 𝓛 𝓜.mem 𝓡.returns) κs (given_at 0 0) tt) _ (λ b o e.
-    let ws = m.lent_place are.0 e ∷ m.number are.1.0 ∷ m.place are.1.1.0.0 ∷ [] in (
+    let ws = m.lent_place are.0 e ∷ m.number are.1.0 ∷ m.number are.1.1.0
+    ∷ m.place are.1.1.1.0.0 ∷ [] in (
       ws,
       refl,
       λ X Q given. m.enter ! _ _ _ _ _ $ m.alloc_all ! (λ l. m.pass_all ! refl (m.goods ws) $
           m.sets ! (m.local ! refl) refl (tt, tt) $
           m.sets ! (m.again ! refl) refl (tt, tt) $
           m.sets ! (m.again ! refl) refl (tt, tt) $
-          m.hands_on 𝓛 𝓜 𝓡 ! given (m.arg ! refl (m.arg ! refl (m.arg ! refl (m.no_more !)))) (λ v r good.
-          m.lands_as ! refl refl good
-          $ m.returns ! (m.look_at ! 0 refl) $ m.free_all ! refl $ m.done !)),
+          m.hands_on 𝓛 𝓜 𝓡 ! given (m.arg ! refl (m.arg ! refl (m.arg ! refl (m.arg ! refl (m.no_more !)))))
+          (λ v r good. m.lands_as ! refl refl good $ m.returns ! (m.look_at ! 0 refl) $ m.free_all ! refl $ m.done !)),
     ))
-    (λ b o. met 𝓤 𝓛 𝓜 𝓡 (code.calls-c_calls::handle::cost 𝓡.env wired)
+    (λ b o. met 𝓤 𝓛 𝓜 𝓡 (code.calls-c_calls::handle::number 𝓡.env wired)
     ((κs, (q, z.0.1), tt, given_at b o, z.0.4), tt))))

@@ -1,14 +1,14 @@
 use Rattle.c_calls.proofs.Borrowing.{ℕ, [], ◌∷◌, refl, ◌$◌, ◌∵◌, ! }
 use Rattle.c_calls.proofs.Borrowing as m
 use Rattle.c_calls.specs.Kept.{Sites}
-use Rattle.c_calls.specs.contracts.site.sitemaps as callee
-use Rattle.c_calls.proofs.site.sitemaps.Met.{met}
-use Rattle.robots_c.proofs.site.robots_site_sitemaps.Statement.{statement}
-use Rattle.robots_c.specs.contracts.site.robots_site_sitemaps as self
-use Rattle.robots_c.proofs.site.robots_site_sitemaps.Code as code
+use Rattle.c_calls.specs.contracts.site.texts as callee
+use Rattle.c_calls.proofs.site.texts.Met.{met}
+use Rattle.robots_c.proofs.site.robots_site_texts.Statement.{statement}
+use Rattle.robots_c.specs.contracts.site.robots_site_texts as self
+use Rattle.robots_c.proofs.site.robots_site_texts.Code as code
 
-pub robots_site_sitemaps_spec : {M : Type 1} → statement M
-robots_site_sitemaps_spec 𝓤 𝓛 𝓜 𝓡 wired =
+pub robots_site_texts_spec : {M : Type 1} → statement M
+robots_site_texts_spec 𝓤 𝓛 𝓜 𝓡 wired =
     let S = self.signature in
     m.meets 𝓛 𝓜 𝓡 S (self.spec 𝓛 𝓜.mem 𝓡.returns) self.Key.name code.function (code.unfolded 𝓤 𝓛.H 𝓜 𝓡 wired)
     (λ z are.
@@ -19,22 +19,22 @@ robots_site_sitemaps_spec 𝓤 𝓛 𝓜 𝓡 wired =
     m.and_nothing 𝓛 (m.borrows 𝓛 𝓜 𝓡 Sites a.1.0 x κ q (_ ∷ []) _ _ _
     (m.lasts callee.ended κs (given_at 0 0))
     (m.ensured_by callee.ended (callee.clauses 𝓛 𝓜.mem 𝓡.returns) κs (given_at 0 0) tt) _ (λ b o e.
-    let ws = m.heap 𝓛 a.0 vs.0 are.0 ∷ m.lent_place are.1.0 e ∷ m.slice are.1.1.0.0
-    ∷ m.place are.1.1.1.0.0 ∷ [] in (
+    let ws = m.heap 𝓛 a.0 vs.0 are.0 ∷ m.lent_place are.1.0 e ∷ m.flag are.1.1.0
+    ∷ m.slice are.1.1.1.0.0 ∷ m.place are.1.1.1.1.0.0 ∷ [] in (
       ws,
       refl,
       λ X Q given. m.enter ! _ _ _ _ _ $ m.alloc_all ! (λ l. m.pass_all ! refl (m.goods ws) $
           m.sets ! (m.local ! refl) refl (tt, tt) $
           m.sets ! (m.again ! refl) refl (tt, tt) $
-          m.sets ! (m.addr ! (m.from ! (m.fld ! refl (m.hop ! (m.look_in_at ! 3 (m.sub ! 0 refl (m.whole !)))
+          m.sets ! (m.addr ! (m.from ! (m.fld ! refl (m.hop ! (m.look_in_at ! 4 (m.sub ! 0 refl (m.whole !)))
           (m.stop !))))) refl (tt, tt) $
           m.sets ! (m.agg ! (m.and_then ! (m.get ! refl) (m.and_then ! (m.get_in ! (m.fld ! refl (m.stop !))
           (m.sub ! 1 refl (m.whole !))) (m.no_more !)))) refl
-          (tt, (tt, (record { fits = are.1.1.0.0.1.0 }, tt))) $
+          (tt, (tt, (record { fits = are.1.1.1.0.0.1.0 }, tt))) $
           m.sets ! (m.again ! refl) refl (tt, tt) $
-          m.hands_on 𝓛 𝓜 𝓡 ! given (m.arg ! refl (m.arg ! refl (m.arg ! refl (m.arg ! refl (m.no_more !)))))
-          (λ v r good. m.lands_as ! refl refl good $
-          m.returns ! (m.look_at ! 0 refl) $ m.free_all ! refl $ m.done !)),
+          m.hands_on 𝓛 𝓜 𝓡 ! given (m.arg ! refl (m.arg ! refl (m.arg ! refl (m.arg ! refl (m.arg ! refl
+          (m.no_more !))))))
+          (λ v r good. m.lands_as ! refl refl good $ m.returns ! (m.look_at ! 0 refl) $ m.free_all ! refl $ m.done !)),
     ))
-    (λ b o. met 𝓤 𝓛 𝓜 𝓡 (code.calls-c_calls::site::sitemaps 𝓡.env wired)
+    (λ b o. met 𝓤 𝓛 𝓜 𝓡 (code.calls-c_calls::site::texts 𝓡.env wired)
     ((κs, (q, z.0.1), tt, given_at b o, vs), tt))))
