@@ -193,7 +193,9 @@ impl Html {
     }
 
     /// Ends the innermost open element. Without one it writes nothing.
-    #[tactic(auto, using(crate::proofs::PageLemmas::nothing_open, crate::proofs::PageLemmas::ended_is, crate::proofs::PageLemmas::none_ended))]
+    #[tactic(auto, using(
+        crate::proofs::PageLemmas::nothing_open, crate::proofs::PageLemmas::ended_is,
+        crate::proofs::PageLemmas::none_ended))]
     pub fn close(&mut self) -> fmt::Result
         ensures { OnOk result (so_far self.new ≡ closed (so_far self.old)) }
     {
