@@ -38,7 +38,7 @@ if MISSING:
 def releases(objects, tmp_path_factory):
     """Two folders with the same release, made at once, the second one by a user with other settings."""
     crates = re.findall(r"^robots_audit: (.*)$", (ROOT / "crates.txt").read_text(), re.M)[0].split()
-    for name, below in {"robots_audit": crates, "robots_verdict": ["printable_text", "robots_io", "texting_robots"]}.items():
+    for name, below in {"robots_audit": crates, "robots_verdict": ["safe_output", "texting_robots"]}.items():
         sources = [name, *(it for it in below if (CRATES / it).is_dir())]
         assert is_built(program(name), *sources), f"{name} is older than its sources: run `rt ci`, or `rt run` in its folder"
     folders = [tmp_path_factory.mktemp(name) for name in ("one", "another-folder")]

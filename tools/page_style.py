@@ -1,11 +1,11 @@
-"""Embeds the style of the HTML page, crates/audit_page/page.css, in the program: run this file after an edit of the style."""
+"""Embeds the style of the HTML page, crates/audit_reports/page.css, in the program: run this file after an edit of the style."""
 
 import base64
 import hashlib
 import re
 from pathlib import Path
 
-CRATE = Path(__file__).resolve().parent.parent / "crates/audit_page"
+CRATE = Path(__file__).resolve().parent.parent / "crates/audit_reports"
 SOURCE, STYLE = CRATE / "src/page/style.rt", CRATE / "page.css"
 
 

@@ -31,7 +31,7 @@ def known_crawlers():
 def page(program, licenses):
     """The page. The report in its frame is under the same policy, so that has the hash of the report's style too."""
     style, script, host = ((HERE / name).read_text() for name in ("page.css", "page.js", "host.js"))
-    report = (ROOT / "crates/audit_page/page.css").read_text()
+    report = (ROOT / "crates/audit_reports/page.css").read_text()
     assert "</" not in script + host + style
     return Template((HERE / "page.html").read_text()).substitute(
         policy=POLICY.format(script=hash_of(script), style=hash_of(style), report=hash_of(report)),

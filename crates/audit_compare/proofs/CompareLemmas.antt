@@ -8,7 +8,7 @@ use Rattle.std.proofs.lemmas.List.{Folds.Any-from_list_any}
 use Rattle.texting_robots.specs.Callers.{IsDenied, IsVerdict, LineValue, PlacedRule, Rule, placed_rules}
 use Rattle.texting_robots.specs.Callers.{label_by_value, rules_for, unplaced}
 use Rattle.texting_robots.specs.declared.labels.LabeledLine.{LabeledLine}
-use Rattle.robots_same.specs.Same.{HaveSameVerdicts}
+use Rattle.robots_rules.specs.Same.{HaveSameVerdicts}
 use Rattle.robots_warnings.specs.{File.lines_of}
 use Rattle.audit_core.specs.{Audit.VerdictValue}
 use Rattle.audit_core.proofs.{AuditLemmas.none_of}

@@ -4,7 +4,7 @@ use Rattle.std.specs.Prelude.{codes, if◌then◌else◌, is_none, length, strin
 use Rattle.texting_robots.specs.Callers.{LineValue, PlacedRule, lines_read, placed_rules, unplaced}
 use Rattle.texting_robots.specs.{Decision.IsDecisionOn, Group.is_agent}
 use Rattle.std.specs.{List.list_any}
-use Rattle.robots_same.specs.Same.{HaveSameVerdicts}
+use Rattle.robots_rules.specs.Same.{HaveSameVerdicts}
 use Rattle.robots_warnings.specs.{Crawlers.other_group}
 use Rattle.audit_core.specs.{Target.asked_target}
 use Rattle.audit_compare.specs.declared.every_url.{Example.Example, Verdicts.Verdicts}

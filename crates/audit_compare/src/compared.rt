@@ -11,7 +11,7 @@ use crate::rule_sets::{RuleSet, rules_lacked};
 use crate::vendor::{VendorChange, at_vendor};
 use audit_core::audit::{AgentAudit, Verdict, audit_for};
 use audit_core::error::Error;
-use robots_same::rule::{Rule, rules_of};
+use robots_rules::rule::{Rule, rules_of};
 use robots_warnings::read::FileRead;
 use std::alloc::{AllocError, Global};
 use texting_robots::robot::Decision;

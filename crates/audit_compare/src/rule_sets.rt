@@ -5,7 +5,7 @@ ghost use Rattle.texting_robots.specs.Callers.{PlacedRule};
 ghost use Rattle.audit_compare.specs.Compare.{has_rule, rules_lacked};
 ghost use Rattle.audit_compare.specs.Internal.{HasRules, contains_rule};
 
-use robots_same::rule::Rule;
+use robots_rules::rule::Rule;
 use std::alloc::{AllocError, Global};
 use std::collections::BTreeSet;
 

@@ -10,8 +10,8 @@ use Rattle.std.proofs.lemmas.List.{Concat.flat_map-append, map-append, take_more
 use Rattle.std.proofs.lemmas.List.Elements.{All-append, All-cons, All-filter, All-head, All-nil, All-tail}
 use Rattle.std.proofs.lemmas.List.Elements.{All-weaker, Contains-append_left, filter_passes}
 use Rattle.texting_robots.specs.Callers.{Label, lines_read}
-use Rattle.robots_needless.proofs.TogetherLemmas.{to_filter}
-use Rattle.robots_needless.specs.{Needless.numbers_of, declared.needless.NeedlessRule.NeedlessRule}
+use Rattle.robots_rules.proofs.TogetherLemmas.{to_filter}
+use Rattle.robots_rules.specs.{Needless.numbers_of, declared.needless.NeedlessRule.NeedlessRule}
 use Rattle.robots_warnings.specs.{Means.Means, Means.is_style, Message.WarningValue}
 use Rattle.robots_warnings.proofs.TellsLemmas.{each_stays}
 use Rattle.robots_warnings.specs.Conflicts.{is_empty_at, overrules_for_one}

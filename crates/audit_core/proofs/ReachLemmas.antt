@@ -8,8 +8,8 @@ use Rattle.std.specs.{List.list_all, List.list_any, Str.byte}
 use Rattle.texting_robots.specs.Callers.{IsDenied, Matches, PlacedRule, robots_file, unplaced}
 use Rattle.texting_robots.specs.{Pattern.MatchesWith}
 use Rattle.texting_robots.proofs.Shared.{matches, matches_decides, placed_of}
-use Rattle.robots_same.specs.Same.{HaveSameVerdicts}
-use Rattle.robots_needless.proofs.TogetherLemmas.{to_filter, to_map, unplaced_of}
+use Rattle.robots_rules.specs.Same.{HaveSameVerdicts}
+use Rattle.robots_rules.proofs.TogetherLemmas.{to_filter, to_map, unplaced_of}
 use Rattle.robots_warnings.specs.Closed.{are_signs, is_anything, is_root, is_star_or_dollar}
 use Rattle.robots_warnings.specs.Closed.{is_whole_site, without_stars}
 use Rattle.audit_core.specs.Reach.{IsOpened, IsReach, is_allow, is_closing, is_long_allow, plain_rules}

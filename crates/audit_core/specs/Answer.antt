@@ -3,8 +3,8 @@
 use Rattle.std.specs.Prelude.{◌≡◌, ℕ, true, false, List, [], Option, Result, Ok, Err, IfErr, IfOk}
 use Rattle.std.specs.Prelude.{string_bytes}
 use Rattle.std.specs.Io.KnownBytes.{Appends, Keeps}
-use Rattle.robots_io.specs.{Streams.AppendsBeginning, declared.streams.WriteError.WriteError}
-use Rattle.printable_text.specs.{Text.IsReport}
+use Rattle.safe_output.specs.{Streams.AppendsBeginning, declared.streams.WriteError.WriteError}
+use Rattle.safe_output.specs.{Text.IsReport}
 use Rattle.audit_core.specs.declared.answer.{Answer.Answer, Outcome.Outcome}
 use Rattle.audit_core.specs.{declared.error.Error.Error, Error.error_of_write}
 

@@ -15,8 +15,8 @@ use Rattle.rfc9309.specs.Conformance.{conformance_of}
 use Rattle.rfc9309.specs.declared.conformance.Conformance.{Conformance}
 use Rattle.audit_core.specs.declared.group.AtVendor.TheVariants.{NoGroup, OtherGroup, Same}
 use Rattle.audit_core.specs.declared.group.Group.TheVariants.{Everyone, Named, Nobody, Star}
-use Rattle.robots_needless.specs.Blocks.{AreFoundIn}
-use Rattle.robots_needless.specs.Needless.{NeedlessValue, nothing, numbers_of}
+use Rattle.robots_rules.specs.Blocks.{AreFoundIn}
+use Rattle.robots_rules.specs.Needless.{NeedlessValue, nothing, numbers_of}
 use Rattle.robots_warnings.specs.Crawlers.{Row, crawlers, ignores_star, other_group}
 use Rattle.robots_warnings.specs.Message.{WarningValue}
 use Rattle.robots_warnings.specs.Warnings.{HasClosed, HasOverruling, url_warnings}

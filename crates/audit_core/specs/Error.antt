@@ -1,9 +1,9 @@
 -- Errors, and the exit status.
 use Rattle.std.specs.Prelude.{ℕ, not, Result, Ok, Err, if◌then◌else◌}
-use Rattle.robots_io.specs.declared.streams.WriteError.{WriteError}
+use Rattle.safe_output.specs.declared.streams.WriteError.{WriteError}
 use Rattle.audit_core.specs.declared.answer.{Outcome.Outcome}
 use Rattle.audit_core.specs.declared.error.Error.{Error, TheVariants.Closed, TheVariants.Write}
-use Rattle.robots_io.specs.declared.streams.WriteError.TheVariants as write
+use Rattle.safe_output.specs.declared.streams.WriteError.TheVariants as write
 
 -- 2 after an error, or if the file is rejected; 3 if there is a warning at the level of `--strict` or a more
 -- serious one, since verdicts on a file with mistakes are in doubt; 1 if some URL is denied, an expectation

@@ -2,8 +2,8 @@
 ghost use Rattle.audit_core.specs.Answer.{IsText, Writes};
 
 use crate::error::Error;
-use printable_text::report::Report;
-use robots_io::streams::write_out;
+use safe_output::report::Report;
+use safe_output::streams::write_out;
 use std::alloc::Global;
 use std::io::Write;
 

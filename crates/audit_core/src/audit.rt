@@ -8,7 +8,7 @@ ghost use Rattle.audit_core.specs.Audit.{all_allowed, allows_all, labeling_agent
 ghost use Rattle.audit_core.specs.Audit.{labels_requested, rejects_some};
 ghost use Rattle.audit_core.specs.{Request.requested_by, Internal.AreFoundFor, Internal.IsReading};
 ghost use Rattle.audit_core.specs.{Reach.IsReach};
-ghost use Rattle.robots_needless.specs.Needless.{numbers_of};
+ghost use Rattle.robots_rules.specs.Needless.{numbers_of};
 ghost use Rattle.robots_warnings.specs.Read.{IsRead};
 
 use crate::agents::agents_requested;
@@ -21,8 +21,8 @@ use crate::request::Request;
 use crate::sitemaps::warn_of_sitemaps;
 use crate::target::decision_on;
 use rfc9309::conformance::{Conformance, conformance_of};
-use robots_needless::lines::Needless;
-use robots_same::rule::{Rule, rules_of};
+use robots_rules::lines::Needless;
+use robots_rules::rule::{Rule, rules_of};
 use robots_warnings::read::FileRead;
 use robots_warnings::warning::Warning;
 use robots_warnings::warnings::warnings;

@@ -1,7 +1,7 @@
 //! How many warnings there are of each level.
 
-use printable_text::level::Level;
 use robots_warnings::warning::Warning;
+use safe_output::level::Level;
 use std::fmt;
 
 fn count_at(level: Level, warnings: &[Warning<'_>]) -> usize {

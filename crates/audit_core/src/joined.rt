@@ -1,8 +1,8 @@
 //! Warnings in order, and which of them are written as one, with the lines of the others.
 
 use crate::texts::Lines;
-use printable_text::level::Level;
 use robots_warnings::warning::{Detail, Warning};
+use safe_output::level::Level;
 use std::alloc::{AllocError, Global};
 use std::collections::BTreeSet;
 use std::fmt;

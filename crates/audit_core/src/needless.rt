@@ -1,11 +1,11 @@
-//! Warnings about rules that can be deleted, which `robots_needless` finds.
+//! Warnings about rules that can be deleted, which `robots_rules` finds.
 ghost use Rattle.std.specs.Prelude.{◌≡◌, ◌∷◌, [], IfOk, OnOk, false, true};
-ghost use Rattle.robots_needless.specs.Blocks.{AreFoundIn};
-ghost use Rattle.robots_needless.specs.Needless.{nothing, numbers_of};
+ghost use Rattle.robots_rules.specs.Blocks.{AreFoundIn};
+ghost use Rattle.robots_rules.specs.Needless.{nothing, numbers_of};
 ghost use Rattle.audit_core.specs.{Internal.AddsNeedless, Together.is_needless};
 
-use robots_needless::lines::{Needless, needless_lines, nothing};
-use robots_needless::needless::{NeedlessRule, Reason};
+use robots_rules::lines::{Needless, needless_lines, nothing};
+use robots_rules::needless::{NeedlessRule, Reason};
 use robots_warnings::table::Cause;
 use robots_warnings::warning::{Detail, Warning};
 use std::alloc::{AllocError, Global};

@@ -4,8 +4,8 @@ ghost use Rattle.std.specs.List.{list_all};
 ghost use Rattle.texting_robots.specs.Callers.{PlacedRule};
 ghost use Rattle.audit_core.specs.Reach.{IsReach, is_allow, is_closing, is_long_allow, plain_rules};
 
-use robots_same::compare::{Comparison, compare};
-use robots_same::rule::Rule;
+use robots_rules::compare::{Comparison, compare};
+use robots_rules::rule::Rule;
 use robots_warnings::site_patterns::is_whole_site;
 use std::alloc::{AllocError, Global};
 use texting_robots::Robot;

@@ -1,6 +1,6 @@
 //! What a run is requested to do.
 
-use printable_text::level::Level;
+use safe_output::level::Level;
 
 /// How a report is written.
 #[derive(Clone, Copy)]

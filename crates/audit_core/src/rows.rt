@@ -1,11 +1,11 @@
 //! The rows of a report: one for each line of the file.
 
 use itoa::Buffer;
-use printable_text::delay::Delay;
-use printable_text::report::{Report, Untrusted};
 use robots_warnings::contents::split_content;
 use robots_warnings::empty_disallows::is_empty_disallow;
 use robots_warnings::file::is_blank;
+use safe_output::delay::Delay;
+use safe_output::report::{Report, Untrusted};
 use std::fmt;
 use std::fmt::Write;
 use texting_robots::labels::{LabeledLine, Membership};

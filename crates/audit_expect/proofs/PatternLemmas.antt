@@ -8,8 +8,8 @@ use Rattle.std.proofs.lemmas.List.{map-append, Concat.flat_map-append, Sums.AllP
 use Rattle.std.proofs.lemmas.List.Elements.{Contains-push, Contains-push_cases}
 use Rattle.texting_robots.specs.Callers.{IsVerdict, Matches, PlacedRule, Rule, escaped, unplaced}
 use Rattle.texting_robots.specs.Pattern.{MatchesWith, star}
-use Rattle.robots_same.specs.Same.{HaveSameVerdicts}
-use Rattle.robots_needless.proofs.TogetherLemmas.{of_map}
+use Rattle.robots_rules.specs.Same.{HaveSameVerdicts}
+use Rattle.robots_rules.proofs.TogetherLemmas.{of_map}
 use Rattle.robots_warnings.specs.Rules.{before_byte}
 use Rattle.audit_expect.specs.Patterns.{IsPathOf}
 

@@ -14,7 +14,7 @@ use crate::patterns::{OnPaths, holds, on_paths};
 use audit_core::audit::{Reading, read_for};
 use audit_core::error::Error;
 use audit_core::target::decision_on;
-use robots_same::rule::rules_of;
+use robots_rules::rule::rules_of;
 use robots_warnings::crawlers::other_group;
 use robots_warnings::read::FileRead;
 use std::alloc::{AllocError, Global};

@@ -5,7 +5,7 @@ ghost use Rattle.audit_expect.specs.{Expectations.IsAskedAsWritten, OtherReading
 ghost use Rattle.audit_expect.specs.{OtherReading.normal_rule};
 
 use percent_encoding::{AsciiSet, ascii_set};
-use robots_same::rule::Rule;
+use robots_rules::rule::Rule;
 use robots_warnings::targets::{
     IN_TARGETS, asked_target, normal_target, normal_text, written_target,
 };

@@ -12,7 +12,7 @@ ghost use Rattle.audit_expect.specs.Internal.Expectations.{IsDecidedBy, IsPrefer
 ghost use Rattle.audit_expect.specs.Internal.Expectations.{is_marked, others_of};
 
 use crate::normal_form::normal_rules;
-use robots_same::rule::{Rule, rules_of};
+use robots_rules::rule::{Rule, rules_of};
 use robots_warnings::empty_disallows::is_empty_disallow;
 use robots_warnings::read::FileRead;
 use robots_warnings::targets::asked_target;

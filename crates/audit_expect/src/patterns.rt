@@ -5,8 +5,8 @@ ghost use Rattle.texting_robots.specs.Callers.{IsOverlong, Matches, PlacedRule, 
 ghost use Rattle.audit_expect.specs.{Patterns.AreDecidedAs, Internal.Expectations.holds};
 
 use crate::other_reading::decision_of;
-use robots_same::compare::{Comparison, compare};
-use robots_same::rule::Rule;
+use robots_rules::compare::{Comparison, compare};
+use robots_rules::rule::Rule;
 use robots_warnings::rules::before_byte;
 use std::alloc::{AllocError, Global};
 use texting_robots::minregex::MinRegex;

@@ -1,6 +1,6 @@
 -- What the bytes of a file mean for one crawler, or for all crawlers.
 use Rattle.std.specs.Prelude.{◌≡◌, ℕ, Bool, true, false, IsUtf8, List, Option, take}
-use Rattle.printable_text.specs.Lines.{ended}
+use Rattle.safe_output.specs.Lines.{ended}
 use Rattle.texting_robots.specs.Callers.{AreSitemapsOf, HasLines, IsDelayFor, IsRobotWithoutSitemaps}
 use Rattle.texting_robots.specs.Callers.{RobotValue, agents_in, file_limit, file_lines}
 

@@ -1,12 +1,12 @@
 //! Strings for C: the sitemaps and the crawlers of a site, and the address of robots.txt.
 ghost use Rattle.std.specs.Prelude.{◌≡◌, ◌≢◌, ◌<◌, ◌⊎◌, IfErr, IfOk, length, map, pos, string_bytes};
-ghost use Rattle.printable_text.specs.Lines.{ended};
+ghost use Rattle.safe_output.specs.Lines.{ended};
 ghost use Rattle.c_calls.specs.Status.{IsAddress, IsWhyNoAddress, status_of};
 ghost use Rattle.c_calls.specs.{File.AreTexts, Text.IsPutIn};
 
 use crate::error::Error;
 use crate::file::text_of;
-use printable_text::lines::push_line;
+use safe_output::lines::push_line;
 use std::alloc::{AllocError, Global};
 use texting_robots::{Site, get_robots_url};
 use url::ParseError;

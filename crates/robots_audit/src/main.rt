@@ -15,10 +15,17 @@
 
 ghost use Rattle.std.specs.Prelude.{◌≡◌, IfOk, string_bytes};
 ghost use Rattle.std.specs.Process.{exit_status};
-ghost use Rattle.printable_text.specs.Text.{IsReport};
+ghost use Rattle.safe_output.specs.Text.{IsReport};
 ghost use Rattle.audit_core.specs.Error.{status_after};
-ghost use Rattle.audit_program.specs.Answer.{Answers, IsSafeAnswer};
+ghost use Rattle.robots_audit.specs.Answer.{Answers, IsSafeAnswer};
 
+mod command;
+mod options;
+mod program;
+mod theorems;
+
+use crate::command::{check_files, command, file_read, format_of, requested, without_brackets};
+use crate::program::{audited, comparison, expectations, unread};
 use audit_compare::compare::NamedFile;
 use audit_core::answer::{Answer, Outcome, text_answer, write_answer};
 use audit_core::color::colors_by_default;
@@ -26,15 +33,11 @@ use audit_core::error::{Error, status_after, write_error};
 use audit_core::not_robots::check_content;
 use audit_core::request::Request;
 use audit_expect::url_list::with_urls;
-use audit_program::command::{
-    check_files, command, file_read, format_of, requested, without_brackets,
-};
-use audit_program::program::{audited, comparison, expectations, unread};
-use audit_text::explain::{explain, list_warnings};
+use audit_reports::explain::{explain, list_warnings};
 use clap::ArgMatches;
 use clap::error::ErrorKind as WordsKind;
-use printable_text::report::Report;
-use robots_io::streams::{ReadError, read_all};
+use safe_output::report::Report;
+use safe_output::streams::{ReadError, read_all};
 use std::alloc::Global;
 use std::fs::File;
 use std::io::ErrorKind;
@@ -117,7 +120,7 @@ fn extended<'a>(
 }
 
 /// `has_colors` is as for `requested`.
-#[tactic(auto, using(audit_program::proofs::MessageLemmas::audit_answers))]
+#[tactic(auto, using(crate::proofs::MessageLemmas::audit_answers))]
 fn audit(rt: &HostRuntime, matches: &ArgMatches<'_>, has_colors: bool) -> Result<Answer, Error>
     ensures { IfOk result Answers }
 {
@@ -128,7 +131,7 @@ fn audit(rt: &HostRuntime, matches: &ArgMatches<'_>, has_colors: bool) -> Result
 }
 
 /// Checks the expectations in the file `expected` against the file that the arguments name.
-#[tactic(auto, using(audit_program::proofs::MessageLemmas::expectations_answer))]
+#[tactic(auto, using(crate::proofs::MessageLemmas::expectations_answer))]
 fn checked(rt: &HostRuntime, matches: &ArgMatches<'_>, expected: &str) -> Result<Answer, Error>
     ensures { IfOk result Answers }
 {
@@ -139,7 +142,7 @@ fn checked(rt: &HostRuntime, matches: &ArgMatches<'_>, expected: &str) -> Result
 }
 
 /// Compares the file `older` with the file that the arguments name.
-#[tactic(auto, using(audit_program::proofs::MessageLemmas::comparison_answers))]
+#[tactic(auto, using(crate::proofs::MessageLemmas::comparison_answers))]
 fn compared(rt: &HostRuntime, matches: &ArgMatches<'_>, older: &str) -> Result<Answer, Error>
     ensures { IfOk result Answers }
 {
@@ -164,7 +167,7 @@ fn compared(rt: &HostRuntime, matches: &ArgMatches<'_>, older: &str) -> Result<A
 }
 
 /// `has_colors` is as for `requested`.
-#[tactic(auto, using(audit_program::proofs::MessageLemmas::text_answers))]
+#[tactic(auto, using(crate::proofs::MessageLemmas::text_answers))]
 fn answered(rt: &HostRuntime, matches: &ArgMatches<'_>, has_colors: bool) -> Result<Answer, Error>
     ensures { IfOk result Answers }
 {
@@ -184,7 +187,7 @@ fn answered(rt: &HostRuntime, matches: &ArgMatches<'_>, has_colors: bool) -> Res
 }
 
 /// The answer if the arguments request help or the version; else the error for arguments that `clap` rejects.
-#[tactic(auto, using(audit_program::proofs::MessageLemmas::text_safe))]
+#[tactic(auto, using(crate::proofs::MessageLemmas::text_safe))]
 fn reported(rt: &HostRuntime, error: clap::Error) -> Result<Answer, Error>
     ensures { IfOk result IsSafeAnswer }
 {
@@ -200,7 +203,7 @@ fn reported(rt: &HostRuntime, error: clap::Error) -> Result<Answer, Error>
 
 /// The report is safe, and the warnings are printable apart from color codes, whatever the arguments, the
 /// files and their names are.
-#[tactic(auto, using(audit_program::proofs::MessageLemmas::answers_safe))]
+#[tactic(auto, using(crate::proofs::MessageLemmas::answers_safe))]
 fn answer(rt: &HostRuntime) -> Result<Answer, Error>
     ensures { IfOk result IsSafeAnswer }
 {

@@ -5,7 +5,7 @@ use Rattle.std.proofs.Common.{◌&&◌, Bool, arith, append_assoc, drop, if◌th
 use Rattle.std.specs.{Io.BufRead.strip_last, List.list_all, Str.is_utf8, Option.IsSomeAnd}
 use Rattle.std.specs.{Option.option_map, Result.IsErrAnd}
 use Rattle.std.proofs.lemmas.{Bool.ne_eqb, List.append-nil, List.drop_more}
-use Rattle.printable_text.specs.{Lines.lf}
+use Rattle.safe_output.specs.{Lines.lf}
 use Rattle.robots_verdict.specs.declared.fault.Fault.{Fault}
 use Rattle.robots_verdict.specs.declared.fault.Fault.TheVariants.{HeaderNotUtf8, Memory}
 use Rattle.robots_verdict.specs.Input.{Input, cr, input_of, line_from, split, urls_from, with_url}

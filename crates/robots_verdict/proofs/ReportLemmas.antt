@@ -12,7 +12,7 @@ use Rattle.texting_robots.specs.declared.error.Error.TheVariants as error
 use Rattle.texting_robots.proofs.Shared.{Either, any_overlong_decides, delay_is_computed}
 use Rattle.texting_robots.proofs.Shared.{sitemaps_are_computed, answers_computed, lines_are_read}
 use Rattle.texting_robots.proofs.Shared.{read_rejected, rejection_is_computed}
-use Rattle.robots_io.specs.{declared.streams.ReadError.ReadError}
+use Rattle.safe_output.specs.{declared.streams.ReadError.ReadError}
 use Rattle.robots_verdict.specs.{declared.fault.Fault.Fault, Fault.fault_of, Fault.fault_of_read}
 use Rattle.robots_verdict.specs.declared.fault.Fault.TheVariants.{HeaderNotUtf8, InvalidRule, Memory, Read}
 use Rattle.robots_verdict.specs.declared.fault.Fault.TheVariants.{NoEmptyLine}
@@ -20,10 +20,10 @@ use Rattle.robots_verdict.specs.Input.{Input, are_utf8, split}
 use Rattle.robots_verdict.specs.Report.{AddsVerdicts, IsRejected, IsReport, IsReportOn, IsReportText}
 use Rattle.robots_verdict.specs.Report.{IsReportOnUtf8}
 use Rattle.robots_verdict.specs.Report.{delay_line, sitemap_line}
-use Rattle.printable_text.specs.{Lines.ended}
-use Rattle.printable_text.proofs.SanitizeLemmas.{ended-append, lines_added}
+use Rattle.safe_output.specs.{Lines.ended}
+use Rattle.safe_output.proofs.SanitizeLemmas.{ended-append, lines_added}
 use Rattle.robots_verdict.proofs.VerdictsLemmas.{lines_like, lines_once, some_lines}
-use Rattle.robots_io.specs.declared.streams.ReadError.TheVariants as reading
+use Rattle.safe_output.specs.declared.streams.ReadError.TheVariants as reading
 
 pub text_made : (input : Input) (one two text : List ℕ) (robot : RobotValue)
     → IsRobotOf input.agent (lines_read input.file) robot → one ≡ ended (delay_line robot.delay ∷ [])

@@ -8,9 +8,9 @@ use Rattle.std.proofs.lemmas.List.{append-nil, map-append, take_more, Elements.A
 use Rattle.texting_robots.specs.Callers.{AnswerAlike, PlacedRule, prepared}
 use Rattle.texting_robots.specs.{Decision.IsDecisionOn, declared.decision.Decision.Decision}
 use Rattle.texting_robots.proofs.Shared.{each_text_answered}
-use Rattle.printable_text.specs.{Lines.ended}
+use Rattle.safe_output.specs.{Lines.ended}
 use Rattle.robots_verdict.specs.Report.{AddsVerdict, AddsVerdicts, IsVerdictLine, verdict_front}
-use Rattle.printable_text.proofs.{SanitizeLemmas.lines_added}
+use Rattle.safe_output.proofs.{SanitizeLemmas.lines_added}
 
 module _ (rules : List PlacedRule) where
   pub adds_nothing : (text : List ℕ) → AddsVerdicts rules [] text text

@@ -2,8 +2,8 @@
 use Rattle.std.specs.Prelude.{ℕ, List, Option, None, Some, Result, Ok, Err, codes}
 use Rattle.texting_robots.specs.declared.error.Error.{Error}
 use Rattle.texting_robots.specs.declared.error.Error.TheVariants as error
-use Rattle.robots_io.specs.declared.streams.ReadError.{ReadError}
-use Rattle.robots_io.specs.declared.streams.ReadError.TheVariants as read
+use Rattle.safe_output.specs.declared.streams.ReadError.{ReadError}
+use Rattle.safe_output.specs.declared.streams.ReadError.TheVariants as read
 use Rattle.robots_verdict.specs.declared.fault.Fault.{Fault}
 use Rattle.robots_verdict.specs.declared.fault.Fault.TheVariants.{HeaderNotUtf8, InvalidRule}
 use Rattle.robots_verdict.specs.declared.fault.Fault.TheVariants.{Memory, NoEmptyLine, Read, Write}

@@ -3,7 +3,7 @@ use Rattle.std.specs.Prelude.{ℕ, ◌==◌, ◌&&◌, Bool, List, [], ◌∷◌
 use Rattle.std.specs.Prelude.{option_map}
 use Rattle.std.specs.Prelude.{if◌then◌else◌}
 use Rattle.std.specs.{List.list_all, Io.BufRead.strip_last, Str.is_utf8}
-use Rattle.printable_text.specs.{Lines.lf}
+use Rattle.safe_output.specs.{Lines.lf}
 
 abbrev pub cr : ℕ
 cr = 13

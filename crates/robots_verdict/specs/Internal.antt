@@ -1,7 +1,7 @@
 -- Where the code cuts an input, and a header by value.
 use Rattle.std.specs.Prelude.{◌≡◌, ◌≢◌, ℕ, ◌<◌, List, length, map, slice_index}
 use Rattle.std.specs.List.{AllByRecursion as Each}
-use Rattle.printable_text.specs.{Lines.lf}
+use Rattle.safe_output.specs.{Lines.lf}
 use Rattle.robots_verdict.specs.{Input.Input, declared.header.Header.Header}
 
 abbrev pub IsOneLine : List ℕ → Type 0

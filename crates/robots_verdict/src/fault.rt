@@ -1,5 +1,5 @@
 //! The errors that end a run.
-use robots_io::streams::{ReadError, WriteError};
+use safe_output::streams::{ReadError, WriteError};
 use std::alloc::{AllocError, AllocFailed};
 use texting_robots::Error;
 

@@ -5,7 +5,7 @@ ghost use Rattle.robots_verdict.specs.Report.{AppendsReport, AppendsReportBeginn
 
 use crate::fault::Fault;
 use crate::report::report_of;
-use robots_io::streams::{read_all, write_out};
+use safe_output::streams::{read_all, write_out};
 use std::alloc::Global;
 use std::io::{Read, Write};
 

@@ -1,6 +1,6 @@
 //! The report on an input.
 ghost use Rattle.std.specs.Prelude.{◌≡◌, ◌≢◌, ◌++◌, ◌∷◌, [], Err, IfErr, IfOk, OnOk, Ok, map, string_bytes};
-ghost use Rattle.printable_text.specs.Lines.{ended};
+ghost use Rattle.safe_output.specs.Lines.{ended};
 ghost use Rattle.robots_verdict.specs.Report.{AddsVerdict, AddsVerdicts};
 ghost use Rattle.robots_verdict.specs.Report.{IsReport, delay_line, sitemap_line};
 
@@ -8,7 +8,7 @@ use crate::fault::Fault;
 use crate::header::read_header;
 use crate::verdicts::{counted_decision_on, push_decision};
 use itoa::Buffer;
-use printable_text::lines::push_line;
+use safe_output::lines::push_line;
 use std::alloc::{AllocError, Global};
 use texting_robots::{Error, Robot};
 

@@ -3,7 +3,7 @@ ghost use Rattle.std.specs.Prelude.{◌≡◌, ◌++◌, IfErr, IfOk, OnOk, stri
 ghost use Rattle.texting_robots.specs.{Callers.prepared, Decision.IsDecisionOn};
 ghost use Rattle.robots_verdict.specs.Report.{line_text, verdict_front, verdict_word};
 
-use printable_text::lines::push_number;
+use safe_output::lines::push_number;
 use std::alloc::{AllocError, Global};
 use texting_robots::robot::Decision;
 use texting_robots::view::View;

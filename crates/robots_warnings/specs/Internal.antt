@@ -7,7 +7,7 @@ pub mod Values
 pub mod Warned
 use Rattle.std.specs.Prelude.{◌≡◌, ℕ, ◌++◌, List, Some, slice_get}
 use Rattle.std.specs.Borrow.{Bor}
-use Rattle.printable_text.specs.declared.level.Level.{Level}
+use Rattle.safe_output.specs.declared.level.Level.{Level}
 use Rattle.robots_warnings.specs.{declared.table.Cause.Cause, Message.WarningValue}
 
 abbrev pub Adds : (old found more : List WarningValue) → Type 0

@@ -1,9 +1,9 @@
 -- Every warning, as in the table of src/table.rt.
 use Rattle.std.specs.Prelude.{[], ℕ, List, map, slice_index_or}
 use Rattle.robots_warnings.specs.contracts.table.{Cause.the_type}
-use Rattle.printable_text.specs.declared.level.{Level.Level}
+use Rattle.safe_output.specs.declared.level.{Level.Level}
 use Rattle.robots_warnings.specs.declared.table.{TheConstants.WARNINGS, Cause.Cause}
-use Rattle.printable_text.specs.declared.level.Level.TheVariants as level
+use Rattle.safe_output.specs.declared.level.Level.TheVariants as level
 use denote.Enum.Declared.{tag_of}
 
 -- the index of a warning in the table

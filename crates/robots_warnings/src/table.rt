@@ -1,14 +1,14 @@
 //! The warnings: the level of each, its name, which is shown in `[..]` and is the `name` in JSON, and its
 //! message. The conditions are in `checks` and, of warnings that compare lines or look at all of a crawler's
 //! rules, in those that `candidates` calls. Only `robots_audit` gives those about sitemaps that are
-//! denied, and about rules that can be deleted, which `robots_needless` finds.
+//! denied, and about rules that can be deleted, which `robots_rules` finds.
 ghost use Rattle.std.specs.Prelude.{◌≡◌, ◌<◌, length, map};
 ghost use Rattle.robots_warnings.specs.{Internal.IsRowAt, declared.table.TheConstants.WARNINGS};
 ghost use Rattle.robots_warnings.specs.Table.{all_levels, all_names, level_of, name_of};
 
 use crate::rows::{COUNT, every_row};
 use crate::texts::{examples, messages};
-use printable_text::level::Level;
+use safe_output::level::Level;
 use std::alloc::{AllocError, Global};
 
 /// The reason for a warning. Each has a row in `every_row`.

@@ -1,6 +1,6 @@
 //! Calls that allocate. They check the result, and that a robot, a pattern or a view is unchanged after a failure.
 use crate::flush::reports_flushes;
-use html_writer::write::{push_attribute, push_close, push_open};
+use safe_output::write::{push_attribute, push_close, push_open};
 use std::alloc::Global;
 use std::cmp::Ordering;
 use texting_robots::minregex::MinRegex;

@@ -1,5 +1,5 @@
 //! A writer of which only the flush fails, as no output of a process does.
-use robots_io::streams::{WriteError, write_out};
+use safe_output::streams::{WriteError, write_out};
 use std::alloc::Global;
 use std::io::{self, ErrorKind, Write};
 use texting_robots::Error;

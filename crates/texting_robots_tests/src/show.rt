@@ -1,6 +1,6 @@
 //! Prints what calls return. `tests/test_calls.py` has the inputs and what has to be printed.
 use crate::example::visit;
-use robots_same::compare::compare_sites;
+use robots_rules::compare::compare_sites;
 use texting_robots::labels::{is_named, labeled_lines};
 use texting_robots::minregex::MinRegex;
 use texting_robots::parser::{Line, file_bodies, file_lines, lines, read_delay, robots_txt_parse};

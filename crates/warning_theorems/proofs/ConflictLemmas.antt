@@ -21,7 +21,7 @@ use Rattle.robots_warnings.specs.{Contents.is_cut_to_root}
 use Rattle.robots_warnings.proofs.{ClosedLemmas.whole_site_stays}
 use Rattle.texting_robots.proofs.Shared.{computed_are, placed_of, in_front, plain_wildcards}
 use Rattle.audit_core.proofs.ReachLemmas.{whole_site_matches}
-use Rattle.robots_needless.proofs.{TogetherLemmas.unplaced_of}
+use Rattle.robots_rules.proofs.{TogetherLemmas.unplaced_of}
 use Rattle.warning_theorems.proofs.{WarningLemmas.without_path}
 
 -- ---- What `hash-cuts-rule` and `allowed-and-disallowed` imply.

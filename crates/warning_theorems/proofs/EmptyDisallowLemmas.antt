@@ -16,7 +16,7 @@ use Rattle.robots_warnings.specs.Conflicts.{IsEmptyDisallow, is_empty_at, is_emp
 use Rattle.robots_warnings.specs.Conflicts.{closes_all, is_empty_rule, is_of_all, is_overruling, opens_all}
 use Rattle.robots_warnings.specs.Conflicts.{stated_rules}
 use Rattle.audit_core.proofs.EmptyLemmas.{empty_allows, empty_stated, stated_empty}
-use Rattle.robots_needless.proofs.TogetherLemmas.{in_filter, to_filter, unplaced_of}
+use Rattle.robots_rules.proofs.TogetherLemmas.{in_filter, to_filter, unplaced_of}
 use Rattle.audit_core.proofs.ReachLemmas.{whole_site_matches}
 use Rattle.warning_theorems.proofs.ConflictLemmas.{also_listed}
 use Rattle.std.specs.{Option.IsSomeAnd, List.AllZip, List.list_any}

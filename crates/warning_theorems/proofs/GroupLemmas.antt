@@ -26,8 +26,8 @@ use Rattle.robots_warnings.specs.Closed.{IsReplacing, is_lacking, lacks_all, nam
 use Rattle.std.specs.{Option.option_or, Str.str_to_ascii_lowercase}
 use Rattle.std.proofs.lemmas.Slice.{Eq.bytes_eq-Decides}
 use Rattle.texting_robots.specs.declared.groups.{GroupTracker.GroupTracker}
-use Rattle.robots_needless.specs.{Blocks.IsLeftOf, Blocks.begin_with_mark, Needless.lines_without}
-use Rattle.robots_needless.proofs.{BlockLemmas.among}
+use Rattle.robots_rules.specs.{Blocks.IsLeftOf, Blocks.begin_with_mark, Needless.lines_without}
+use Rattle.robots_rules.proofs.{BlockLemmas.among}
 use Rattle.robots_warnings.specs.{File.lines_of}
 
 -- `first` is the first delay of the group above these lines

@@ -11,12 +11,12 @@ use Rattle.texting_robots.specs.Callers.{group_name, placed_rules, rules_for, un
 use Rattle.texting_robots.specs.Callers.{file_bodies, file_limit, file_lines, lines_read}
 use Rattle.texting_robots.specs.{Theorems.Same}
 use Rattle.texting_robots.specs.Group.{is_agent, passes_at}
-use Rattle.robots_needless.specs.Blocks.{is_rule, keep_blocks_from, no_rule, with_rule, IsLeftOf}
-use Rattle.robots_needless.specs.Blocks.{begin_with_mark}
-use Rattle.robots_needless.proofs.LeftLemmas.{left_within, same_result}
-use Rattle.robots_needless.specs.Needless.{lines_without, without}
-use Rattle.robots_needless.proofs.TogetherLemmas.{in_named, unplaced_of, verdicts, in_filter, to_filter}
-use Rattle.robots_needless.proofs.BlockLemmas.{among, deleted}
+use Rattle.robots_rules.specs.Blocks.{is_rule, keep_blocks_from, no_rule, with_rule, IsLeftOf}
+use Rattle.robots_rules.specs.Blocks.{begin_with_mark}
+use Rattle.robots_rules.proofs.LeftLemmas.{left_within, same_result}
+use Rattle.robots_rules.specs.Needless.{lines_without, without}
+use Rattle.robots_rules.proofs.TogetherLemmas.{in_named, unplaced_of, verdicts, in_filter, to_filter}
+use Rattle.robots_rules.proofs.BlockLemmas.{among, deleted}
 use Rattle.robots_warnings.specs.Repeated.{above_next, is_repeated, repeated, repeated_from}
 use Rattle.robots_warnings.specs.{File.lines_of, Spellings.is_rule_with}
 use Rattle.std.specs.{List.list_any}

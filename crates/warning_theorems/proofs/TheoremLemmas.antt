@@ -10,13 +10,13 @@ use Rattle.std.proofs.lemmas.Bool.{false_from_ne_true}
 use Rattle.texting_robots.specs.Callers.{IsVerdict, LineValue, PlacedRule, agents_in, placed_rules}
 use Rattle.texting_robots.specs.Callers.{file_limit, rules_for}
 use Rattle.texting_robots.specs.Callers.{lines_read, unplaced, IsRobotOfFile, RobotValue}
-use Rattle.robots_needless.specs.Blocks.{HaveSameRobot, IsLeftOf}
-use Rattle.robots_needless.specs.Needless.{AreFound, AreNeedless, NeedlessValue, lines_without}
-use Rattle.robots_needless.specs.Needless.{numbers_of}
-use Rattle.robots_needless.proofs.{LeftLemmas.left_within, LeftLemmas.same_robot}
+use Rattle.robots_rules.specs.Blocks.{HaveSameRobot, IsLeftOf}
+use Rattle.robots_rules.specs.Needless.{AreFound, AreNeedless, NeedlessValue, lines_without}
+use Rattle.robots_rules.specs.Needless.{numbers_of}
+use Rattle.robots_rules.proofs.{LeftLemmas.left_within, LeftLemmas.same_robot}
 use Rattle.audit_core.specs.Audit.{AuditValue, IsAuditOf}
 use Rattle.audit_core.specs.{Request.RequestValue}
-use Rattle.robots_needless.specs.{declared.needless.NeedlessRule.NeedlessRule}
+use Rattle.robots_rules.specs.{declared.needless.NeedlessRule.NeedlessRule}
 use Rattle.robots_warnings.specs.Facts.{is_too_large}
 use Rattle.rfc9309.specs.{LineForms.AreForms, Matching.all_stay, Matching.normal_uri}
 use Rattle.rfc9309.specs.Conformance.{conformance_of, has_syntax, has_verdicts}
@@ -24,7 +24,7 @@ use Rattle.rfc9309.specs.Rfc9309.{Group, IsFile, IsProductToken}
 use Rattle.rfc9309.proofs.DecidedLemmas.{accepted_file, files_decided, verdicts_are}
 use Rattle.rfc9309.proofs.{LineFormLemmas.file_has_forms, RobotLemmas.forms_robot}
 use Rattle.rfc9309.proofs.MemberLemmas.{plain_text, token_plain}
-use Rattle.robots_needless.proofs.{CrawlerLemmas.star_or_named}
+use Rattle.robots_rules.proofs.{CrawlerLemmas.star_or_named}
 use Rattle.texting_robots.specs.Callers.{IsFileRejected}
 use Rattle.warning_theorems.specs.{Syntax.IsRobotStated, Verdict.IsStandardVerdict}
 

@@ -11,8 +11,8 @@ ghost use Rattle.texting_robots.specs.Callers.{IsFileRejected, IsRobotOfFile, Is
 ghost use Rattle.texting_robots.specs.Callers.{Rule, PlacedRule, RobotValue, agents_in, bodies_in, delay_for};
 ghost use Rattle.texting_robots.specs.Callers.{file_bodies};
 ghost use Rattle.texting_robots.specs.Callers.{lines_read, bodies_read, placed_rules, rules_for, unplaced, UserAgent};
-ghost use Rattle.robots_needless.specs.Blocks.{HaveSameRobot, IsLeftOf, begin_with_mark};
-ghost use Rattle.robots_needless.specs.Needless.{lines_without, numbers_of};
+ghost use Rattle.robots_rules.specs.Blocks.{HaveSameRobot, IsLeftOf, begin_with_mark};
+ghost use Rattle.robots_rules.specs.Needless.{lines_without, numbers_of};
 ghost use Rattle.rfc9309.specs.Rfc9309.{Group, IsFile, IsProductToken};
 ghost use Rattle.rfc9309.specs.Matching.{all_stay, normal_uri};
 ghost use Rattle.warning_theorems.specs.{Syntax.IsRobotStated, Verdict.IsStandardVerdict};

@@ -29,7 +29,7 @@ robots_number_spec 𝓤 𝓛 𝓜 𝓡 wired =
           m.sets ! (m.again ! refl) refl (tt, tt) $
           m.hands_on 𝓛 𝓜 𝓡 ! given (m.arg ! refl (m.arg ! refl (m.arg ! refl (m.arg ! refl (m.no_more !)))))
           (λ v r good. m.lands_as ! refl refl good $ m.returns ! (m.look_at ! 0 refl)
-              $ m.free_all ! refl $ m.done !)),
+          $ m.free_all ! refl $ m.done !)),
     ))
     (λ b o. met 𝓤 𝓛 𝓜 𝓡 (code.calls-c_calls::handle::number 𝓡.env wired)
     ((κs, (q, z.0.1), tt, given_at b o, z.0.4), tt))))

@@ -1,5 +1,5 @@
 use Rattle.std.proofs.Common.{take}
-use Rattle.robots_needless.specs.Needless.{numbers_of}
+use Rattle.robots_rules.specs.Needless.{numbers_of}
 use Rattle.audit_core.specs.Internal.{AddsNeedless}
 use Rattle.audit_core.proofs.needless.add_rules.Given as goal
 

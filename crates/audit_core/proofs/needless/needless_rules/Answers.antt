@@ -1,5 +1,5 @@
 use Rattle.std.proofs.Common.{[], refl}
-use Rattle.robots_needless.proofs.SettledLemmas.{nothing_found}
+use Rattle.robots_rules.proofs.SettledLemmas.{nothing_found}
 use Rattle.audit_core.proofs.needless.needless_rules.Goals as goal
 
 pub returns-else-is_requested-clause-found : goal.returns-else-is_requested-clause-found

@@ -1,5 +1,5 @@
 use Rattle.std.proofs.Common.{◌≡◌, map, string_bytes, take}
-use Rattle.printable_text.specs.Lines.{ended}
+use Rattle.safe_output.specs.Lines.{ended}
 use Rattle.c_calls.proofs.texts.lines_of.Given as goal
 
 abbrev pub invariant-loop-text : goal.invariant-loop-text

@@ -35,7 +35,7 @@ robots_site_texts_spec 𝓤 𝓛 𝓜 𝓡 wired =
           m.hands_on 𝓛 𝓜 𝓡 ! given (m.arg ! refl (m.arg ! refl (m.arg ! refl (m.arg ! refl (m.arg ! refl
           (m.no_more !))))))
           (λ v r good. m.lands_as ! refl refl good $ m.returns ! (m.look_at ! 0 refl)
-              $ m.free_all ! refl $ m.done !)),
+          $ m.free_all ! refl $ m.done !)),
     ))
     (λ b o. met 𝓤 𝓛 𝓜 𝓡 (code.calls-c_calls::site::texts 𝓡.env wired)
     ((κs, (q, z.0.1), tt, given_at b o, vs), tt))))

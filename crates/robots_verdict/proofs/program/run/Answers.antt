@@ -1,6 +1,6 @@
 use Rattle.std.proofs.Common.{arith}
 use Rattle.std.specs.Io.KnownBytes.{Appends}
-use Rattle.robots_io.specs.Streams.{AppendsBeginning}
+use Rattle.safe_output.specs.Streams.{AppendsBeginning}
 use Rattle.robots_verdict.proofs.ReportLemmas.{run_wrote}
 use Rattle.robots_verdict.proofs.program.run.Goals as goal
 

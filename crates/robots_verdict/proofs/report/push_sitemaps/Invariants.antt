@@ -1,5 +1,5 @@
 use Rattle.std.proofs.Common.{◌≡◌, ◌++◌, map, string_bytes, take}
-use Rattle.printable_text.specs.Lines.{ended}
+use Rattle.safe_output.specs.Lines.{ended}
 use Rattle.robots_verdict.specs.Report.{sitemap_line}
 use Rattle.robots_verdict.proofs.report.push_sitemaps.Given as goal
 

@@ -20,7 +20,7 @@ returns-clause-known c =
       replacing = λ number.
           All-contains (IsReplacing agents (lines_of labels) (lines_of labels))
           c.in_ok-replacing.field-0.items number
-              (rw (c.deref-4.ensures.value, same) at c.in_ok-replacing.ensures);
+          (rw (c.deref-4.ensures.value, same) at c.in_ok-replacing.ensures);
       star_count = rw (c.deref-5.ensures.value, c.in_ok-star.ensures, same) at c.disallow_count.ensures;
       repeated = λ number.
           All-contains (Contains (repeated c.args.all_groups labels)) c.in_ok-repeated.field-0.items number

@@ -32,7 +32,7 @@ returns c =
     let (so, shut, has) = told_of known _ is.all_groups is.agents is.read (
       all.so (All-nil (IsSo known)),
       each_stays is_closing_cause (ClosesToOne agents lines) _ _ (λ warning _. after.kept warning)
-        closed.told,
+          closed.told,
       each_stays is_empty_cause
           (λ number. IsTrue (overrules_for_one (is_empty_at labels) agents lines number)) _ _
           (λ warning _. c.in_ok-keep-3.ensures.kept warning) (λ number is. noted number (are number ∙ is)),

@@ -1,6 +1,6 @@
 use Rattle.std.proofs.Common.{arith, codes, refl}
 use Rattle.texting_robots.specs.Callers.{lines_read}
-use Rattle.robots_needless.proofs.CrawlerLemmas.{rules_in_any_case, rules_of_star}
+use Rattle.robots_rules.proofs.CrawlerLemmas.{rules_in_any_case, rules_of_star}
 use Rattle.warning_theorems.proofs.TheoremLemmas.{alike}
 use Rattle.warning_theorems.proofs.theorems.needless_lines_decide_nothing.Goals as goal
 

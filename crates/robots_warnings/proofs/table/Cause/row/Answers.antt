@@ -1,7 +1,7 @@
 use Rattle.std.proofs.Common.{[]}
 use Rattle.robots_warnings.specs.{Internal.Row, Table.level_of, Table.name_of}
 use Rattle.robots_warnings.{proofs.ClosedLemmas.part_in}
-use Rattle.printable_text.specs.declared.level.Level.TheVariants as level
+use Rattle.safe_output.specs.declared.level.Level.TheVariants as level
 use Rattle.robots_warnings.proofs.table.Cause.row.Goals as goal
 
 pub returns-clause-level : goal.returns-clause-level

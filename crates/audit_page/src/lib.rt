@@ -1,4 +1,0 @@
-//! The audit as an HTML page.
-#![tactic(auto)]
-
-pub mod page;

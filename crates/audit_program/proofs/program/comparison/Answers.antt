@@ -1,8 +1,0 @@
-use Rattle.audit_program.proofs.program.comparison.Goals as goal
-
-pub returns : goal.returns
-returns c = record {
-  comparison = c.in_ok-compared.compared;
-  of = c.in_ok-compared.ensures;
-  listed = rw (c.rejects_some-is_rejected.ensures, c.has_passed-has_passed.ensures) at c.in_ok-listed.ensures;
-}

@@ -1,0 +1,2 @@
+pub mod GithubLemmas
+pub mod MessageLemmas

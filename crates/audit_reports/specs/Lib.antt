@@ -1,0 +1,3 @@
+pub mod Github
+pub mod Verdicts
+pub mod Sarif

@@ -1,0 +1,98 @@
+//! A report on several crawlers: a line for each, and their verdicts.
+use crate::lines::Lines;
+use crate::verdicts::write_verdicts;
+use audit_core::audit::{AgentAudit, Audit};
+use audit_core::group::Group;
+use audit_core::reach::Reach;
+use audit_core::rows::Shown;
+use audit_core::texts::{Elsewhere, Fetched, ignores_delay};
+use robots_warnings::crawlers::is_wrong;
+use safe_output::delay::Delay;
+
+fn write_group(out: &mut Lines<'_>, agent: &AgentAudit<'_>) {
+    let name = agent.agent;
+    match agent.group {
+        Group::Named => write!(out, ": group {name}"),
+        Group::Star => write!(out, ": group *"),
+        Group::Nobody => write!(out, ": no group"),
+        Group::Everyone if agent.rules == 0 => write!(
+            out,
+            ": no rules (no User-agent line is read)"
+        ),
+        Group::Everyone => write!(out, ": all rules (no User-agent line is read)"),
+    }
+    if let Some(line) = agent.group_line {
+        write!(out, " (line {line})");
+    }
+}
+
+fn write_rules(out: &mut Lines<'_>, group: Group, rules: usize) {
+    match (group, rules) {
+        (Group::Nobody, _) | (Group::Everyone, 0) => {}
+        (_, 0) => write!(out, ", no rules"),
+        (_, 1) => write!(out, ", 1 rule"),
+        _ => write!(out, ", {rules} rules"),
+    }
+}
+
+pub(crate) fn write_wrong(out: &mut Lines<'_>, name: &str) {
+    if is_wrong(name.as_bytes()) {
+        write!(out, "; no crawler has this name");
+    }
+}
+
+/// The values of the first three of these lines that aren't long.
+fn write_values(out: &mut Lines<'_>, audit: &Audit<'_>, lines: &[usize]) {
+    let mut is_first = true;
+    for line in lines.iter().take(3) {
+        let front = if is_first { ": " } else { ", " };
+        match audit.labels.get(line.saturating_sub(1)) {
+            Some(labeled) if labeled.body.len() < 80 => {
+                let value = Shown(labeled.line, labeled.body);
+                write!(out, "{front}{value}");
+            }
+            _ => write!(out, "{front}.."),
+        }
+        is_first = false;
+    }
+    if lines.len() > 3 {
+        write!(out, ", ..");
+    }
+}
+
+/// Such as `crawler GPTBot: group * (line 1), 3 rules, delay 2 s`.
+fn write_crawler(out: &mut Lines<'_>, audit: &Audit<'_>, agent: &AgentAudit<'_>) {
+    let name = agent.agent;
+    write!(out, "crawler {name}");
+    write_group(out, agent);
+    write_rules(out, agent.group, agent.rules);
+    if let Some(micros) = agent.delay {
+        let delay = Delay(micros);
+        write!(out, ", delay {delay}");
+        if ignores_delay(agent) {
+            write!(out, ", which it probably ignores");
+        }
+    }
+    if agent.reach != Reach::Part {
+        let fetched = Fetched(agent.reach, &agent.allows);
+        write!(out, ", may fetch {fetched}");
+        write_values(out, audit, &agent.allows);
+    }
+    let elsewhere = Elsewhere(agent);
+    write!(out, "{elsewhere}");
+    write_wrong(out, name);
+    out.end_line();
+}
+
+/// If `denied_only` is true, not those that have no verdicts.
+pub(crate) fn write_crawlers(out: &mut Lines<'_>, denied_only: bool, audit: &Audit<'_>) {
+    for agent in &audit.agents {
+        if !denied_only || agent.rejected.is_some() || !agent.verdicts.is_empty() {
+            write_crawler(out, audit, agent);
+        }
+        out.rejected(agent.agent, agent.rejected);
+    }
+    for agent in &audit.agents {
+        write_verdicts(out, Some(agent.agent), &agent.verdicts);
+    }
+}

@@ -1,0 +1,253 @@
+//! The audit, or other findings, as one line of JSON.
+ghost use Rattle.std.specs.Prelude.{IfOk, string_bytes};
+ghost use Rattle.safe_output.specs.Text.{IsReport};
+
+use crate::object::Object;
+use audit_core::audit::{AgentAudit, Audit, Verdict};
+use audit_core::findings::{Finding, warnings_found};
+use audit_core::group::{AtVendor, Group};
+use audit_core::rows::{comment_of, kind_text, membership_word};
+use audit_core::sitemaps::sitemaps_of;
+use audit_core::texts::may_fetch;
+use rfc9309::conformance::Conformance;
+use safe_output::report::Report;
+use safe_output::sanitize::push_sanitized;
+use serde_json::Value;
+use std::alloc::{AllocError, Global};
+use std::fmt;
+use std::fmt::Write;
+use texting_robots::labels::LabeledLine;
+use texting_robots::parser::Line;
+
+/// A value with a JSON form.
+pub(crate) trait Json {
+    fn json(&self, alloc: Global) -> Result<Value, AllocError>;
+}
+
+pub(crate) fn list_json<T: Json>(alloc: Global, items: &[T]) -> Result<Value, AllocError> {
+    let mut list = Vec::with_capacity(alloc, items.len())?;
+    for item in items {
+        list.push(item.json(alloc)?)?;
+    }
+    Ok(Value::Array(list))
+}
+
+fn sanitized_json(alloc: Global, bytes: &[u8]) -> Result<Value, AllocError> {
+    let mut text = String::new(alloc);
+    push_sanitized(&mut text, bytes)?;
+    Ok(Value::String(text))
+}
+
+/// These bytes, or null if there are none.
+fn text_json(alloc: Global, bytes: &[u8]) -> Result<Value, AllocError> {
+    if bytes.is_empty() {
+        Ok(Value::Null)
+    } else {
+        sanitized_json(alloc, bytes)
+    }
+}
+
+impl<'a> Json for Verdict<'a> {
+    fn json(&self, alloc: Global) -> Result<Value, AllocError> {
+        let object = Object::new(alloc)
+            .with("allowed", Ok(Value::Bool(self.decision.allowed)))?
+            .with("line", Ok(Value::from(self.decision.line)))?
+            .with("url", sanitized_json(alloc, self.url.as_bytes()))?;
+        Ok(object.value())
+    }
+}
+
+fn group_word(group: Group) -> &'static str {
+    match group {
+        Group::Named => "named",
+        Group::Star => "star",
+        Group::Nobody => "none",
+        Group::Everyone => "everyone",
+    }
+}
+
+fn vendor_word(vendor: AtVendor) -> &'static str {
+    match vendor {
+        AtVendor::Same => "same",
+        AtVendor::NoGroup => "none",
+        AtVendor::OtherGroup => "other",
+    }
+}
+
+/// What the crawler may fetch: null for a part of all URLs, and if it isn't decided.
+fn fetch_json(alloc: Global, audit: &AgentAudit<'_>) -> Result<Value, AllocError> {
+    match may_fetch(audit.rejected, audit.vendor, audit.reach) {
+        Some(word) => Value::try_from_str(alloc, word),
+        None => Ok(Value::Null),
+    }
+}
+
+impl Json for &'static str {
+    fn json(&self, alloc: Global) -> Result<Value, AllocError> {
+        Value::try_from_str(alloc, self)
+    }
+}
+
+fn group_json(alloc: Global, audit: &AgentAudit<'_>) -> Result<Value, AllocError> {
+    let object = Object::new(alloc)
+        .with("ignored_by", list_json(alloc, &audit.ignored_by))?
+        .with("kind", Value::try_from_str(alloc, group_word(audit.group)))?
+        .with("line", Ok(Value::from(audit.group_line)))?;
+    Ok(object.value())
+}
+
+impl<'a> Json for AgentAudit<'a> {
+    fn json(&self, alloc: Global) -> Result<Value, AllocError> {
+        let vendor = Value::try_from_str(alloc, vendor_word(self.vendor));
+        let object = Object::new(alloc)
+            .with("agent", sanitized_json(alloc, self.agent.as_bytes()))?
+            .with("delay", Ok(Value::from(self.delay)))?
+            .with("group", group_json(alloc, self))?
+            .with("may_fetch", fetch_json(alloc, self))?
+            .with("rejected", Ok(Value::from(self.rejected)))?
+            .with("rules", Ok(Value::from(self.rules)))?
+            .with("vendor", vendor)?
+            .with("verdicts", list_json(alloc, &self.verdicts))?;
+        Ok(object.value())
+    }
+}
+
+/// A delay in microseconds, or the bytes of another value.
+fn value_json(alloc: Global, line: Line<'_>) -> Result<Value, AllocError> {
+    match line {
+        Line::CrawlDelay(delay) => Ok(Value::from(delay)),
+        Line::UserAgent(value)
+        | Line::Allow(value)
+        | Line::Disallow(value)
+        | Line::Sitemap(value)
+        | Line::Raw(value) => text_json(alloc, value),
+    }
+}
+
+impl<'a> Json for LabeledLine<'a> {
+    fn json(&self, alloc: Global) -> Result<Value, AllocError> {
+        let comment = comment_of(self.line, self.body);
+        let membership = membership_word(self.membership);
+        let object = Object::new(alloc)
+            .with("comment", text_json(alloc, comment))?
+            .with("kind", Value::try_from_str(alloc, kind_text(self.line)))?
+            .with("membership", Value::try_from_str(alloc, membership))?
+            .with("number", Ok(Value::from(self.number)))?
+            .with("value", value_json(alloc, self.line))?;
+        Ok(object.value())
+    }
+}
+
+impl<'a> Json for &'a [u8] {
+    fn json(&self, alloc: Global) -> Result<Value, AllocError> {
+        sanitized_json(alloc, self)
+    }
+}
+
+impl Json for Finding {
+    fn json(&self, alloc: Global) -> Result<Value, AllocError> {
+        let object = Object::new(alloc)
+            .with("level", Value::try_from_str(alloc, self.level.word()))?
+            .with("line", Ok(Value::from(self.line)))?
+            .with("name", Value::try_from_str(alloc, self.name))?
+            .with("text", Value::try_from_str(alloc, &self.message))?;
+        Ok(object.value())
+    }
+}
+
+fn sitemaps_json(alloc: Global, labels: &[LabeledLine<'_>]) -> Result<Value, AllocError> {
+    list_json(alloc, &sitemaps_of(alloc, labels)?)
+}
+
+fn rows_json(
+    alloc: Global,
+    has_rows: bool,
+    labels: &[LabeledLine<'_>],
+) -> Result<Value, AllocError> {
+    if has_rows {
+        list_json(alloc, labels)
+    } else {
+        Ok(Value::Null)
+    }
+}
+
+/// True if this is known of the file, or else null.
+fn known_json(is_known: bool) -> Value {
+    if is_known {
+        Value::Bool(true)
+    } else {
+        Value::Null
+    }
+}
+
+/// The line that keeps a file from the standard's grammar, or else from verdicts that are the standard's.
+fn other_line_json(syntax: Conformance) -> Value {
+    match syntax {
+        Conformance::OtherLine(line) | Conformance::Syntax(line) => Value::from(line),
+        Conformance::OtherFile | Conformance::Verdicts => Value::Null,
+    }
+}
+
+/// `found` are the warnings.
+fn audit_json(
+    alloc: Global,
+    has_rows: bool,
+    audit: &Audit<'_>,
+    found: &[Finding],
+) -> Result<Value, AllocError> {
+    let has_syntax = known_json(audit.syntax.has_syntax());
+    let has_verdicts = known_json(audit.syntax.has_verdicts());
+    let object = Object::new(alloc)
+        .with("agents", list_json(alloc, &audit.agents))?
+        .with("has_rfc_9309_syntax", Ok(has_syntax))?
+        .with("has_rfc_9309_verdicts", Ok(has_verdicts))?
+        .with("lines", rows_json(alloc, has_rows, &audit.labels))?
+        .with("rfc_9309_line", Ok(other_line_json(audit.syntax)))?
+        .with("sitemaps", sitemaps_json(alloc, &audit.labels))?
+        .with("warnings", list_json(alloc, found))?;
+    Ok(object.value())
+}
+
+/// A value as one line.
+pub(crate) fn json_line(alloc: Global, value: &Value) -> Result<String, fmt::Error>
+    ensures { IfOk result (λ text. IsReport (string_bytes text)) }
+{
+    let mut out = Report::new(alloc);
+    out.write_str(&value.to_string(alloc)?)?;
+    out.end_line()?;
+    Ok(out.into_string())
+}
+
+/// The audit as one line of JSON.
+pub fn json_text(alloc: Global, has_rows: bool, audit: &Audit<'_>) -> Result<String, fmt::Error>
+    ensures { IfOk result (λ text. IsReport (string_bytes text)) }
+{
+    let found = warnings_found(alloc, &audit.warnings)?;
+    json_line(alloc, &audit_json(alloc, has_rows, audit, &found)?)
+}
+
+/// The name of a file, what was found in it, and the name of an older version, or null if that is empty.
+fn findings_json(
+    alloc: Global,
+    file: &str,
+    old: &str,
+    findings: &[Finding],
+) -> Result<Value, AllocError> {
+    let object = Object::new(alloc)
+        .with("file", sanitized_json(alloc, file.as_bytes()))?
+        .with("findings", list_json(alloc, findings))?
+        .with("old", text_json(alloc, old.as_bytes()))?;
+    Ok(object.value())
+}
+
+/// The findings about the file with this name, as one line.
+pub fn findings_text(
+    alloc: Global,
+    file: &str,
+    old: &str,
+    findings: &[Finding],
+) -> Result<String, fmt::Error>
+    ensures { IfOk result (λ text. IsReport (string_bytes text)) }
+{
+    json_line(alloc, &findings_json(alloc, file, old, findings)?)
+}

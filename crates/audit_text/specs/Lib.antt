@@ -1,2 +1,0 @@
-pub mod Github
-pub mod Verdicts

@@ -1,5 +1,0 @@
-use Rattle.html_writer.proofs.PageLemmas.{ended_open}
-use Rattle.html_writer.proofs.html.Html.close.Goals as goal
-
-pub invariant_of-self-in-Ok : goal.invariant_of-self-in-Ok
-invariant_of-self-in-Ok c = ended_open _ _ _ _ _ c.self.invariant c.in-Some.ensures.items c.in-Ok.ensures

@@ -1,3 +1,0 @@
-pub mod Html
-pub mod Reader
-pub mod Page

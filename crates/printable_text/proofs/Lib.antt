@@ -1,4 +1,0 @@
-pub mod SanitizeLemmas
-pub mod EscapeLemmas
-pub mod CommandLemmas
-pub mod ReportLemmas

@@ -1,6 +1,0 @@
-use Rattle.std.proofs.Common.{string_bytes}
-use Rattle.printable_text.specs.Text.{IsColoredTo}
-use Rattle.printable_text.proofs.color.colored.Given as goal
-
-abbrev pub invariant-loop-place : goal.invariant-loop-place
-invariant-loop-place l = IsColoredTo l.text l.rest (string_bytes l.shown)

@@ -1,5 +1,0 @@
-use Rattle.robots_needless.proofs.LeftLemmas.{same_robot}
-use Rattle.robots_needless.proofs.theorems.deleting_changes_no_robot.Goals as goal
-
-pub returns : goal.returns
-returns c = λ file left found agent are some is utf8. same_robot file left found are some is agent utf8

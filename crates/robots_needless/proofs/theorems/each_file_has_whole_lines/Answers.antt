@@ -1,5 +1,0 @@
-use Rattle.robots_needless.proofs.LeftLemmas.{some_lines}
-use Rattle.robots_needless.proofs.theorems.each_file_has_whole_lines.Goals as goal
-
-pub returns : goal.returns
-returns c = some_lines

@@ -1,4 +1,0 @@
-pub mod Needless
-pub mod Internal
-pub mod Blocks
-pub mod Examples

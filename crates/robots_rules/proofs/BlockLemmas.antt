@@ -1,0 +1,269 @@
+-- Rules that can be removed from a file: each block that has rules keeps one, so the other lines apply to the
+-- same crawlers.
+use Rattle.std.proofs.Common.{◌≡◌, ◌<◌, ◌≤◌, inl, inr, ℕ, ◌+◌, ◌==◌, Bool, true, false, not, ◌&&◌, ◌||◌, []}
+use Rattle.std.proofs.Common.{IsTrue}
+use Rattle.std.proofs.Common.{List, ◌∷◌, Option, Some, None, ap, ap₂, sym, refl, ◌∙◌, arith, drop}
+use Rattle.std.proofs.Common.{filter, filter_map, length, length-drop, map, slice_get, if◌then◌else◌}
+use Rattle.std.specs.{List.cons_option, List.enumerate_from, List.list_any, Option.option_or}
+use Rattle.std.proofs.lemmas.Bool.{cases_Bool, cases_eq, false≢true}
+use Rattle.texting_robots.specs.{Executable.delay_for, declared.groups.GroupTracker.GroupTracker}
+use Rattle.texting_robots.specs.{Line.LineValue, Rules.PlacedRule, Rules.unplaced, Theorems.Same}
+use Rattle.texting_robots.specs.Line.{Raw, delay_in, is_raw}
+use Rattle.texting_robots.specs.Group.{group_name, is_agent, passes_at}
+use Rattle.texting_robots.specs.Executable.{captured_delays, captured_lines, delay_before_agents, placed_in}
+use Rattle.texting_robots.specs.Executable.{placed_rules, rules_for, sitemap_in, sitemaps_in}
+use Rattle.texting_robots.specs.Internal.Group.{from_captured, if_captured, start_of, step}
+use Rattle.texting_robots.proofs.Shared.{at_front, captured_walked, only_agents, raw_changes_nothing}
+use Rattle.texting_robots.proofs.Shared.{before_agent, before_agents}
+use Rattle.robots_rules.specs.{declared.blocks.Block.Block}
+use Rattle.robots_rules.specs.Blocks.{block_after, is_rule, keep_blocks_from, left_from, no_rule}
+use Rattle.robots_rules.specs.Blocks.{with_rule}
+use Rattle.robots_rules.specs.Needless.{KeepsRule, lines_without, without}
+use Rattle.robots_rules.proofs.{TogetherLemmas.named_in}
+
+abbrev pub among : List ℕ → ℕ → Bool
+among numbers n = list_any (λ number. number == n) numbers
+
+pub left_are : {A : Type 0} (numbers : List ℕ) (position : ℕ) (lines : List A)
+    → map (λ (p : ℕ × A). p.1)
+    (filter (λ (p : ℕ × A). not (among numbers (p.0 + 1))) (enumerate_from position lines))
+    ≡ left_from (among numbers) position lines
+left_are numbers position [] = refl
+left_are numbers position (line ∷ lines) = grind (arith, left_are numbers (position + 1) lines)
+
+pub no_agent : (line : LineValue) → is_rule line ≡ true → is_agent line ≡ false
+no_agent line is = grind arith
+
+next_block : (gone : ℕ → Bool) (block : Block) (position : ℕ) (line : LineValue) (lines : List LineValue)
+    → keep_blocks_from gone block position (line ∷ lines) ≡ true
+    → (next : Block) × (block_after block (gone (position + 1)) line ≡ Some next)
+    × (keep_blocks_from gone next (position + 1) lines ≡ true)
+next_block gone block position line lines keeps = grind arith
+
+-- ---- each rule that goes has another one in its block, which stays
+
+-- no rule of a block stays so far
+abbrev lost : Block
+lost = with_rule no_rule true
+
+lost_next : (gone : ℕ → Bool) (position : ℕ) (line : LineValue) (lines : List LineValue)
+    → (is_rule line && not (gone (position + 1))) ≡ false
+    → keep_blocks_from gone lost position (line ∷ lines) ≡ true
+    → (is_agent line ≡ false) × (keep_blocks_from gone lost (position + 1) lines ≡ true)
+lost_next gone position line lines goes keeps = grind arith
+
+had_rule : (block next : Block) (goes : Bool) (line : LineValue) → block_after block goes line ≡ Some next
+    → next.has_rule ≡ true → (is_rule line && not goes) ≡ false
+    → (is_agent line ≡ false) × (block.has_rule ≡ true)
+had_rule block next goes line is has gone = grind arith
+
+lost_here : (block next : Block) (goes : Bool) (line : LineValue) → block_after block goes line ≡ Some next
+    → goes ≡ true → (is_rule line ≡ true) × (block.has_rule ≡ false → ◌≡◌ {A = Block} next lost)
+lost_here block next goes line is gone = grind arith
+
+module _ (numbers : List ℕ) (lines : List LineValue) where
+  abbrev gone : ℕ → Bool
+  gone = among numbers
+
+  -- no user-agent line is between these positions
+  abbrev IsClear : ℕ → ℕ → Type 0
+  IsClear m n = (k : ℕ) → m < k → k < n → ¬ IsTrue (passes_at is_agent lines k)
+
+  abbrev IsKept : ℕ → Type 0
+  IsKept other = (gone (other + 1) ≡ false) × (passes_at is_rule lines other ≡ true)
+
+  kept_here : (position : ℕ) (line : LineValue) → slice_get lines position ≡ Some line
+      → (is_rule line && not (gone (position + 1))) ≡ true → IsKept position
+  kept_here position line at stays = grind arith
+
+  further : (m position : ℕ) (line : LineValue) → slice_get lines position ≡ Some line
+      → is_agent line ≡ false → IsClear m position → IsClear m (position + 1)
+  further m position line at isnt clear k over less = grind arith
+
+  kept_below : (place position : ℕ) (rest : List LineValue) → drop position lines ≡ rest
+      → keep_blocks_from gone lost position rest ≡ true → place < position → IsClear place position
+      → (other : ℕ) × IsKept other × (place < other) × IsClear place other
+  kept_below place position [] left keeps under clear = absurd (false≢true keeps)
+  kept_below place position (line ∷ rest) left keeps under clear =
+      let (at, later) = at_front lines position line rest left in
+      grind (arith, kept_here, lost_next, further, kept_below place (position + 1) rest later)
+
+  safe : (place other : ℕ) → passes_at is_rule lines place ≡ true → IsKept other → IsClear place other
+      → IsClear other place → KeepsRule numbers lines (place + 1)
+  safe place other rule (stays, other_rule) below above = grind (arith, named_in)
+
+  all_safe : (block : Block) (position : ℕ) (rest : List LineValue) → drop position lines ≡ rest
+      → keep_blocks_from gone block position rest ≡ true
+      → (block.has_rule ≡ true → (other : ℕ) × IsKept other × (other < position) × IsClear other position)
+      → (place : ℕ) → position ≤ place → place < length lines → gone (place + 1) ≡ true
+      → KeepsRule numbers lines (place + 1)
+  all_safe block position [] left keeps above place from within goes =
+      absurd (omega (arith, ap length left, length-drop position lines))
+  all_safe block position (line ∷ rest) left keeps above place from within goes =
+      let (at, later) = at_front lines position line rest left in
+      let (next, is, more) = next_block gone block position line rest keeps in
+      elim (cases_eq position place) [
+        | inl here ↦
+            let (rule, none) = lost_here block next _ line is (ap (λ k. gone (k + 1)) here ∙ goes) in
+            let is_rule_here : passes_at is_rule lines place ≡ true = rw (← here, at) rule in
+            elim (cases_Bool block.has_rule) [
+              | inl has ↦
+                  let (other, kept, over, clear) = above has in
+                  safe place other is_rule_here kept (λ k more less. absurd (omega arith))
+                  (λ k more less. clear k more (omega arith))
+              | inr lacks ↦
+                  let (other, kept, under, clear) = kept_below place (position + 1) rest later
+                  (rw (none lacks) at more) (omega arith) (λ k over less. absurd (omega arith)) in
+                  safe place other is_rule_here kept clear (λ k more less. absurd (omega arith))
+            ]
+        | inr differs ↦
+            all_safe next (position + 1) rest later more
+            (grind (arith, kept_here, had_rule, further))
+            place (omega arith) within goes
+      ]
+
+  pub keeps_rule : keep_blocks_from gone no_rule 0 lines ≡ true → (place : ℕ) → place < length lines
+      → gone (place + 1) ≡ true → KeepsRule numbers lines (place + 1)
+  keeps_rule keeps place = grind (arith, all_safe)
+
+abbrev blank : (ℕ → Bool) → ℕ → List LineValue → List LineValue
+blank gone position [] = []
+blank gone position (line ∷ lines) =
+    (if gone (position + 1) then Raw [] else line) ∷ blank gone (position + 1) lines
+
+abbrev is_meant : LineValue → Bool
+is_meant line = not (is_raw line)
+
+left_blank : (gone : ℕ → Bool) (position : ℕ) (lines : List LineValue)
+    → filter is_meant (left_from gone position lines) ≡ filter is_meant (blank gone position lines)
+left_blank gone position [] = refl
+left_blank gone position (line ∷ lines) = grind (arith, left_blank gone (position + 1) lines)
+
+-- the next line is captured or not in the same way
+record AreAlike (block : Block) (tracker other : GroupTracker) : Type 0 where
+  captured : tracker.captured ≡ other.captured
+  named : block.is_lost ≡ false → tracker.named ≡ other.named
+  unnamed : block.has_rule ≡ true → other.named ≡ false
+
+module _ (gone : ℕ → Bool) (name : List ℕ) where
+  -- what is found in the lines that stay
+  abbrev masked : {X : Type 0} → (ℕ × LineValue → Option X) → ℕ × LineValue → Option X
+  masked given line = if gone (line.0 + 1) then None else given line
+
+  walked : {X : Type 0} (given : ℕ × LineValue → Option X)
+      → ((position : ℕ) → given (position, Raw []) ≡ None) → (position : ℕ) (lines : List LineValue)
+      (block : Block) (tracker other : GroupTracker) → AreAlike block tracker other
+      → keep_blocks_from gone block position lines ≡ true
+      → from_captured given name other position (blank gone position lines)
+      ≡ from_captured (masked given) name tracker position lines
+  walked given none position [] block tracker other alike keeps = refl
+  walked {X} given none position (line ∷ lines) block tracker other alike keeps =
+      grind (arith, next_block, walked given none (position + 1) lines)
+
+  abbrev staying : List PlacedRule → List PlacedRule
+  staying = filter (λ (p : PlacedRule). not (gone p.line))
+
+  masked_rules : (lines : List (ℕ × LineValue))
+      → filter_map (masked placed_in) lines ≡ staying (filter_map placed_in lines)
+  masked_rules [] = refl
+  masked_rules ((position, line) ∷ lines) = grind (arith, masked_rules lines)
+
+-- ---- what no rule gives
+
+module _ (gone : ℕ → Bool) where
+  -- a line that goes is a rule
+  rule_goes : {A : Type 0} (block next : Block) (number : ℕ) (line : LineValue) (x y : A)
+      → block_after block (gone number) line ≡ Some next → (is_rule line ≡ true → y ≡ x)
+      → (if gone number then x else y) ≡ y
+  rule_goes block next number line x y is same = grind arith
+
+  masked_nothing : {X : Type 0} (name : List ℕ) (given : LineValue → Option X)
+      → ((line : LineValue) → is_rule line ≡ true → given line ≡ None) → (tracker : GroupTracker)
+      (block : Block) (position : ℕ) (lines : List LineValue)
+      → keep_blocks_from gone block position lines ≡ true
+      → from_captured (masked gone name (λ p. given p.1)) name tracker position lines
+      ≡ from_captured (λ p. given p.1) name tracker position lines
+  masked_nothing name given none tracker block position [] keeps = refl
+  masked_nothing name given none tracker block position (line ∷ lines) keeps =
+      let (next, is, more) = next_block gone block position line lines keeps in
+      ap₂ (λ x rest. cons_option (if_captured tracker x) rest)
+      (rule_goes block next (position + 1) line None (given line) is (none line))
+      (masked_nothing name given none (step name tracker line) next (position + 1) lines more)
+
+  -- so what reads line after line, and no rule, gives the same without them
+  same_blank : {A : Type 0} (read : List LineValue → A) (step : LineValue → A → A)
+      → ((line : LineValue) (lines : List LineValue) → read (line ∷ lines) ≡ step line (read lines))
+      → ((line : LineValue) (later : A) → is_rule line ≡ true → step line later ≡ step (Raw []) later)
+      → (block : Block) (position : ℕ) (lines : List LineValue)
+      → keep_blocks_from gone block position lines ≡ true → read (blank gone position lines) ≡ read lines
+  same_blank read step first none block position [] keeps = refl
+  same_blank read step first none block position (line ∷ lines) keeps =
+      let (next, is, more) = next_block gone block position line lines keeps in
+      let same = same_blank read step first none next (position + 1) lines more in
+      grind (arith, first, none line (read lines))
+
+module _ (numbers : List ℕ) (lines : List LineValue)
+    (keeps : keep_blocks_from (among numbers) no_rule 0 lines ≡ true) where
+  abbrev goes : ℕ → Bool
+  goes = among numbers
+
+  abbrev rest : List LineValue
+  rest = blank goes 0 lines
+
+  same_any : (test : LineValue → Bool) → test (Raw []) ≡ false
+      → ((line : LineValue) → is_rule line ≡ true → test line ≡ false)
+      → list_any test rest ≡ list_any test lines
+  same_any test none others = same_blank goes (list_any test) (λ line later. test line || later)
+      (λ _ _. refl) (λ line later is. rw (none, others line is) refl) no_rule 0 lines keeps
+
+  same_name : (agent : List ℕ) → group_name agent rest ≡ group_name agent lines
+  same_name agent = grind (arith, same_any, only_agents, no_agent)
+
+  same_agents : list_any is_agent rest ≡ list_any is_agent lines
+  same_agents = same_any is_agent refl no_agent
+
+  same_lines : (agent : List ℕ) → Same agent (lines_without numbers lines) agent rest
+  same_lines agent = raw_changes_nothing agent _ _
+      (ap (filter is_meant) (left_are numbers 0 lines) ∙ left_blank goes 0 lines)
+
+  captured : {X : Type 0} (given : ℕ × LineValue → Option X)
+      → ((position : ℕ) → given (position, Raw []) ≡ None) → (name : List ℕ)
+      → filter_map given (captured_lines name rest)
+      ≡ from_captured (masked goes name given) name (start_of lines) 0 lines
+  captured given none name = grind (arith, captured_walked, same_agents, walked)
+
+  pub deleted : (agent : List ℕ)
+      → rules_for agent (lines_without numbers lines) ≡ unplaced (without numbers (placed_rules agent lines))
+  deleted agent =
+      let name = group_name agent lines in
+      (same_lines agent).0.rules
+      ∙ ap unplaced (ap (λ name. filter_map placed_in (captured_lines name rest)) (same_name agent)
+      ∙ captured placed_in (λ _. refl) name
+      ∙ sym (captured_walked (masked goes name placed_in) name lines)
+      ∙ masked_rules goes name (captured_lines name lines))
+
+  same_delays : (agent : List ℕ) → captured_delays agent rest ≡ captured_delays agent lines
+  same_delays agent =
+      let name = group_name agent lines in
+      let given = λ (p : ℕ × LineValue). delay_in p.1 in
+      ap (λ name. filter_map given (captured_lines name rest)) (same_name agent)
+      ∙ captured given (λ _. refl) name
+      ∙ masked_nothing goes name delay_in (λ line is. grind arith) (start_of lines) no_rule 0 lines keeps
+      ∙ sym (captured_walked given name lines)
+
+  early : filter_map delay_in (before_agent rest) ≡ filter_map delay_in (before_agent lines)
+  early = same_blank goes (λ ls. filter_map delay_in (before_agent ls))
+      (λ line later. if is_agent line then [] else cons_option (delay_in line) later)
+      (λ line ls. grind arith) (λ line later is. grind arith) no_rule 0 lines keeps
+
+  same_before : delay_before_agents rest ≡ delay_before_agents lines
+  same_before = grind (arith, same_agents, before_agents, early)
+
+  pub delays_stay : (agent : List ℕ) → delay_for agent (lines_without numbers lines) ≡ delay_for agent lines
+  delays_stay agent =
+      (same_lines agent).0.delay
+      ∙ ap₂ (λ delays early. option_or (slice_get delays 0) early) (same_delays agent) same_before
+
+  pub sitemaps_stay : sitemaps_in (lines_without numbers lines) ≡ sitemaps_in lines
+  sitemaps_stay = (same_lines []).1 ∙ same_blank goes sitemaps_in (λ line. cons_option (sitemap_in line))
+      (λ _ _. refl) (λ line later is. grind arith) no_rule 0 lines keeps

@@ -1,5 +1,0 @@
-use Rattle.robots_same.specs.Internal.{Leads}
-use Rattle.robots_same.proofs.chain.turns.Given as goal
-
-abbrev pub invariant-loop-round : goal.invariant-loop-round
-invariant-loop-round l = Leads l.front l.pool.items l.initial.pool.items

@@ -1,6 +1,0 @@
-use Rattle.std.proofs.Common.{◌≡◌, [], take}
-use Rattle.robots_same.specs.Internal.{last_kind}
-use Rattle.robots_same.proofs.side.kind_at_end.Given as goal
-
-abbrev pub invariant-loop-item : goal.invariant-loop-item
-invariant-loop-item l = l.answer ≡ last_kind l.start (take l.item-index l.items) []

@@ -1,6 +1,0 @@
-use Rattle.std.proofs.Common.{take}
-use Rattle.robots_same.specs.Internal.{IsAfter}
-use Rattle.robots_same.proofs.state.along.Given as goal
-
-abbrev pub invariant-loop-byte : goal.invariant-loop-byte
-invariant-loop-byte l = IsAfter (take l.byte-index l.text) l.initial.state l.state

@@ -1,0 +1,150 @@
+//! Sanitizes untrusted text: escapes invalid UTF-8, characters that are unsafe to display, and the start of commands.
+ghost use Rattle.std.specs.Prelude.{◌≡◌, ◌++◌, OnOk, encode_utf8_all, flat_map, string_bytes};
+ghost use Rattle.std.specs.{List.list_all, Str.chars, Io.StartsWith};
+ghost use Rattle.safe_output.specs.Sanitize.{has_command, is_printable, is_printable_byte, safe_chunk};
+ghost use Rattle.safe_output.specs.Sanitize.{safe_in, sanitized, sanitized_in, turns_text};
+ghost use Rattle.safe_output.specs.Sanitize.{without_commands, without_hash};
+
+use bstr::decode_utf8;
+use std::alloc::AllocError;
+use std::str::from_utf8;
+use texting_robots::push_escaped_bytes;
+
+fn turns_text(char: char) -> bool
+    ensures { result ≡ turns_text char }
+{
+    matches!(char, '\u{61C}' | '\u{200E}'..='\u{200F}' | '\u{202A}'..='\u{202E}' | '\u{2066}'..='\u{2069}')
+}
+
+fn is_printable(char: char, has_lines: bool) -> bool
+    ensures { result ≡ is_printable has_lines char }
+{
+    match char {
+        '\n' => has_lines,
+        '\u{2028}' | '\u{2029}' => false,
+        _ => !char.is_control() && !turns_text(char),
+    }
+}
+
+fn is_printable_byte(byte: u8, has_lines: bool) -> bool
+    ensures { result ≡ is_printable_byte has_lines byte }
+{
+    ((byte >= b' ') & (byte <= b'~')) | (has_lines & (byte == b'\n'))
+}
+
+/// The loop doesn't stop at the first that isn't, since usually all are.
+pub(crate) fn are_printable_bytes(bytes: &[u8], has_lines: bool) -> bool
+    ensures { result ≡ list_all (is_printable_byte has_lines) bytes.now }
+{
+    let mut all = true;
+    for byte in bytes {
+        all &= is_printable_byte(*byte, has_lines);
+    }
+    all
+}
+
+/// Unchanged if it is printable, else escaped; `None` is for bytes that aren't valid UTF-8.
+fn push_chunk(
+    text: &mut String,
+    char: Option<char>,
+    bytes: &[u8],
+    has_lines: bool,
+) -> Result<(), AllocError>
+    ensures added { OnOk result (string_bytes text.new ≡ string_bytes text.old ++ safe_chunk has_lines char bytes.now) }
+    ensures kept { StartsWith (string_bytes text.new) (string_bytes text.old) }
+{
+    match char {
+        Some(char) if is_printable(char, has_lines) => text.push(char),
+        _ => push_escaped_bytes(text, bytes),
+    }
+}
+
+/// One UTF-8 unit after another.
+pub(crate) fn push_chunks(
+    text: &mut String,
+    bytes: &[u8],
+    has_lines: bool,
+) -> Result<(), AllocError>
+    ensures added { OnOk result (string_bytes text.new ≡ string_bytes text.old ++ safe_in has_lines bytes.now) }
+    ensures kept { StartsWith (string_bytes text.new) (string_bytes text.old) }
+{
+    let mut rest = bytes;
+    while !rest.is_empty() {
+        let (char, size) = decode_utf8(rest);
+        let (chunk, later) = rest.split_at(size);
+        push_chunk(text, char, chunk, has_lines)?;
+        rest = later;
+    }
+    Ok(())
+}
+
+pub(crate) fn has_command(text: &[u8]) -> bool
+    ensures { result ≡ has_command text.now }
+{
+    let mut rest = text;
+    while let [_, later @ ..] = rest {
+        if rest.starts_with(b"##[") {
+            return true;
+        }
+        rest = later;
+    }
+    false
+}
+
+fn push_without_hash(text: &mut String, char: char) -> Result<(), AllocError>
+    ensures added { OnOk result (string_bytes text.new
+        ≡ string_bytes text.old ++ encode_utf8_all (without_hash char)) }
+    ensures kept { StartsWith (string_bytes text.new) (string_bytes text.old) }
+{
+    if char == '#' {
+        text.push_str("%23")
+    } else {
+        text.push(char)
+    }
+}
+
+fn push_without_hashes(text: &mut String, plain: &str) -> Result<(), AllocError>
+    ensures added { OnOk result (string_bytes text.new
+        ≡ string_bytes text.old ++ encode_utf8_all (flat_map without_hash (chars plain.now))) }
+    ensures kept { StartsWith (string_bytes text.new) (string_bytes text.old) }
+{
+    for char in plain.chars() {
+        push_without_hash(text, char)?;
+    }
+    Ok(())
+}
+
+#[tactic(auto, unfolding(crate::specs::Sanitize::without_commands))]
+pub(crate) fn push_without_commands(text: &mut String, plain: &str) -> Result<(), AllocError>
+    ensures added { OnOk result (string_bytes text.new ≡ string_bytes text.old ++ without_commands plain.now) }
+    ensures kept { StartsWith (string_bytes text.new) (string_bytes text.old) }
+{
+    if has_command(plain.as_bytes()) {
+        push_without_hashes(text, plain)
+    } else {
+        text.push_str(plain)
+    }
+}
+
+/// Bytes that are all printable ASCII are copied at once.
+fn push_sanitized_in(text: &mut String, bytes: &[u8], has_lines: bool) -> Result<(), AllocError>
+    ensures added { OnOk result (string_bytes text.new ≡ string_bytes text.old ++ sanitized_in has_lines bytes.now) }
+    ensures kept { StartsWith (string_bytes text.new) (string_bytes text.old) }
+{
+    if are_printable_bytes(bytes, has_lines)
+        && let Ok(plain) = from_utf8(bytes)
+    {
+        return push_without_commands(text, plain);
+    }
+    let mut safe = String::new(*text.allocator());
+    push_chunks(&mut safe, bytes, has_lines)?;
+    push_without_commands(text, &safe)
+}
+
+/// The result contains no line end.
+pub fn push_sanitized(text: &mut String, bytes: &[u8]) -> Result<(), AllocError>
+    ensures added { OnOk result (string_bytes text.new ≡ string_bytes text.old ++ sanitized bytes.now) }
+    ensures kept { StartsWith (string_bytes text.new) (string_bytes text.old) }
+{
+    push_sanitized_in(text, bytes, false)
+}
