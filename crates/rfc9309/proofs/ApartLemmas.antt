@@ -25,7 +25,7 @@ use Rattle.rfc9309.specs.LineForms.{Form, HasForm, Agent, Delay, Empty, Other}
 use Rattle.rfc9309.specs.Matching.{IsRfcVerdict, all_stay, has_dollar, normal_from, normal_uri}
 use Rattle.rfc9309.specs.Matching.{octets}
 use Rattle.rfc9309.specs.StandardRobot.{IsReadAs}
-use Rattle.rfc9309.proofs.DelayLemmas.{is_unsplit, rules_unsplit, unsplit}
+use Rattle.rfc9309.proofs.DelayLemmas.{Fine, rules_unsplit, unsplit}
 use Rattle.rfc9309.proofs.{NormalLemmas.escaped_plain, PlainLemmas.plain_compared, ReadLemmas.lines_in}
 use Rattle.rfc9309.proofs.{RobotLemmas.rejected_as}
 use Rattle.rfc9309.proofs.{RobotLemmas.rules_read}
@@ -37,7 +37,7 @@ use Rattle.rfc9309.proofs.OtherLemmas.{before_end, empty_line, form_tested, othe
 use Rattle.rfc9309.proofs.Sources.{Parts, Source, allowed_in, is_not_raw, member_in, parts_in}
 use Rattle.rfc9309.proofs.Sources.{parts_of, source_of, with_source, written}
 use Rattle.rfc9309.proofs.VerdictLemmas.{each_contains, octets_are, robot_agrees, zip_has, zip_right}
-use Rattle.texting_robots.specs.Line.{Allow, CrawlDelay, Disallow, LineValue, Raw, Sitemap, UserAgent}
+use Rattle.texting_robots.specs.Line.{Allow, CrawlDelay, Disallow, LineValue, Raw, UserAgent}
 use Rattle.texting_robots.specs.Line.{nul_as_lf, without_bom}
 use Rattle.rfc9309.specs.declared.conformance.Above.TheVariants as over
 use Rattle.rfc9309.specs.LineForms as shape
@@ -285,9 +285,9 @@ module _ (text : List ℕ) (near : line_apart text ≡ None) (groups : List rfc.
 
   whole_groups : (agent : List ℕ) → members agent ≡ rfc.standard_rules agent groups
   whole_groups agent =
-      rules_unsplit agent groups (subst (λ groups. is_unsplit [] groups ≡ true) groups_are
-      (unsplit over.Rule 1 sources (subst (λ lines. first_split over.Rule 1 lines ≡ None) (sym lines_same)
-      reasons.1)))
+      rules_unsplit agent groups (λ name. subst (Fine name) groups_are
+      (unsplit name over.Rule 1 sources (subst (λ lines. first_split over.Rule 1 lines ≡ None)
+      (sym lines_same) reasons.1)))
 
   module _ (agent name : List ℕ) (listed : Contains (codes "*" ∷ agents_in lines) name)
       (same : placed_rules agent lines ≡ placed_rules name lines) where

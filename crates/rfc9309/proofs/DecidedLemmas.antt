@@ -11,15 +11,15 @@ use Rattle.texting_robots.specs.{Line.without, Line.without_bom}
 use Rattle.texting_robots.specs.Callers.{IsFileRejected, IsRobotOfFile, IsVerdict, RobotValue, agents_in}
 use Rattle.texting_robots.specs.Callers.{file_limit, lines_read, placed_rules, unplaced}
 use Rattle.rfc9309.specs.HasForm.{has_form}
+use Rattle.rfc9309.specs.LineForms.{AreRulesBelowAgents as AreFree}
 use Rattle.rfc9309.specs.LineForms.{Form, HasForm, Agent, Delay, Empty, Other, Rule, Sitemap}
 use Rattle.rfc9309.specs.Conformance.{by_lines, conformance_of, first_other, has_mark_or_none}
 use Rattle.rfc9309.specs.Conformance.{has_syntax, has_verdicts}
 use Rattle.rfc9309.specs.Conformance.{is_line_below, is_read_whole, line_apart, mark}
 use Rattle.rfc9309.specs.Matching.{IsRfcVerdict, all_stay, normal_uri, octets}
 use Rattle.rfc9309.proofs.ApartLemmas.{accepted, verdict_is}
-use Rattle.rfc9309.proofs.{HasFormLemmas.form_passes, KeyedLemmas.AreFree, OtherLemmas.form_tested}
-use Rattle.rfc9309.proofs.LineFormLemmas.{are_free, bodies_bytes, file_has_forms, forms_make_file}
-use Rattle.rfc9309.proofs.LineFormLemmas.{free_below}
+use Rattle.rfc9309.proofs.{HasFormLemmas.form_passes, OtherLemmas.form_tested}
+use Rattle.rfc9309.proofs.LineFormLemmas.{bodies_bytes, file_has_forms, forms_make_file}
 use Rattle.rfc9309.specs.declared.conformance.Conformance.{TheVariants.OtherFile}
 use Rattle.rfc9309.specs.Rfc9309 as rfc
 
@@ -207,7 +207,7 @@ files_decided file = (only, every)
             no_nul = no_nul file (not-true _ nul);
             bom = marked file start;
             each = each;
-            below = λ above below e. free_below forms above below (free refl) e;
+            below = free refl;
           }),
         )
 
@@ -218,7 +218,7 @@ files_decided file = (only, every)
         let none : first_other false 1 (file_bodies (take file_limit file)) ≡ None =
         subst (λ text. first_other false 1 (file_bodies text) ≡ None) (sym same)
         (none_other false 1 forms (file_bodies file) (bodies_bytes (without_bom (map nul_as_lf file)))
-        are.each (λ e. are_free forms are.below)) in
+        are.each (λ e. are.below)) in
         let whole : is_read_whole file ≡ true =
         and_from _ _ (and_from _ _ (le-leb (length file) file_limit fits)
         (ap not (nul_not_found file (recursion_from_All (λ b. b ≢ 0) file are.no_nul))))

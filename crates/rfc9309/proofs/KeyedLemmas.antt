@@ -13,7 +13,7 @@ use Rattle.texting_robots.specs.{Internal.Statement.IsOptionalComment, Internal.
 use Rattle.texting_robots.proofs.Shared.{each_append, blanks_skipped, same_trim, line_stated, statement_found}
 use Rattle.rfc9309.proofs.HasFormLemmas.{IsCharByte, IsCharText, char_text, blank}
 use Rattle.rfc9309.proofs.ValueLemmas.{blank_no_letter, identifier_bounds, blanks_after, identifier}
-use Rattle.rfc9309.proofs.Sources.{IsRead, Source, is_not_raw, parts_in, source_of, written}
+use Rattle.rfc9309.proofs.Sources.{IsRead, Source, is_not_raw, source_of, written}
 use Rattle.rfc9309.proofs.SyntaxLemmas.{each_weaker, many}
 use Rattle.rfc9309.proofs.ReadLemmas.{BeginsLow, IsBare}
 use Rattle.rfc9309.specs.HasForm.{colon, has_byte, hash, is_blank, is_comment_byte, is_comment_text}
@@ -209,22 +209,6 @@ parts_comment region comment all (inl none) =
     parts hash region comment all (rw none (record { before = refl; from = refl }))
 parts_comment region comment all (inr (text, is)) = rw is (parts_at hash region text all)
 
-abbrev pub AreFree : List Form → Type 0
-AreFree [] = Unit {0}
-AreFree (Agent ∷ forms) = Unit {0}
-AreFree (Rule ∷ forms) = ⊥
-AreFree (_ ∷ forms) = AreFree forms
-
-abbrev pub HasNoRule : List Source → Type 0
-HasNoRule sources = filter rfc.is_rule (parts_in sources).ungrouped ≡ []
-
--- in lines that begin with one of this form and with these source lines, no rule is above the first
--- user-agent line if the source lines have no rule before the first token
-abbrev pub IsCounted : Form → List Source → Type 0
-IsCounted form sources =
-    (following : List Source) (forms : List Form) → (HasNoRule following → AreFree forms)
-    → HasNoRule (sources ++ following) → AreFree (form ∷ forms)
-
 -- a line of this form with these source lines, one or none
 pub record IsLineOf (form : Form) (sources : List Source) (text : List ℕ) : Type 0 where
   pub body : List ℕ
@@ -236,7 +220,6 @@ pub record IsLineOf (form : Form) (sources : List Source) (text : List ℕ) : Ty
   pub low : BeginsLow body
   pub sourced : filter is_not_raw (source_of body ∷ []) ≡ sources
   pub read : Each IsRead sources
-  pub counted : IsCounted form sources
 
 abbrev pub word_of : Kind → List ℕ
 word_of kind = get_or (field_names kind) 0 []
@@ -324,10 +307,9 @@ module _ (kind : Kind) (value read text : List ℕ) (line : rfc.IsKeyed (word_of
 
   pub keyed_line : (found : LineValue) → ((body : List ℕ) → line_with kind read body ≡ found)
       → Each IsRead (filter is_not_raw ((found, value) ∷ []))
-      → IsCounted (form_of kind).0 (filter is_not_raw ((found, value) ∷ []))
       → (form_of kind).1 value ≡ true
       → IsLineOf (form_of kind).0 (filter is_not_raw ((found, value) ∷ [])) text
-  keyed_line found is is_read counted passes =
+  keyed_line found is is_read passes =
       let source : ◌≡◌ {A = Source} (source_of body) (found, value) =
       ap (λ found. (found, written body))
       (line_stated body kind read (statement_found kind read body states) ∙ is body)
@@ -349,5 +331,4 @@ module _ (kind : Kind) (value read text : List ℕ) (line : rfc.IsKeyed (word_of
         low = named_key.low;
         sourced = ap (λ (source : Source). filter is_not_raw (source ∷ [])) source;
         read = is_read;
-        counted = counted;
       }

@@ -48,11 +48,16 @@ pub token_line : (token text : List ℕ) → rfc.IsStartGroupLine token text
 token_line token text (is, line) =
     let (chars, trim) = plain_text token (token_plain token is) in
     keyed_line kind.UserAgent token token text line chars trim _ (λ body. refl) (tt, tt)
-    (λ following forms more none. tt) (token_passes token is)
+    (token_passes token is)
 
-pub record MemberRead (form : Form) (member : rfc.Member) (text : List ℕ) : Type 0 where
+abbrev pub member_form : rfc.Member → Form
+member_form (rfc.Allow pattern) = Rule
+member_form (rfc.Disallow pattern) = Rule
+member_form (rfc.Delay number) = Delay
+
+pub record MemberRead (member : rfc.Member) (text : List ℕ) : Type 0 where
   pub source : Source
-  pub is_line : IsLineOf form (source ∷ []) text
+  pub is_line : IsLineOf (member_form member) (source ∷ []) text
   pub written : (parts : Parts) → with_source source parts ≡ with_member member parts
   pub unlisted : (following : List (List ℕ)) → with_address source following ≡ following
 
@@ -115,7 +120,7 @@ star_rule : (word pattern text : List ℕ) → rfc.IsStarPattern pattern × rfc.
 star_rule word pattern text (is, line) = (begun 42 pattern (grind arith) refl is, line)
 
 allow : (pattern read text : List ℕ) → IsTrimOf read pattern → allowed_in pattern read ≡ rfc.Allow pattern
-    → IsRuleLine (codes "allow") pattern text → MemberRead Rule (rfc.Allow pattern) text
+    → IsRuleLine (codes "allow") pattern text → MemberRead (rfc.Allow pattern) text
 allow pattern read text trim same (value, line) =
     let chars = value.chars in
     let utf8 = is_utf8-from_IsUtf8 read (trim_utf8 pattern read chars.utf8 trim) in
@@ -123,20 +128,19 @@ allow pattern read text trim same (value, line) =
       source = (Allow read, pattern);
       is_line =
           keyed_line kind.Allow pattern read text line chars trim (Allow read) (λ body. refl)
-          (rw (same, utf8) (read, trim, refl), tt)
-          (λ following forms more none. let some = rw same at none in cc) value.passes;
+          (rw (same, utf8) (read, trim, refl), tt) value.passes;
       written = λ parts. ap (λ member. with_member member parts) same;
       unlisted = λ following. refl;
     }
 
 allow_line : (pattern text : List ℕ) → IsRuleLine (codes "allow") pattern text
-    → MemberRead Rule (rfc.Allow pattern) text
+    → MemberRead (rfc.Allow pattern) text
 allow_line [] text rule = allow [] [] text (visible_trim [] tt) refl rule
 allow_line (b ∷ pattern) text rule =
     allow (b ∷ pattern) (trimmed (b ∷ pattern)) text (trimmed_is_trim (b ∷ pattern)) refl rule
 
 disallow_line : (pattern text : List ℕ) → IsRuleLine (codes "disallow") pattern text
-    → MemberRead Rule (rfc.Disallow pattern) text
+    → MemberRead (rfc.Disallow pattern) text
 disallow_line [] text (_, line) =
     let slash = codes "/" in
     record {
@@ -145,8 +149,7 @@ disallow_line [] text (_, line) =
           keyed_line kind.Disallow [] [] text line (plain_text [] tt).0 (visible_trim [] tt)
           (Allow slash)
           (λ body. refl)
-          (rw (is_utf8-from_IsUtf8 slash (plain_text slash (slash_plain, tt)).0.utf8), tt)
-          (λ following forms more none. cc) refl;
+          (rw (is_utf8-from_IsUtf8 slash (plain_text slash (slash_plain, tt)).0.utf8), tt) refl;
       written = λ parts. refl;
       unlisted = λ following. refl;
     }
@@ -159,14 +162,13 @@ disallow_line (b ∷ pattern) text (is, line) =
       is_line =
           keyed_line kind.Disallow value read text line is.chars trim (Disallow read)
           (λ body. disallowed read body (trim_some b pattern read (is.plain b pattern refl) trim))
-          (rw (trim_is_utf8 value is.chars) (read, trim, refl), tt)
-          (λ following forms more none. cc) is.passes;
+          (rw (trim_is_utf8 value is.chars) (read, trim, refl), tt) is.passes;
       written = λ parts. refl;
       unlisted = λ following. refl;
     }
 
 pub rule_line : (member : rfc.Member) (text : List ℕ) → rfc.IsRule member text ⊎ rfc.IsStarRule member text
-    → MemberRead Rule member text
+    → MemberRead member text
 rule_line (rfc.Allow pattern) text (inl is) = allow_line pattern text (plain_rule _ pattern text is)
 rule_line (rfc.Allow pattern) text (inr is) = allow_line pattern text (star_rule _ pattern text is)
 rule_line (rfc.Disallow pattern) text (inl is) = disallow_line pattern text (plain_rule _ pattern text is)
@@ -261,7 +263,7 @@ numbered : (number : List ℕ) → rfc.IsNumber number → Numbered number
 numbered number h = grind (arith, parts_numbered, whole_numbered)
 
 pub delay_line : (member : rfc.Member) (text : List ℕ) → rfc.IsDelayLine member text
-    → MemberRead Delay member text
+    → MemberRead member text
 delay_line (rfc.Allow pattern) text is = absurd is
 delay_line (rfc.Disallow pattern) text is = absurd is
 delay_line (rfc.Delay number) text (is, line) =
@@ -272,14 +274,13 @@ delay_line (rfc.Delay number) text (is, line) =
       is_line =
           keyed_line kind.CrawlDelay number number text line chars trim _
           (λ body. ap (λ delay. delay_or_raw delay body) n.is)
-          ((one_delay number (Some n.delay)).1 (sym n.is), tt)
-          (λ following forms more none. more none) n.passes;
+          ((one_delay number (Some n.delay)).1 (sym n.is), tt) n.passes;
       written = λ parts. refl;
       unlisted = λ following. refl;
     }
 
 pub member_line : (member : rfc.Member) (text : List ℕ) → rfc.IsMemberLine member text
-    → (form : Form) × MemberRead form member text
+    → MemberRead member text
 member_line member text h = grind (arith, delay_line, rule_line)
 
 pub sitemap_line : (address text : List ℕ) → rfc.IsSitemapLine address text
@@ -289,5 +290,4 @@ sitemap_line address text (is, line) =
     let value = trimmed address in
     let trim = trimmed_is_trim address in
     keyed_line kind.Sitemap address value text line chars trim _ (λ body. refl)
-    ((rw (trim_is_utf8 address chars), trim), tt)
-    (λ following forms more none. more none) (value_passes address chars)
+    ((rw (trim_is_utf8 address chars), trim), tt) (value_passes address chars)

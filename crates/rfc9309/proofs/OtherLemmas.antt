@@ -54,7 +54,6 @@ empty_line text eol =
       sourced =
           ap (λ line. filter is_not_raw ((line, written body) ∷ [])) (line_without_kind body _ refl none);
       read = tt;
-      counted = λ following forms more none. more none;
     }
 
 low_byte : (b : ℕ) → rfc.IsIdentifierByte b → rfc.IsIdentifierByte (to_ascii_lowercase b)
@@ -183,15 +182,18 @@ module _ (text : List ℕ) (o : rfc.IsOtherLine text) where
         low = line.low;
         sourced = ap (λ line. filter is_not_raw ((line, written body) ∷ [])) raw;
         read = tt;
-        counted = λ following forms more none. more none;
       }
 
 pub line_of : (form : Form) (text : List ℕ) → IsLine form text
     → (sources : List Source) × IsLineOf form sources text
 line_of Empty text is = ([], empty_line text is)
 line_of Agent text (token, is) = (_, token_line token text is)
-line_of Rule text (member, is) = (_, (rule_line member text is).is_line)
-line_of Delay text (member, is) = (_, (delay_line member text is).is_line)
+line_of Rule text (rfc.Allow pattern, is) = (_, (rule_line (rfc.Allow pattern) text is).is_line)
+line_of Rule text (rfc.Disallow pattern, is) = (_, (rule_line (rfc.Disallow pattern) text is).is_line)
+line_of Rule text (rfc.Delay number, is) = elim is [ inl none ↦ absurd none | inr none ↦ absurd none ]
+line_of Delay text (rfc.Delay number, is) = (_, (delay_line (rfc.Delay number) text is).is_line)
+line_of Delay text (rfc.Allow pattern, is) = absurd is
+line_of Delay text (rfc.Disallow pattern, is) = absurd is
 line_of Sitemap text (address, is) = (_, sitemap_line address text is)
 line_of Other text is = ([], other_line text is)
 

@@ -1,6 +1,6 @@
 -- The robot of a file in the standard's grammar has the rules, the delay and the sitemaps that the file
 -- states. A file in the standard's own grammar is also one in the extended grammar.
-use Rattle.std.proofs.Common.{arith}
+use Rattle.std.proofs.Common.{ap}
 use Rattle.std.specs.Prelude.{take}
 use Rattle.std.proofs.Common.{inl, ℕ, List, [], refl, sym, subst, append-nil, ◌≡◌, ◌∷◌, filter, map, ◌∙◌}
 use Rattle.texting_robots.specs.Executable.{delay_for, file_lines, placed_rules, rules_for}
@@ -12,40 +12,32 @@ use Rattle.rfc9309.proofs.GroupLemmas.{delay_written, rules_written}
 use Rattle.rfc9309.proofs.ReadLemmas.{file_same, file_sources, lines_in}
 use Rattle.rfc9309.proofs.FileLemmas.{FileRead, file_read, file_with, groups_written, has_delays}
 use Rattle.rfc9309.proofs.FileLemmas.{sitemaps_are_read}
-use Rattle.rfc9309.proofs.{SyntaxLemmas.each_weaker, LineFormLemmas.forms_make_file, Sources.Parts}
+use Rattle.rfc9309.proofs.ItemLemmas.{robotstxt_lines, wide_lines}
+use Rattle.rfc9309.proofs.{LineFormLemmas.forms_make_file, Sources.Parts}
 use Rattle.rfc9309.specs.StandardRobot.{IsDelayAs, IsFileWith, IsRejectedAs, IsRobotAs, delay_among}
 use Rattle.rfc9309.specs.StandardRobot.{is_delay, IsReadAs}
 use Rattle.rfc9309.specs.LineForms.{AreForms, Form}
 use Rattle.std.specs.{List.AllZip}
 use Rattle.rfc9309.specs.Rfc9309 as rfc
 
-abbrev pub IsWeaker : {X : Type 0} → (X → List ℕ → Type 0) → (X → List ℕ → Type 0) → Type 0
-IsWeaker {X} P Q = (x : X) (text : List ℕ) → P x text → Q x text
-
-pub repeats_weaker : {X : Type 0} (P Q : X → List ℕ → Type 0) → IsWeaker P Q
-    → IsWeaker (rfc.Repeats (rfc.IsOneOr P rfc.IsEmptyLine)) (rfc.Repeats (rfc.IsOneOr Q rfc.IsSkipped))
-repeats_weaker P Q weaker items text is = grind (arith, each_weaker)
-
-pub group_is_wide : IsWeaker rfc.IsGroup rfc.IsWideGroup
-group_is_wide group text is = grind (arith, repeats_weaker)
-
 pub robotstxt_is_file : (text : List ℕ) (groups : List rfc.Group) → rfc.IsRobotstxt groups text
     → rfc.IsFile groups text
-robotstxt_is_file text groups is = record {
-  bom = [];
-  rest = text;
-  nl = [];
-  whole = refl;
-  is_bom = inl refl;
-  is_nl = inl refl;
-  is_content = subst (rfc.IsWideFile _) (sym (append-nil _)) (record {
-    front = [];
-    rest = text;
-    whole = refl;
-    is_front = record { units = []; each = tt; whole = refl };
-    are_groups = repeats_weaker _ _ group_is_wide _ _ is;
-  });
-}
+robotstxt_is_file text groups is =
+    let by_lines = robotstxt_lines groups text is in
+    record {
+      bom = [];
+      rest = text;
+      nl = [];
+      whole = refl;
+      is_bom = inl refl;
+      is_nl = inl refl;
+      is_content = subst (rfc.IsWideFile groups) (sym (append-nil text)) (record {
+        items = by_lines.items;
+        are_lines = wide_lines by_lines.items text by_lines.are_lines;
+        none_above = ap (λ members. filter rfc.is_rule members) by_lines.none_above;
+        written = by_lines.written;
+      });
+    }
 
 pub rules_read : (text agent : List ℕ) (numbers : List (List ℕ)) (groups : List rfc.Group)
     → FileRead numbers groups text

@@ -1,7 +1,7 @@
 -- Source lines: the line as the library reads it, with its value as written. They give back the groups,
 -- merged.
 use Rattle.std.proofs.Common.{◌≡◌, ℕ, Bool, false, not, List, [], ◌∷◌, Option, Some, None, ◌++◌, refl, ap}
-use Rattle.std.proofs.Common.{append-nil, append_assoc, arith, if◌then◌else◌, map}
+use Rattle.std.proofs.Common.{append-nil, append_assoc, arith, if◌then◌else◌}
 use Rattle.texting_robots.specs.Line.{LineValue, UserAgent, Allow, CrawlDelay, Disallow, Sitemap, is_raw}
 use Rattle.texting_robots.specs.{Executable.rule_in, Executable.sitemap_in, Delay.IsDelay, Group.is_member}
 use Rattle.texting_robots.specs.{Trim.IsTrimOf, Rules.Rule, Internal.Line.line_of}
@@ -89,9 +89,6 @@ with_address source following = address_before source.0 source.1 following
 abbrev pub with_group : rfc.Group → Parts → Parts
 with_group group parts = with_tokens group.tokens (parts_of (group.members ++ parts.ungrouped) parts.groups)
 
-abbrev pub with_delay : List ℕ → Parts → Parts
-with_delay number parts = with_member (rfc.Delay number) parts
-
 members_put : (members : List rfc.Member) (parts : Parts)
     → onto with_member members parts ≡ parts_of (members ++ parts.ungrouped) parts.groups
 members_put [] parts = refl
@@ -118,8 +115,3 @@ pub groups_put : (groups : List rfc.Group)
     → onto with_group groups (parts_of [] []) ≡ parts_of [] (rfc.merged groups)
 groups_put [] = refl
 groups_put (group ∷ later) = grind (arith, append-nil, groups_put later)
-
-pub delays_put : (numbers : List (List ℕ)) (parts : Parts)
-    → onto with_delay numbers parts ≡ parts_of (map rfc.Delay numbers ++ parts.ungrouped) parts.groups
-delays_put [] parts = refl
-delays_put (number ∷ numbers) parts = ap (with_delay _) (delays_put numbers _)

@@ -1,6 +1,6 @@
 -- What the lines of a file that this library reads have to look like for the file to follow the grammar of
 -- RFC 9309 (`IsFile`). All conditions but the last are about single lines, and about the bytes between them.
-use Rattle.std.specs.Prelude.{◌≡◌, ◌≢◌, ◌⊎◌, ℕ, All, Contains, List, [], ◌∷◌, ◌++◌}
+use Rattle.std.specs.Prelude.{◌≡◌, ◌≢◌, ◌⊎◌, ℕ, All, List, [], ◌∷◌, ◌++◌}
 use Rattle.std.specs.List.{AllZip}
 use Rattle.texting_robots.specs.{Cut.lf, Executable.file_bodies, Line.without_bom}
 use Rattle.rfc9309.specs.Rfc9309 as rfc
@@ -26,7 +26,10 @@ HasForm form body = IsLine form (body ++ lf ∷ [])
 
 -- each rule is below a user-agent line
 abbrev pub AreRulesBelowAgents : List Form → Type 0
-AreRulesBelowAgents forms = (above below : List Form) → forms ≡ above ++ Rule ∷ below → Contains above Agent
+AreRulesBelowAgents [] = Unit {0}
+AreRulesBelowAgents (Agent ∷ forms) = Unit {0}
+AreRulesBelowAgents (Rule ∷ forms) = ⊥
+AreRulesBelowAgents (form ∷ forms) = AreRulesBelowAgents forms
 
 -- The lines of the text have these forms, one for each line.
 -- - `no_nul`: this library reads NUL as a line terminator, but the grammar doesn't have it;

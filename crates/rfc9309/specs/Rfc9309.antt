@@ -2,9 +2,9 @@
 -- and the items that they contain, such as groups. The names are those of the productions; the items come
 -- before the bytes. Nothing here but `names_read` refers to this library.
 --
--- `IsRobotstxt` is exactly the standard's grammar. `IsFile` extends it by a leading byte order mark, a last
--- line without a line end, a pattern that begins with a star, and the lines that the standard leaves to
--- implementers.
+-- `IsRobotstxt` is exactly the standard's grammar, as it is printed there, and `IsRobotstxtByLines` says the
+-- same by lines. `IsFile` extends the latter by a leading byte order mark, a last line without a line end, a
+-- pattern that begins with a star, and the lines that the standard leaves to implementers.
 use Rattle.std.specs.Prelude.{◌≡◌, ◌⊎◌, ℕ, ◌≤◌, Bool, true, false, List, [], ◌∷◌, ◌++◌, map, codes, bytes_eq}
 use Rattle.std.specs.Prelude.{filter, Contains, if◌then◌else◌}
 use Rattle.std.specs.{List.flat_map, List.list_any, List.AllByRecursion as Each, Char.to_ascii_lowercase}
@@ -190,9 +190,8 @@ IsRule (Delay number) text = ⊥
 
 -- ---- groups and files
 
--- startgroupline *( startgroupline / Gap ) *( Line / Gap ), where Line has one member and Gap none
-pub record IsGroupOf (Line : Member → List ℕ → Type 0) (Gap : List ℕ → Type 0)
-    (group : Group) (text : List ℕ) : Type 0 where
+-- group = startgroupline *( startgroupline / emptyline ) *( rule / emptyline )
+pub record IsGroup (group : Group) (text : List ℕ) : Type 0 where
   pub token : List ℕ
   pub tokens : List (List ℕ)
   pub start : List ℕ
@@ -200,13 +199,9 @@ pub record IsGroupOf (Line : Member → List ℕ → Type 0) (Gap : List ℕ →
   pub lines : List ℕ
   pub whole : text ≡ start ++ (agents ++ lines)
   pub is_start : IsStartGroupLine token start
-  pub are_agents : Repeats (IsOneOr IsStartGroupLine Gap) tokens agents
+  pub are_agents : Repeats (IsOneOr IsStartGroupLine IsEmptyLine) tokens agents
   pub written : group.tokens ≡ token ∷ tokens
-  pub are_members : Repeats (IsOneOr Line Gap) group.members lines
-
--- group = startgroupline *( startgroupline / emptyline ) *( rule / emptyline )
-abbrev pub IsGroup : Group → List ℕ → Type 0
-IsGroup group text = IsGroupOf IsRule IsEmptyLine group text
+  pub are_members : Repeats (IsOneOr IsRule IsEmptyLine) group.members lines
 
 -- robotstxt = *( group / emptyline )
 abbrev pub IsRobotstxt : List Group → List ℕ → Type 0
@@ -279,32 +274,87 @@ IsStarRule (Allow pattern) text = IsStarPattern pattern × IsKeyed (codes "allow
 IsStarRule (Disallow pattern) text = IsStarPattern pattern × IsKeyed (codes "disallow") pattern text
 IsStarRule (Delay number) text = ⊥
 
--- ---- groups and files with these
+-- ---- a file by its lines
 
--- skipped = emptyline / sitemapline / otherline; in the standard: emptyline
-abbrev pub IsSkipped : List ℕ → Type 0
-IsSkipped text =
-    IsEmptyLine text ⊎ (((address : List ℕ) × IsSitemapLine address text) ⊎ IsOtherLine text)
+-- what a line states: a product token, a member of a group, the address of a sitemap, or nothing
+pub data Item : Type 0 where
+  Agent : List ℕ → Item
+  InGroup : Member → Item
+  Sitemap : List ℕ → Item
+  Nothing : Item
+
+-- lines, each of which states one item: the text is these lines, one after the other
+abbrev pub AreLines : (Line : Item → List ℕ → Type 0) → List Item → List ℕ → Type 0
+AreLines Line [] text = text ≡ []
+AreLines Line (item ∷ items) text =
+    (line : List ℕ) × (rest : List ℕ) × (text ≡ line ++ rest) × Line item line × AreLines Line items rest
+
+-- A group without members is merged with the next one. Consecutive startgrouplines can be parsed in several
+-- ways: as one group, or as groups without members and a group. After merging, these are the same.
+abbrev pub put_before : List (List ℕ) → List Member → List Group → List Group
+put_before tokens [] (next ∷ later) =
+    record { tokens = tokens ++ next.tokens; members = next.members } ∷ later
+put_before tokens members later = record { tokens = tokens; members = members } ∷ later
+
+abbrev pub merged : List Group → List Group
+merged [] = []
+merged (group ∷ later) = put_before group.tokens group.members (merged later)
+
+-- the members above the first token
+abbrev pub above_groups : List Item → List Member
+above_groups [] = []
+above_groups (Agent token ∷ items) = []
+above_groups (InGroup member ∷ items) = member ∷ above_groups items
+above_groups (Sitemap address ∷ items) = above_groups items
+above_groups (Nothing ∷ items) = above_groups items
+
+-- Each token begins a group, with the members up to the next token. Tokens with no member between them are
+-- those of one group.
+abbrev pub groups_of : List Item → List Group
+groups_of [] = []
+groups_of (Agent token ∷ items) = put_before (token ∷ []) (above_groups items) (groups_of items)
+groups_of (InGroup member ∷ items) = groups_of items
+groups_of (Sitemap address ∷ items) = groups_of items
+groups_of (Nothing ∷ items) = groups_of items
+
+abbrev pub is_rule : Member → Bool
+is_rule (Allow pattern) = true
+is_rule (Disallow pattern) = true
+is_rule (Delay number) = false
+
+-- the standard's own lines: startgroupline / rule / emptyline
+abbrev pub IsStandardLine : Item → List ℕ → Type 0
+IsStandardLine (Agent token) text = IsStartGroupLine token text
+IsStandardLine (InGroup member) text = IsRule member text
+IsStandardLine (Sitemap address) text = ⊥
+IsStandardLine Nothing text = IsEmptyLine text
+
+-- robotstxt by its lines, where no rule is above the first group; merging the groups gives those of the lines
+pub record IsRobotstxtByLines (groups : List Group) (text : List ℕ) : Type 0 where
+  pub items : List Item
+  pub are_lines : AreLines IsStandardLine items text
+  pub none_above : above_groups items ≡ []
+  pub written : merged groups ≡ groups_of items
+
+-- ---- the same with further lines
 
 -- memberline = rule / starrule / delayline; in the standard: rule
 abbrev pub IsMemberLine : Member → List ℕ → Type 0
 IsMemberLine member text = IsRule member text ⊎ (IsStarRule member text ⊎ IsDelayLine member text)
 
--- widegroup = startgroupline *( startgroupline / skipped ) *( memberline / skipped )
-abbrev pub IsWideGroup : Group → List ℕ → Type 0
-IsWideGroup group text = IsGroupOf IsMemberLine IsSkipped group text
+-- line = startgroupline / memberline / sitemapline / emptyline / otherline
+abbrev pub IsLine : Item → List ℕ → Type 0
+IsLine (Agent token) text = IsStartGroupLine token text
+IsLine (InGroup member) text = IsMemberLine member text
+IsLine (Sitemap address) text = IsSitemapLine address text
+IsLine Nothing text = IsEmptyLine text ⊎ IsOtherLine text
 
--- delayline / skipped
-abbrev pub IsLeadUnit : List ℕ → Type 0
-IsLeadUnit text = ((member : Member) × IsDelayLine member text) ⊎ IsSkipped text
-
--- widefile = *( delayline / skipped ) *( widegroup / skipped )
+-- such lines, where no rule is above the first group; merging the groups gives those of the lines
 pub record IsWideFile (groups : List Group) (text : List ℕ) : Type 0 where
-  pub front : List ℕ
-  pub rest : List ℕ
-  pub whole : text ≡ front ++ rest
-  pub is_front : IsMany IsLeadUnit front
-  pub are_groups : Repeats (IsOneOr IsWideGroup IsSkipped) groups rest
+  pub items : List Item
+  pub are_lines : AreLines IsLine items text
+  pub none_above : filter is_rule (above_groups items) ≡ []
+  pub written : merged groups ≡ groups_of items
 
 -- a byte order mark in UTF-8, which the standard's grammar doesn't have, or nothing
 abbrev pub IsBom : List ℕ → Type 0
@@ -329,28 +379,24 @@ IsFile groups text = IsFileOf (IsWideFile groups) text
 
 -- ---- the sitemaps of a file
 
--- any line but a sitemapline: startgroupline / memberline / emptyline / otherline
-abbrev pub IsUnlisted : List ℕ → Type 0
-IsUnlisted text =
-    ((token : List ℕ) × IsStartGroupLine token text)
-    ⊎ (((member : Member) × IsMemberLine member text) ⊎ (IsEmptyLine text ⊎ IsOtherLine text))
+abbrev pub addresses_of : List Item → List (List ℕ)
+addresses_of [] = []
+addresses_of (Agent token ∷ items) = addresses_of items
+addresses_of (InGroup member ∷ items) = addresses_of items
+addresses_of (Sitemap address ∷ items) = address ∷ addresses_of items
+addresses_of (Nothing ∷ items) = addresses_of items
 
--- a file as a list of lines, regardless of groups: the addresses of its sitemaplines, in order
+-- such lines, regardless of groups, with these addresses
+pub record HasSitemaps (addresses : List (List ℕ)) (text : List ℕ) : Type 0 where
+  pub items : List Item
+  pub are_lines : AreLines IsLine items text
+  pub written : addresses ≡ addresses_of items
+
+-- the addresses of the file's sitemaplines, in order
 abbrev pub ListsSitemaps : List (List ℕ) → List ℕ → Type 0
-ListsSitemaps addresses text = IsFileOf (Repeats (IsOneOr IsSitemapLine IsUnlisted) addresses) text
+ListsSitemaps addresses text = IsFileOf (HasSitemaps addresses) text
 
 -- ---- the rules for a crawler
-
--- A group without members is merged with the next one. Consecutive startgrouplines can be parsed in several
--- ways: as one group, or as groups without members and a group. After merging, these are the same.
-abbrev pub put_before : List (List ℕ) → List Member → List Group → List Group
-put_before tokens [] (next ∷ later) =
-    record { tokens = tokens ++ next.tokens; members = next.members } ∷ later
-put_before tokens members later = record { tokens = tokens; members = members } ∷ later
-
-abbrev pub merged : List Group → List Group
-merged [] = []
-merged (group ∷ later) = put_before group.tokens group.members (merged later)
 
 -- compared without regard to the case of ASCII letters
 abbrev pub is_token : List ℕ → List ℕ → Bool
@@ -364,11 +410,6 @@ abbrev pub groups_for : List ℕ → List Group → List Group
 groups_for agent groups =
     if list_any (has_token agent) groups then filter (has_token agent) groups
     else filter (has_token (codes "*")) groups
-
-abbrev pub is_rule : Member → Bool
-is_rule (Allow pattern) = true
-is_rule (Disallow pattern) = true
-is_rule (Delay number) = false
 
 abbrev pub rules_for : List ℕ → List Group → List Member
 rules_for agent groups = filter is_rule (flat_map (λ group. group.members) (groups_for agent groups))
@@ -385,3 +426,11 @@ without_delays groups =
 
 abbrev pub standard_rules : List ℕ → List Group → List Member
 standard_rules agent groups = rules_for agent (merged (without_delays groups))
+
+abbrev pub is_no_delay : Item → Bool
+is_no_delay (InGroup (Delay number)) = false
+is_no_delay item = true
+
+-- the same groups, from the lines of the file
+abbrev pub standard_groups : List Item → List Group
+standard_groups items = groups_of (filter is_no_delay items)

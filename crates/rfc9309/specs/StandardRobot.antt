@@ -1,5 +1,5 @@
 -- What the library makes of a file in the grammar.
-use Rattle.std.specs.Prelude.{◌≡◌, ℕ, true, false, List, [], ◌∷◌, codes, Any, Bool, IsPermutation, ◌++◌, Some}
+use Rattle.std.specs.Prelude.{◌≡◌, ℕ, true, false, List, [], ◌∷◌, codes, Any, Bool, IsPermutation, Some}
 use Rattle.std.specs.Prelude.{Option, None, filter, flat_map, map, slice_get}
 use Rattle.texting_robots.specs.{Escape.escaped, Rules.Rule, Trim.IsTrimOf, Delay.IsDelay, Pattern.IsOverlong}
 use Rattle.texting_robots.specs.{Robot.RobotValue, Rules.PlacedRule, Rules.unplaced}
@@ -15,14 +15,12 @@ IsReadAs (rfc.Disallow (b ∷ pattern)) rule =
     (value : List ℕ) × IsTrimOf value (b ∷ pattern) × (rule ≡ (escaped value, false))
 IsReadAs (rfc.Delay number) rule = ⊥
 
--- *( delayline / skipped ) *( widegroup / skipped ), as `IsWideFile`, with the numbers of the first delays
+-- the lines of the extended grammar, as `IsWideFile`, where these delays are above the first group
 pub record IsFileBelow (numbers : List (List ℕ)) (groups : List rfc.Group) (text : List ℕ) : Type 0 where
-  pub front : List ℕ
-  pub rest : List ℕ
-  pub whole : text ≡ front ++ rest
-  pub is_front : rfc.Repeats
-      (rfc.IsOneOr (λ number. rfc.IsDelayLine (rfc.Delay number)) rfc.IsSkipped) numbers front
-  pub are_groups : rfc.Repeats (rfc.IsOneOr rfc.IsWideGroup rfc.IsSkipped) groups rest
+  pub items : List rfc.Item
+  pub are_lines : rfc.AreLines rfc.IsLine items text
+  pub above : rfc.above_groups items ≡ map rfc.Delay numbers
+  pub written : rfc.merged groups ≡ rfc.groups_of items
 
 -- the extended grammar, with these delays above the groups
 abbrev pub IsFileWith : List (List ℕ) → List rfc.Group → List ℕ → Type 0

@@ -92,3 +92,18 @@ pub fn line_forms_make_files()
     ensures exact { (form : Form) (body : List ℕ) → All IsBodyByte body → HasForm form body
         → has_form form body ≡ true }
 {}
+
+/// The standard's own grammar as it is printed, and by lines:
+///
+/// - `lines`: each file of the grammar is one by lines, with the same groups.
+/// - `printed`: each file by lines is one of the grammar, with its merged groups.
+/// - `delays`: the standard's rules for a crawler are those of the groups of the lines without delays.
+pub fn grammar_is_by_lines()
+    ensures lines { (groups : List rfc.Group) (text : List ℕ) → rfc.IsRobotstxt groups text
+        → rfc.IsRobotstxtByLines groups text }
+    ensures printed { (groups : List rfc.Group) (text : List ℕ) → rfc.IsRobotstxtByLines groups text
+        → rfc.IsRobotstxt (rfc.merged groups) text }
+    ensures delays { (agent : List ℕ) (groups : List rfc.Group) (items : List rfc.Item)
+        → rfc.merged groups ≡ rfc.groups_of items
+        → rfc.standard_rules agent groups ≡ rfc.rules_for agent (rfc.standard_groups items) }
+{}
