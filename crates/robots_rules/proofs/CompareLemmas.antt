@@ -15,7 +15,7 @@ use Rattle.texting_robots.proofs.Shared.{matches, matches_decides, placed_of}
 use Rattle.robots_rules.specs.Same.{HaveSameVerdicts}
 use Rattle.robots_rules.specs.declared.needless.Outcome.{Outcome}
 use Rattle.robots_rules.specs.declared.needless.Outcome.TheVariants as outcomes
-use Rattle.robots_rules.specs.{Internal.AddsNear, Internal.AreApart, Search.IsOutcome}
+use Rattle.robots_rules.specs.Search.{AddsNear, AreApart, IsOutcome}
 use Rattle.robots_rules.specs.Needless.{Covers, MatchesNothing, TakesPrecedence}
 use Rattle.robots_rules.proofs.TogetherLemmas.{cons_cases, reason_among, unplaced_of, verdicts}
 
