@@ -43,17 +43,17 @@ def test_mutants_can_be_applied(path):
 
 
 @pytest.mark.parametrize("said, last, status", [
-    ("must-fail safe_output/{}.edit: refused, as it must be", "4 refused, 0 not refused", 0),
-    ("must-fail safe_output/{}.edit: NOT REFUSED: the crate is still proved with this edit", "0 refused, 4 not refused", 1),
-    ("must-fail safe_output/{}.edit: BAD EDIT: it did not reach the prover", "0 refused, 4 not refused", 1),
-    ("out of memory", "0 refused, 4 not refused", 1),
+    ("must-fail robots_responses/{}.edit: refused, as it must be", "3 refused, 0 not refused", 0),
+    ("must-fail robots_responses/{}.edit: NOT REFUSED: the crate is still proved with this edit", "0 refused, 3 not refused", 1),
+    ("must-fail robots_responses/{}.edit: BAD EDIT: it did not reach the prover", "0 refused, 3 not refused", 1),
+    ("out of memory", "0 refused, 3 not refused", 1),
 ])  # fmt: skip
 def test_check_counts_mutants(tmp_path, said, last, status):
     """The stand-in for `rt` writes a line for each mutant that it finds in its place."""
-    (tmp_path / "rt").write_text(f"#!/bin/sh\nfor it in crates/safe_output/must-fail/*.edit; do echo \"{said.format('$(basename $it .edit)')}\"; done\n")
+    (tmp_path / "rt").write_text(f"#!/bin/sh\nfor it in crates/robots_responses/must-fail/*.edit; do echo \"{said.format('$(basename $it .edit)')}\"; done\n")
     (tmp_path / "rt").chmod(0o755)
     path = f"{tmp_path}:{os.environ['PATH']}"
-    ended = subprocess.run([ROOT / "check", "--mutants", "safe_output"], env=os.environ | {"PATH": path}, capture_output=True, text=True)
+    ended = subprocess.run([ROOT / "check", "--mutants", "robots_responses"], env=os.environ | {"PATH": path}, capture_output=True, text=True)
     assert (ended.stdout.splitlines()[-1], ended.returncode) == (last, status)
 
 
