@@ -1,20 +1,14 @@
 -- A page that is written piece by piece: each piece keeps it safe, and is read as the tags that were written.
 use Rattle.std.specs.Prelude.{◌&&◌, ◌||◌, not, if◌then◌else◌}
-use Rattle.std.proofs.Common.{[], ◌++◌, ◌==◌, ◌∙◌, ◌∷◌, ◌≡◌, ap, append-nil, append_assoc, arith}
-use Rattle.std.proofs.Common.{Bool, codes, false, flat_map, List, refl, reverse}
-use Rattle.std.proofs.Common.{subst, sym, true, ℕ}
-use Rattle.std.specs.Borrow.{Bor}
-use Rattle.std.specs.List.{list_all}
-use Rattle.std.proofs.lemmas.Bool.{and_parts, not-true}
+use Rattle.std.specs.{Borrow.Bor, List.list_all}
+use Rattle.std.proofs.Common.{[], ◌++◌, ◌==◌, ◌∙◌, ◌∷◌, ◌≡◌, ap, append-nil, append_assoc, arith, Bool, codes}
+use Rattle.std.proofs.Common.{false, flat_map, List, refl, reverse, subst, sym, true, ℕ}
+use Rattle.std.proofs.lemmas.{Bool.and_parts, Bool.not-true, List.map-append, List.reverse-append}
 use Rattle.std.proofs.lemmas.Bool.Decides.{nat_tests}
-use Rattle.std.proofs.lemmas.List.{map-append, reverse-append}
 use Rattle.std.proofs.lemmas.List.Folds.{list_all-append}
 use Rattle.std.proofs.lemmas.Slice.Eq.{bytes_eq-Decides}
-use Rattle.safe_output.specs.Sanitize.{has_command, is_printable_byte, IsPrintable, IsPrintableIn}
-use Rattle.safe_output.specs.Sanitize.{sanitized, without_commands}
-use Rattle.safe_output.proofs.EscapeLemmas.{escaped_printable}
-use Rattle.safe_output.proofs.SanitizeLemmas.{append_printable, ascii_printable, line_printable}
-use Rattle.safe_output.proofs.SanitizeLemmas.{printable_kept, sanitized_printable}
+use Rattle.safe_output.specs.Sanitize.{has_command, is_printable_byte, IsPrintable, IsPrintableIn, sanitized}
+use Rattle.safe_output.specs.Sanitize.{without_commands}
 use Rattle.safe_output.specs.Html.{attribute_bytes, end_bytes, escaped, escaped_byte, is_among, is_letter}
 use Rattle.safe_output.specs.Html.{is_name, is_name_byte, is_plain, is_style, is_title, is_unchanged}
 use Rattle.safe_output.specs.Html.{other_names, shown_attribute, style_bytes, tag_bytes, title_bytes}
@@ -26,6 +20,9 @@ use Rattle.safe_output.specs.Reader.{after, after_attribute_value, attribute_nam
 use Rattle.safe_output.specs.Reader.{before_attribute_name, character_reference, data_state, end_tag}
 use Rattle.safe_output.specs.Reader.{end_tag_name, end_tag_open, new_tag, rawtext_state, rcdata_state, reader}
 use Rattle.safe_output.specs.Reader.{Reader, run, start_tag, State, step, Tag, tag_name, tag_open, to, Token}
+use Rattle.safe_output.proofs.EscapeLemmas.{escaped_printable}
+use Rattle.safe_output.proofs.SanitizeLemmas.{append_printable, ascii_printable, line_printable}
+use Rattle.safe_output.proofs.SanitizeLemmas.{printable_kept, sanitized_printable}
 
 -- ---- Safe bytes.
 

@@ -1,4 +1,4 @@
--- Names of HTML, and what is written of a page.
+-- Names of HTML, how texts are escaped, and the bytes of each piece of a page.
 use Rattle.std.specs.Prelude.{ℕ, ◌==◌, Bool, false, not, ◌&&◌, ◌||◌, List, [], ◌∷◌, ◌++◌, codes}
 use Rattle.std.specs.Prelude.{flat_map, if◌then◌else◌}
 use Rattle.std.specs.{Borrow.Bor, Int.is_in_range, List.list_all, List.list_any, Str.bytes_eq}
@@ -57,8 +57,7 @@ is_unchanged byte = not (byte == 38 || byte == 60 || byte == 62 || byte == 34 ||
 abbrev pub is_plain : ℕ → Bool
 is_plain byte = is_printable_byte false byte && is_unchanged byte
 
--- The pieces of a page are `unfoldable`: a proof about a function that writes them doesn't compute their
--- bytes unless it asks for them.
+-- ---- Pieces of a page: `unfoldable`, as proofs compute their bytes only if they ask for them.
 unfoldable pub attribute_bytes : List ℕ → List ℕ → List ℕ
 attribute_bytes name value = codes " " ++ (name ++ (codes "=\"" ++ (escaped value ++ codes "\"")))
 

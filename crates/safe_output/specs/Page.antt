@@ -1,4 +1,4 @@
--- A page that is written piece by piece.
+-- A page that is written piece by piece: what may be written, its open elements, tags and end.
 use Rattle.std.specs.Prelude.{◌≡◌, ℕ, ◌==◌, Bool, true, false, not, ◌&&◌, ◌||◌, IsTrue, List, [], ◌∷◌, ◌++◌}
 use Rattle.std.specs.Prelude.{codes, map, reverse}
 use Rattle.std.specs.{Borrow.Bor, List.list_all}

@@ -17,7 +17,6 @@ turns_text char =
 abbrev pub parts_text : ℕ → Bool
 parts_text char = is_in_range 0x2028 0x2029 char
 
--- one of these, or a control character, such as LF
 abbrev pub is_unsafe : ℕ → Bool
 is_unsafe char = is_control char || turns_text char || parts_text char
 
@@ -39,7 +38,6 @@ has_command (b ∷ text) = starts_with nat_eq (b ∷ text) command_start || has_
 abbrev pub is_other : ℕ → Bool
 is_other b = not (nat_eq 35 b)
 
--- in a text that contains the start of a command, `#` is escaped
 abbrev pub without_hash : ℕ → List ℕ
 without_hash char = if char == byte "#" then codes "%23" else char ∷ []
 

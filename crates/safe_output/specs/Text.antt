@@ -36,13 +36,12 @@ abbrev pub begins_plainly : List ℕ → Bool
 begins_plainly text =
     not (starts_with nat_eq (trim_start_by is_whitespace (without_utf8_bom text)) (codes ":"))
 
--- a single line without control or bidirectional-formatting characters, which isn't a command
+-- a single line, safe to display, that isn't a command
 pub record IsPlainLine (line : List ℕ) : Type 0 where
   pub printable : IsPrintableIn false line
   pub begins : IsTrue (begins_plainly line)
   pub inside : has_command line ≡ false
 
--- lines, each of which is plain
 pub record IsReport (text : List ℕ) : Type 0 where
   pub lines : List (List ℕ)
   pub each : Each IsPlainLine lines
@@ -57,13 +56,12 @@ color_of Note = 27 ∷ codes "[1;36m"
 abbrev pub color_end : List ℕ
 color_end = 27 ∷ codes "[0m"
 
--- in its color if there are colors
 abbrev pub shown_word : (has_colors : Bool) → Level → List ℕ
 shown_word false level = level_word level
 shown_word true level = color_of level ++ (level_word level ++ color_end)
 
--- the part is printable and shown as it is, or it is the word for a level between the code that begins its
--- color and the one that ends it; so no color goes on after its word
+-- the part is printable and shown as it is, or a word for a level between the codes of its color,
+-- which so ends with it
 abbrev pub IsShownAs : (part shown : List ℕ) → Type 0
 IsShownAs part shown =
     (IsPrintable part × (shown ≡ part))

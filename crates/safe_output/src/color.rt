@@ -1,12 +1,12 @@
 //! Colors for words of levels, which are inserted into a text.
 ghost use Rattle.std.specs.Prelude.{IfOk, List, ℕ, string_bytes};
-ghost use Rattle.safe_output.specs.Sanitize.{IsPrintable};
-ghost use Rattle.safe_output.specs.Text.{IsColored, IsColoredTo};
+ghost use Rattle.safe_output.specs.{Sanitize.IsPrintable, Text.IsColored, Text.IsColoredTo};
 
 use crate::level::{Level, shown_word};
 use std::alloc::{AllocError, Global};
 
-/// The result follows the word, or is all of the text if the word doesn't begin at this place.
+/// Appends all up to the end of the word at `at`, that in color, and returns the rest.
+/// If the word isn't there, appends nothing and returns all.
 #[tactic(auto, using(crate::proofs::ReportLemmas::word_colored))]
 fn push_colored<'a>(
     shown: &mut String,
@@ -29,7 +29,7 @@ fn push_colored<'a>(
     Ok(text)
 }
 
-/// The text, with those of these words in color that begin at their places.
+/// The text with these words in color. A word that isn't at its place is passed over.
 #[tactic(auto, using(crate::proofs::ReportLemmas::colored_start, crate::proofs::ReportLemmas::colored_end))]
 pub(crate) fn colored(
     alloc: Global,

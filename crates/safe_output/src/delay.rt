@@ -5,7 +5,7 @@ const MILLION: u64 = 1_000_000;
 
 const DIGITS: u32 = 6;
 
-/// Microseconds, written as seconds.
+/// Microseconds, written as seconds, such as `1.5 s`.
 #[derive(Clone, Copy)]
 pub struct Delay(pub u64);
 

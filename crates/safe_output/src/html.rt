@@ -1,6 +1,5 @@
-//! A page that is written piece by piece, with a stack of its open elements. The tokenizer of the HTML
-//! standard finds just the tags in it that were asked for; so no text and no value of an attribute becomes
-//! markup.
+//! A page that is written piece by piece. The tokenizer of the HTML standard finds just the tags
+//! in it that were asked for, so no text and no attribute's value becomes markup.
 ghost use Rattle.std.specs.Prelude.{◌≡◌, ◌++◌, [], IfOk, OnOk, codes, flat_map, true};
 ghost use Rattle.std.specs.{List.list_all};
 ghost use Rattle.safe_output.specs.Sanitize.{sanitized};
@@ -17,13 +16,13 @@ use std::alloc::Global;
 use std::fmt;
 use std::marker::Model;
 
-/// If an allocation fails, all that was written is lost.
+/// A page without its doctype. If an allocation fails, all that was written is lost.
 #[derive(Drop)]
 pub struct Html {
     bytes: Vec<u8>,
     /// The names of the open elements.
     opened: Vec<&'static str>,
-    /// Only there to be used again.
+    /// A buffer, kept for its capacity.
     line: String,
 }
 
@@ -51,7 +50,7 @@ fn are_plain(text: &[u8]) -> bool
     text.iter().all(|byte| is_plain(*byte))
 }
 
-/// What is unsafe to display is escaped, and then what a text of a page must not have.
+/// Escapes what is unsafe to display, and then what would be markup.
 #[tactic(auto, using(crate::proofs::PageLemmas::plain_shown))]
 fn push_shown(bytes: &mut Vec<u8>, line: &mut String, text: &str) -> fmt::Result
     ensures { OnOk result (bytes.new.items ≡ bytes.old.items ++ escaped (sanitized text.now)) }
@@ -64,7 +63,7 @@ fn push_shown(bytes: &mut Vec<u8>, line: &mut String, text: &str) -> fmt::Result
     Ok(push_text(bytes, line.as_bytes())?)
 }
 
-/// In the values, what is unsafe to display is escaped.
+/// Escapes in the values what is unsafe to display or would end them.
 fn push_attributes(
     bytes: &mut Vec<u8>,
     line: &mut String,
@@ -80,6 +79,7 @@ fn push_attributes(
     Ok(())
 }
 
+/// A start tag; `end` is `>`, or `/>` for an element without content.
 #[tactic(auto, unfolding(crate::specs::Html::tag_bytes))]
 fn push_tag(
     bytes: &mut Vec<u8>,
@@ -95,7 +95,7 @@ fn push_tag(
     Ok(bytes.extend_from_slice(end.as_bytes())?)
 }
 
-/// For the error after a failed allocation.
+/// Empties the page after a failed allocation, and returns the error.
 fn lost(bytes: &mut Vec<u8>, opened: &mut Vec<&'static str>) -> fmt::Error
     ensures bytes { bytes.new.items ≡ [] }
     ensures opened { opened.new.items ≡ [] }
@@ -105,6 +105,7 @@ fn lost(bytes: &mut Vec<u8>, opened: &mut Vec<&'static str>) -> fmt::Error
     fmt::Error
 }
 
+/// The doctype and the page, in which all open elements are ended.
 fn finished(bytes: Vec<u8>, opened: Vec<&'static str>) -> Result<Vec<u8>, fmt::Error>
     requires { IsOpen opened.items bytes.items }
     ensures { IfOk result (λ page. IsPage (all_closed (so_far bytes.items)) page.items) }

@@ -23,6 +23,7 @@ impl Level {
         }
     }
 
+    /// Whether it is `least` or more serious.
     pub fn reaches(self, least: Level) -> bool
         ensures { result ≡ reaches self least }
     {

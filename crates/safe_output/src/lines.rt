@@ -6,7 +6,7 @@ ghost use Rattle.safe_output.specs.Lines.{ended};
 use itoa::{Buffer, Integer};
 use std::alloc::AllocError;
 
-/// If an allocation fails, the text may end with the start of the line.
+/// Appends a line of two parts. After an error the text may end with its start.
 pub fn push_line(text: &mut String, front: &str, back: &str) -> Result<(), AllocError>
     ensures added { OnOk result (string_bytes text.new ≡ string_bytes text.old
         ++ ended ((front.now ++ back.now) ∷ [])) }

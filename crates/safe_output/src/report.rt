@@ -31,6 +31,7 @@ impl Model for Line {
     ghost invariant = { λ line. IsPrintableIn false (string_bytes line.text) };
 }
 
+/// What is unsafe to display is escaped.
 #[tactic(auto, using(crate::proofs::ReportLemmas::ascii_added, crate::proofs::ReportLemmas::safe_added))]
 fn push_text(line: &mut String, text: &str) -> fmt::Result
     requires { IsPrintableIn false (string_bytes line.old) }
@@ -42,7 +43,7 @@ fn push_text(line: &mut String, text: &str) -> fmt::Result
     Ok(push_chunks(line, text.as_bytes(), false)?)
 }
 
-/// After an error the line is cleared.
+/// Returns `written`, and clears the line if that is an error.
 #[tactic(auto, using(crate::proofs::ReportLemmas::cleared_line))]
 fn kept(line: &mut String, written: fmt::Result) -> fmt::Result
     requires { OnOk written (IsPrintableIn false (string_bytes line.old)) }
@@ -91,13 +92,14 @@ fn without_utf8_bom<'a>(line: &'a [u8]) -> &'a [u8]
     line.strip_prefix(b"\xEF\xBB\xBF").unwrap_or(line)
 }
 
+/// Whether it isn't a command that begins with `::`, after white space or a byte order mark.
 fn begins_plainly(line: &[u8]) -> bool
     ensures { result ≡ begins_plainly line.now }
 {
     !without_utf8_bom(line).trim_start().starts_with(b":")
 }
 
-/// A line that would begin a command begins with a backslash instead.
+/// Appends the line, after a backslash if it would else begin a command (`::`).
 #[tactic(auto, using(crate::proofs::ReportLemmas::plain_added, crate::proofs::ReportLemmas::escaped_added))]
 fn push_line(text: &mut String, line: &str) -> fmt::Result
     requires report { IsReport (string_bytes text.old) }
@@ -112,7 +114,7 @@ fn push_line(text: &mut String, line: &str) -> fmt::Result
     Ok(text.push('\n')?)
 }
 
-/// In a line that contains the start of a command, `#` is escaped.
+/// Appends the line. If it contains the start of a command (`##[`), each `#` is escaped.
 #[tactic(auto, using(crate::proofs::ReportLemmas::escaped_line, crate::proofs::ReportLemmas::escaped_quiet))]
 fn push_ended(text: &mut String, line: &str) -> fmt::Result
     requires report { IsReport (string_bytes text.old) }
@@ -149,7 +151,7 @@ impl Model for Report {
     ghost invariant = { λ report. IsReport (string_bytes report.text) };
 }
 
-/// Bytes that may not be UTF-8. Those that aren't are written as `%` and two digits.
+/// Bytes that may not be UTF-8. Those that aren't become `%` and two hexadecimal digits.
 #[derive(Clone, Copy)]
 pub struct Untrusted<'a>(pub &'a [u8]);
 
@@ -165,7 +167,7 @@ impl<'a> fmt::Display for Untrusted<'a> {
     }
 }
 
-/// `""` if there is nothing, as for an unset variable in arguments.
+/// A name, or `""` if it is empty, as for an unset variable in arguments.
 #[derive(Clone, Copy)]
 pub struct Named<'a>(pub &'a str);
 
@@ -185,6 +187,7 @@ impl Report {
         }
     }
 
+    /// After an error the report is empty.
     #[tactic(auto, using(crate::proofs::ReportLemmas::cleared_report))]
     pub fn end_line(&mut self) -> fmt::Result {
         let ended = push_ended(&mut self.text, self.line.as_str());
@@ -198,7 +201,7 @@ impl Report {
         }
     }
 
-    /// The word for a level.
+    /// Writes the word for a level, which [`Report::shown`] may color.
     pub fn level(&mut self, level: Level) -> fmt::Result {
         let place = self.text.len().saturating_add(self.line.as_str().len());
         if self.levels.push((place, level)).is_err() {
@@ -207,7 +210,7 @@ impl Report {
         self.line.write_str(level.word())
     }
 
-    /// The lines of a text that may have several.
+    /// Writes each line of the text, and ends it.
     pub fn lines(&mut self, text: &str) -> fmt::Result {
         for line in text.lines() {
             self.write_str(line)?;
@@ -223,7 +226,7 @@ impl Report {
         self.text
     }
 
-    /// The same, with words for levels in color if there are colors.
+    /// The lines that have ended, with the words for levels in color if there are colors.
     #[tactic(auto, using(crate::proofs::ReportLemmas::report_printable))]
     pub fn shown(self, has_colors: bool) -> Result<String, fmt::Error>
         ensures { IfOk result (λ text. IsShownReport has_colors (string_bytes text)) }

@@ -1,4 +1,4 @@
-//! Sanitizes untrusted text: escapes invalid UTF-8, characters that are unsafe to display, and the start of commands.
+//! Sanitizes text: escapes invalid UTF-8, what is unsafe to display, and starts of commands.
 ghost use Rattle.std.specs.Prelude.{◌≡◌, ◌++◌, OnOk, encode_utf8_all, flat_map, string_bytes};
 ghost use Rattle.std.specs.{List.list_all, Str.chars, Io.StartsWith};
 ghost use Rattle.safe_output.specs.Sanitize.{has_command, is_printable, is_printable_byte, safe_chunk};
@@ -10,12 +10,14 @@ use std::alloc::AllocError;
 use std::str::from_utf8;
 use texting_robots::push_escaped_bytes;
 
+/// Whether it may change the direction of a text.
 fn turns_text(char: char) -> bool
     ensures { result ≡ turns_text char }
 {
     matches!(char, '\u{61C}' | '\u{200E}'..='\u{200F}' | '\u{202A}'..='\u{202E}' | '\u{2066}'..='\u{2069}')
 }
 
+/// Whether it is safe to display. With `has_lines` the text may have several lines, so LF is.
 fn is_printable(char: char, has_lines: bool) -> bool
     ensures { result ≡ is_printable has_lines char }
 {
@@ -59,7 +61,7 @@ fn push_chunk(
     }
 }
 
-/// One UTF-8 unit after another.
+/// Appends the bytes, one UTF-8 unit after another, and escapes what isn't printable.
 pub(crate) fn push_chunks(
     text: &mut String,
     bytes: &[u8],
@@ -78,6 +80,7 @@ pub(crate) fn push_chunks(
     Ok(())
 }
 
+/// Whether `##[` occurs, with which a command of a workflow on GitHub begins.
 pub(crate) fn has_command(text: &[u8]) -> bool
     ensures { result ≡ has_command text.now }
 {
@@ -114,6 +117,7 @@ fn push_without_hashes(text: &mut String, plain: &str) -> Result<(), AllocError>
     Ok(())
 }
 
+/// Appends the text, with each `#` escaped if it contains the start of a command.
 #[tactic(auto, unfolding(crate::specs::Sanitize::without_commands))]
 pub(crate) fn push_without_commands(text: &mut String, plain: &str) -> Result<(), AllocError>
     ensures added { OnOk result (string_bytes text.new ≡ string_bytes text.old ++ without_commands plain.now) }
@@ -126,7 +130,7 @@ pub(crate) fn push_without_commands(text: &mut String, plain: &str) -> Result<()
     }
 }
 
-/// Bytes that are all printable ASCII are copied at once.
+/// Appends the sanitized bytes. If all are printable ASCII, they are copied at once.
 fn push_sanitized_in(text: &mut String, bytes: &[u8], has_lines: bool) -> Result<(), AllocError>
     ensures added { OnOk result (string_bytes text.new ≡ string_bytes text.old ++ sanitized_in has_lines bytes.now) }
     ensures kept { StartsWith (string_bytes text.new) (string_bytes text.old) }
@@ -141,7 +145,7 @@ fn push_sanitized_in(text: &mut String, bytes: &[u8], has_lines: bool) -> Result
     push_without_commands(text, &safe)
 }
 
-/// The result contains no line end.
+/// Appends the sanitized bytes, without any line end.
 pub fn push_sanitized(text: &mut String, bytes: &[u8]) -> Result<(), AllocError>
     ensures added { OnOk result (string_bytes text.new ≡ string_bytes text.old ++ sanitized bytes.now) }
     ensures kept { StartsWith (string_bytes text.new) (string_bytes text.old) }

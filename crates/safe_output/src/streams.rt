@@ -1,7 +1,7 @@
 //! Input and output: reading a complete input, and writing a complete report.
 ghost use Rattle.std.specs.Prelude.{◌≡◌, ◌≢◌, ◌↔◌, ◌+◌, [], IfErr, IfOk, IfSome, IsErrOf, OnOk};
-ghost use Rattle.std.specs.IoError.{error_kind};
-ghost use Rattle.std.specs.Io.{ReadsAtMost, KnownBytes.Appends, KnownBytes.ReadConsumes};
+ghost use Rattle.std.specs.{IoError.error_kind, Io.ReadsAtMost};
+ghost use Rattle.std.specs.Io.KnownBytes.{Appends, ReadConsumes};
 ghost use Rattle.safe_output.specs.Streams.{AppendsBeginning};
 
 use std::alloc::{AllocError, Global};
@@ -16,8 +16,9 @@ const MOST_READS: u32 = 1_048_576;
 pub enum ReadError {
     /// The input is a folder.
     Folder,
-    /// A read failed, or the input didn't end within the maximum number of reads.
+    /// A read failed, or the input didn't end within 1,048,576 reads.
     Read,
+    /// An allocation failed.
     Memory,
 }
 
@@ -60,7 +61,7 @@ impl From<AllocError> for ReadError {
     }
 }
 
-/// `ReadError::Read` if the read fails, or if none is left; `ReadError::Folder` if it is of a folder.
+/// How many bytes were read: 0 at the end. An error if that fails, or if no read is `left`.
 fn read_chunk<R: Read>(reader: &mut R, left: &mut u32, chunk: &mut [u8]) -> Result<usize, ReadError>
     ensures counted { OnOk result (left.new + 1 ≡ left.old) }
     ensures bound { ReadsAtMost result chunk.new }
@@ -78,11 +79,6 @@ fn read_chunk<R: Read>(reader: &mut R, left: &mut u32, chunk: &mut [u8]) -> Resu
 }
 
 /// Reads to the end of the input. An empty input needs no allocation.
-///
-/// # Errors
-///
-/// `ReadError::Folder` if the input is a folder, `ReadError::Read` if a read fails otherwise or more than
-/// 1,048,576 are needed, and `ReadError::Memory` if an allocation fails.
 pub fn read_all<R: Read>(alloc: Global, reader: &mut R) -> Result<Vec<u8>, ReadError>
     ensures all { IfOk result (λ all. IfSome (R.remaining reader.old) (λ input. all.items ≡ input)) }
     ensures memory { IsErrOf result ReadError.Memory → IfSome (R.remaining reader.old) (λ input. input ≢ []) }

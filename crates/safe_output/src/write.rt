@@ -31,7 +31,7 @@ fn are_unchanged(text: &[u8]) -> bool
     text.iter().all(|byte| is_unchanged(*byte))
 }
 
-/// The text is escaped.
+/// Appends the escaped text.
 #[tactic(auto, using(crate::proofs::PageLemmas::unchanged_same))]
 pub fn push_text(out: &mut Vec<u8>, text: &[u8]) -> Result<(), AllocError>
     ensures { OnOk result (out.new.items ≡ out.old.items ++ escaped text.now) }
@@ -45,6 +45,7 @@ pub fn push_text(out: &mut Vec<u8>, text: &[u8]) -> Result<(), AllocError>
     Ok(())
 }
 
+/// The start of a tag, without the `>` that `push_close` appends.
 pub fn push_open(out: &mut Vec<u8>, name: &str) -> Result<(), AllocError>
     ensures { OnOk result (out.new.items ≡ out.old.items ++ (codes "<" ++ name.now)) }
 {
@@ -52,7 +53,7 @@ pub fn push_open(out: &mut Vec<u8>, name: &str) -> Result<(), AllocError>
     out.extend_from_slice(name.as_bytes())
 }
 
-/// With a space before it.
+/// A space and the attribute, whose value is escaped.
 #[tactic(auto, unfolding(crate::specs::Html::attribute_bytes))]
 pub fn push_attribute(out: &mut Vec<u8>, name: &str, value: &str) -> Result<(), AllocError>
     ensures { OnOk result (out.new.items ≡ out.old.items ++ attribute_bytes name.now value.now) }
@@ -82,7 +83,7 @@ pub fn push_end(out: &mut Vec<u8>, name: &str) -> Result<(), AllocError>
     push_close(out)
 }
 
-/// The text is escaped.
+/// A `title` element. The text is escaped.
 #[tactic(auto, unfolding(crate::specs::Html::title_bytes))]
 pub fn push_title(out: &mut Vec<u8>, text: &str) -> Result<(), AllocError>
     ensures { OnOk result (out.new.items ≡ out.old.items ++ title_bytes text.now) }
@@ -92,7 +93,7 @@ pub fn push_title(out: &mut Vec<u8>, text: &str) -> Result<(), AllocError>
     out.extend_from_slice(b"</title>")
 }
 
-/// The CSS is copied unchanged.
+/// A `style` element. The CSS is copied unchanged.
 #[tactic(auto, unfolding(crate::specs::Html::style_bytes))]
 pub fn push_style(out: &mut Vec<u8>, css: &str) -> Result<(), AllocError>
     ensures { OnOk result (out.new.items ≡ out.old.items ++ style_bytes css.now) }
