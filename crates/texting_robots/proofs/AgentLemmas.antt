@@ -1,14 +1,12 @@
 -- Pairs of adjacent bytes show where no user-agent line can begin, so that the code may skip those bytes.
 use Rattle.std.proofs.Common.{◌≡◌, ◌⊎◌, ℕ, zero, suc, ◌+◌, ◌<◌, ◌≤◌, Bool, true, false, List, [], ◌∷◌, length}
-use Rattle.std.proofs.Common.{map}
-use Rattle.std.proofs.Common.{slice_index, take, drop, sym, refl, ◌∙◌, arith, Some, ◌==◌, ◌||◌, inl, inr}
+use Rattle.std.proofs.Common.{map, slice_index, take, drop, sym, refl, ◌∙◌, arith, Some, ◌==◌, ◌||◌, inl, inr}
 use Rattle.std.specs.{List.list_any, Char.to_ascii_lowercase}
 use Rattle.std.proofs.lemmas.{Grind.common_steps, Bool.eqb-true, Bool.ne_eqb}
-use Rattle.texting_robots.specs.Cut.{Pair, cr, lf}
+use Rattle.texting_robots.specs.{Cut.Pair, Cut.cr, Cut.lf, Internal.Line.line_of, Internal.Line.lines_of}
 use Rattle.texting_robots.specs.{Group.is_agent, Group.is_agent_named, Line.LineValue, Line.UserAgent}
 use Rattle.texting_robots.specs.Internal.Agents.{NoneBegins, is_named_later, may_begin, may_end}
 use Rattle.texting_robots.specs.Internal.Cut.{before_byte, body_len, end_len, read_as, read_byte}
-use Rattle.texting_robots.specs.Internal.Line.{line_of, lines_of}
 use Rattle.texting_robots.specs.Internal.Statement.{kind_by, kind_with, skip_blanks, space, tab}
 use Rattle.texting_robots.proofs.CutLemmas.{byte_cases, cut_cons, pair_of}
 use Rattle.texting_robots.proofs.CutFromFront.{bodies_nil, first_line, next_body}

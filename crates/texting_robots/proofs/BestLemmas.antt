@@ -1,19 +1,17 @@
--- For each text some rule decides or none matches, and a pattern matches or doesn't; functions compute both.
-use Rattle.std.specs.Prelude.{bytes_eq}
+-- Functions decide whether a pattern matches, and which rule is the best that matches.
+use Rattle.std.specs.{Prelude.bytes_eq, Bool.Decides, Bool.MatchBool, List.All, List.Contains}
 use Rattle.std.proofs.Common.{◌≡◌, ◌≢◌, ◌⊎◌, inl, inr, ℕ, zero, suc, cond, not, nat_lt, ◌≤◌, Bool, true, ◌==◌}
 use Rattle.std.proofs.Common.{false, ◌&&◌, ◌||◌, List, [], ◌∷◌, ◌++◌, length, Option, Some, None, option_map}
 use Rattle.std.proofs.Common.{refl, sym, ap, subst, ◌∙◌, arith}
-use Rattle.std.specs.{Bool.Decides, Bool.MatchBool, List.All, List.Contains}
-use Rattle.std.proofs.lemmas.Bool.{cases_Bool, cases_lt, cases_order}
-use Rattle.std.proofs.lemmas.Bool.Decides.{Decides-like, Decides-or, nat_tests}
-use Rattle.std.proofs.lemmas.Bool.Decides.{not_from_Decides, when_false, when_true}
-use Rattle.std.proofs.{lemmas.List.get_or-map, lemmas.List.length-map, lemmas.Slice.Eq.bytes_eq-Decides}
-use Rattle.std.proofs.lemmas.List.Elements.{All-cons, All-contains}
+use Rattle.std.proofs.lemmas.{Bool.cases_Bool, Bool.cases_lt, Bool.cases_order, Slice.Eq.bytes_eq-Decides}
+use Rattle.std.proofs.lemmas.Bool.Decides.{Decides-like, Decides-or, nat_tests, not_from_Decides, when_false}
+use Rattle.std.proofs.lemmas.Bool.Decides.{when_true}
+use Rattle.std.proofs.lemmas.List.{get_or-map, length-map, Elements.All-cons, Elements.All-contains}
 use Rattle.texting_robots.specs.Decision.{IsBetter, IsDecidingRule, IsDecidingLine}
 use Rattle.texting_robots.specs.Pattern.{IsSuffix, Matches, MatchesWith, dollar, star}
 use Rattle.texting_robots.specs.Rules.{PlacedRule, Rule, unplaced}
-use Rattle.texting_robots.specs.{Internal.Segments.rank, Verdict.IsVerdict, Verdict.robots_file}
-use Rattle.texting_robots.proofs.{SegmentLemmas.none_left}
+use Rattle.texting_robots.{specs.Internal.Segments.rank, proofs.SegmentLemmas.none_left}
+use Rattle.texting_robots.specs.Verdict.{IsVerdict, robots_file}
 
 abbrev pub Either : Type 0 → Type 0
 Either P = P ⊎ (¬ P)
@@ -70,6 +68,8 @@ matches_decides anchors (b ∷ q) t = elim (cases_Bool (b == star)) [
   | inl stars ↦ rw stars (some_end_decides _ _ (matches_decides anchors q) t)
   | inr plain ↦ grind (arith, cases_Bool, matches_decides anchors q)
 ]
+
+-- ---- The best matching rule decides, and is found.
 
 pub placed_of : (rules : List PlacedRule) (rule : Rule) → Contains (unplaced rules) rule
     → (placed : PlacedRule) × Contains rules placed × (placed.rule ≡ rule)

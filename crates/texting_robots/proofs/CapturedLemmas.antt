@@ -151,6 +151,8 @@ open_next G N i =
     at true = ap (λ b. N i || b) (none_below _ i (λ j less. and-false (N j)))
     at false = refl
 
+-- ---- The tracker line by line.
+
 abbrev pub open_in : List ℕ → List LineValue → ℕ → Bool
 open_in name lines i = open_at (passes_at is_member lines) (passes_at (is_agent_named name) lines) i
 
@@ -236,7 +238,8 @@ pub captured_walked : {X : Type 0} (given : ℕ × LineValue → Option X) (name
     → filter_map given (captured_lines name lines) ≡ from_captured given name (start_of lines) 0 lines
 captured_walked given name lines = grind (arith, captured_left, occurs_first)
 
--- the same without the lines' indices
+-- ---- What the captured lines give, without the lines' indices.
+
 abbrev pub given_captured : {X : Type 0} → (LineValue → Option X) → List ℕ → GroupTracker → List LineValue
     → List X
 given_captured given name tracker [] = []

@@ -1,8 +1,7 @@
 -- Collapsing a pattern.
 use Rattle.std.proofs.Common.{ℕ, Bool, true, false, ◌==◌, ◌&&◌, List, get_or, arith, append_assoc, append-nil}
-use Rattle.std.proofs.Common.{◌≡◌, ◌≢◌, ◌↔◌, suc, ◌<◌, ◌≤◌, eqb, inl, inr, [], ◌∷◌, ◌++◌, refl, ap}
-use Rattle.std.proofs.{Common.length, Math.Bool.and-true, lemmas.Cmp.nat_eq_equiv}
-use Rattle.std.specs.{List.starts_with}
+use Rattle.std.proofs.Common.{◌≡◌, ◌≢◌, ◌↔◌, suc, ◌<◌, ◌≤◌, eqb, inl, inr, [], ◌∷◌, ◌++◌, refl, ap, length}
+use Rattle.std.{proofs.Math.Bool.and-true, proofs.lemmas.Cmp.nat_eq_equiv, specs.List.starts_with}
 use Rattle.std.proofs.lemmas.Bool.{and_parts, cases_Bool, eq-eqb, eqb-true, ne_eqb}
 use Rattle.texting_robots.specs.Pattern.{MatchesWith, collapsed, star}
 use Rattle.texting_robots.proofs.SegmentLemmas.{after_byte, star_star}

@@ -1,10 +1,10 @@
 -- A text has no more lines than bytes.
 use Rattle.std.proofs.Common.{ℕ, ◌+◌, ◌≤◌, List, [], ◌∷◌, arith, length, map}
 use Rattle.std.proofs.lemmas.{Bool.cond_both, List.length-map}
-use Rattle.texting_robots.specs.{Cut.Pair, Internal.Line.line_of, Line.nul_as_lf}
-use Rattle.texting_robots.specs.{Line.without, Line.without_bom, Executable.file_bodies, Executable.parsed}
+use Rattle.texting_robots.specs.{Cut.Pair, Internal.Line.line_of, Executable.file_bodies, Executable.parsed}
+use Rattle.texting_robots.specs.Line.{nul_as_lf, without, without_bom}
 use Rattle.texting_robots.specs.Internal.Cut.{before_body, before_end, bodies_of, cut}
-use Rattle.texting_robots.proofs.{CutLemmas.pair_of}
+use Rattle.texting_robots.proofs.CutLemmas.{pair_of}
 
 ended_at : (body ending : List ℕ) (later : List Pair)
     → length (before_end (pair_of body ending ∷ later)) ≤ length later + 2

@@ -1,28 +1,27 @@
 -- `delay_of` gives the delay of a text, and it is the only one.
 use Rattle.std.specs.Prelude.{◌==◌, Decides, MatchBool, slice_index}
-use Rattle.std.proofs.Common.{◌≡◌, inl, inr, ℕ, ◌*◌, ◌^◌, ◌<◌, Bool, true, false, ltb, []}
-use Rattle.std.proofs.Common.{List, ◌∷◌, ◌++◌, All, Option, Some, None, codes, length, map, refl, sym}
-use Rattle.std.proofs.Common.{subst, arith, ◌↔◌}
+use Rattle.std.proofs.Common.{◌≡◌, inl, inr, ℕ, ◌*◌, ◌^◌, ◌<◌, Bool, true, false, ltb, [], List, ◌∷◌, ◌++◌}
+use Rattle.std.proofs.Common.{All, Option, Some, None, codes, length, map, refl, sym, subst, arith, ◌↔◌}
 use Rattle.std.specs.Char.{IsAsciiDigit, is_ascii_digit, to_ascii_lowercase}
-use Rattle.std.specs.{Cmp.Lexicographic.bytes_decides, List.list_all, List.prefix_len, Option.option_and_then}
-use Rattle.std.specs.{Option.option_map, Str.byte, Str.str_eq_ignore_ascii_case, Str.str_to_ascii_lowercase}
+use Rattle.std.specs.{Cmp.Lexicographic.bytes_decides, List.list_all, List.prefix_len}
+use Rattle.std.specs.Option.{option_and_then, option_map}
+use Rattle.std.specs.Str.{byte, str_eq_ignore_ascii_case, str_to_ascii_lowercase}
 use Rattle.std.specs.Str.Parse.{digits_value, starts_with_minus, without_leading_sign}
-use Rattle.std.proofs.{Math.Nat.le-div_iff_mul-le, lemmas.Option.cond_some, lemmas.Str.Ascii.lowercase_is}
-use Rattle.std.proofs.Math.Nat.{le-min, min-le_left, min-le_right, mul_assoc, mul-pos, one-le-pow}
-use Rattle.std.proofs.lemmas.Bool.{and_parts, and_right, cases_Bool, cond-false, cond-true, le-leb}
-use Rattle.std.proofs.lemmas.Bool.{eqb-true, false_from_ne_true, leb-true, lt-leb, lt-ltb, ltb-true, ne_eqb}
-use Rattle.std.proofs.lemmas.Bool.{or_cases}
+use Rattle.std.proofs.Math.Nat.{le-div_iff_mul-le, le-min, min-le_left, min-le_right, mul_assoc, mul-pos}
+use Rattle.std.proofs.Math.Nat.{one-le-pow}
+use Rattle.std.proofs.lemmas.{Option.cond_some, Str.Ascii.lowercase_is}
+use Rattle.std.proofs.lemmas.Bool.{and_parts, and_right, cases_Bool, cond-false, cond-true, le-leb, eqb-true}
+use Rattle.std.proofs.lemmas.Bool.{false_from_ne_true, leb-true, lt-leb, lt-ltb, ltb-true, ne_eqb, or_cases}
 use Rattle.std.proofs.lemmas.Bool.Decides.{Decides-and, Decides-by_and, Decides-eqb, Decides-ltb, Decides-or}
 use Rattle.std.proofs.lemmas.List.{drop_at, get_or-take, length-append, length-take, take-append-drop}
 use Rattle.std.proofs.lemmas.List.{take_at, Sums.prefix_len_passes}
 use Rattle.std.proofs.lemmas.List.Elements.{All-head, All-nil, All-tail}
-use Rattle.texting_robots.specs.Delay.{Decimal, IsDelay, IsInfinite, IsNumeral, IsPoint, IsTail}
-use Rattle.texting_robots.specs.Delay.{NamesZero, NamesSeconds, Rounds, Writes}
-use Rattle.texting_robots.specs.Delay.{negative_exponent, positive_exponent}
+use Rattle.texting_robots.specs.Delay.{Decimal, IsDelay, IsInfinite, IsNumeral, IsPoint, IsTail, NamesZero}
+use Rattle.texting_robots.specs.Delay.{NamesSeconds, Rounds, Writes, negative_exponent, positive_exponent}
 use Rattle.texting_robots.specs.Internal.Delay.{HasDigits, after_fraction, digits_in_front, fraction_in_front}
 use Rattle.texting_robots.specs.Internal.Delay.{after_digits, delay_after, delay_of, exponent_of, is_infinite}
 use Rattle.texting_robots.specs.Internal.Delay.{is_numeral, is_zero, zero_of, number_of, number_with, rounded}
-use Rattle.texting_robots.proofs.{CapturedLemmas.cond_given}
+use Rattle.texting_robots.proofs.CapturedLemmas.{cond_given}
 
 digit_decides : (b : ℕ) → Decides (is_ascii_digit b) (IsAsciiDigit b)
 digit_decides b = grind (arith, le-leb, leb-true)
@@ -81,6 +80,8 @@ fraction_read point fraction tail (inr (none, empty)) digits is = rw (none, empt
 
 number_read : (text : List ℕ) (n : Decimal) → Writes text n → number_of text ≡ Some n
 number_read text n h = grind (arith, digits_read, fraction_read, lt-ltb, tail_read)
+
+-- ---- What is read is a number.
 
 digits_are : (text : List ℕ) → All IsAsciiDigit (digits_in_front text)
 digits_are text k d below = grind (arith, digit_decides, get_or-take, length-take, prefix_len_passes)
@@ -170,6 +171,8 @@ rounds_same n d e a b = omega (arith, b.greatest d a.bound a.at_most, a.greatest
 infinite_number : (text word : List ℕ) → map to_ascii_lowercase text ≡ byte "i" ∷ word
     → number_of text ≡ None
 infinite_number text word h = grind (arith, and_right, lowercase_is, lt-leb, ne_eqb)
+
+-- ---- The delay of a text.
 
 named : (minus : Bool) (text : List ℕ) (delay : ℕ)
     → MatchBool minus (NamesZero text delay) (NamesSeconds text delay)

@@ -1,10 +1,9 @@
 -- An empty line at the start of a text, which ends with LF or NUL, only moves the numbers of the later lines.
-use Rattle.std.proofs.Common.{◌≡◌, ℕ, suc, ◌+◌, ◌==◌, Bool, true, List, [], ◌∷◌, Option, drop, refl}
-use Rattle.std.proofs.Common.{arith, inl, inr}
-use Rattle.std.specs.{List.list_any}
+use Rattle.std.proofs.Common.{◌≡◌, ℕ, suc, ◌+◌, ◌==◌, Bool, true, List, [], ◌∷◌, Option, drop, refl, arith}
+use Rattle.std.proofs.Common.{inl, inr}
+use Rattle.std.specs.List.{list_any}
 use Rattle.std.proofs.lemmas.Bool.{cases_Bool, cond-true}
-use Rattle.texting_robots.specs.Cut.{lf}
-use Rattle.texting_robots.specs.{Executable.sitemaps_in, Group.is_agent, Line.LineValue, Line.Raw}
+use Rattle.texting_robots.specs.{Cut.lf, Executable.sitemaps_in, Group.is_agent, Line.LineValue, Line.Raw}
 use Rattle.texting_robots.specs.Internal.Cut.{empty_lines, is_feed, read_as}
 use Rattle.texting_robots.specs.Internal.{Line.lines_of, Site.named_from, Site.tagged_from}
 use Rattle.texting_robots.proofs.{CutLemmas.cut_cons, LineLemmas.line_without_kind, RulesLemmas.delay_from}

@@ -1,30 +1,27 @@
 -- Which rule decides, and what is looked at to find it.
 use Rattle.std.proofs.Common.{◌≡◌, ℕ, ◌*◌, ◌^◌, ◌%◌, ◌<◌, ◌≤◌, List, [], ◌∷◌, ◌++◌, length, min, get_or, drop}
-use Rattle.std.proofs.Common.{take, sym, refl, ap, ◌∙◌, append_assoc, take-append-drop, arith, ◌+◌, ◌-◌}
-use Rattle.std.proofs.Common.{cond, leb, string_bytes, suc, ◌≢◌, inl, inr, zero, count_by, Bool, true, All}
+use Rattle.std.proofs.Common.{take, sym, refl, ap, ◌∙◌, append_assoc, take-append-drop, arith, ◌+◌, ◌-◌, cond}
+use Rattle.std.proofs.Common.{leb, string_bytes, suc, ◌≢◌, inl, inr, zero, count_by, Bool, true, All}
 use Rattle.std.proofs.Common.{AllPairs, subst}
 use Rattle.std.specs.Int.{RustNames.bit_and, RustNames.bit_or, Bits.or_self, Bits.or_zero_l}
-use Rattle.std.proofs.lemmas.List.{get_or_default, Sums.sum_by-take-le, Sums.sum_by_more, Sums.sum_by-cons}
-use Rattle.std.proofs.lemmas.List.{Sums.sum_by-take-drop}
-use Rattle.std.proofs.lemmas.List.{take-take, get_or-map, length-map, get_or_read, length-drop, length-take}
-use Rattle.std.proofs.lemmas.{List.Elements.All-map}
+use Rattle.std.proofs.lemmas.List.{get_or_default, take-take, get_or-map, length-map, get_or_read}
+use Rattle.std.proofs.lemmas.List.{length-drop, length-take, Elements.All-map}
+use Rattle.std.proofs.lemmas.List.Sums.{sum_by-take-le, sum_by_more, sum_by-cons, sum_by-take-drop}
 use Rattle.std.proofs.lemmas.Nat.{and_mask, or_comm, Bits.bit_at_or, Bits.same_from_bits}
 use Rattle.texting_robots.specs.declared.prefilter.{Prefilter.Prefilter, head.Head.Head}
-use Rattle.texting_robots.specs.declared.segments.Ending.{Ending}
-use Rattle.texting_robots.specs.declared.segments.{Ends.Ends, Segment.Segment, Span.Span}
-use Rattle.texting_robots.specs.Internal.Segments.{ArePrefilter, AreWithin, IsHeadOf, ending_pairs}
-use Rattle.texting_robots.specs.Internal.Segments.{pair_bit}
-use Rattle.texting_robots.specs.Internal.Segments.{first_eight, ones_below, pair_set, AreApart}
-use Rattle.texting_robots.specs.Internal.Segments.{AreLeft, AreSegments, IsUnsearched, Fits, EndsAs, part_of}
-use Rattle.texting_robots.specs.Internal.Segments.{IsSpan, pattern_of, placed_at, rules_in, AreEntries}
-use Rattle.texting_robots.specs.Internal.Segments.{HaveMasks, GoesBefore, IsEntryOf, IsFirstMatch, MatchesAt}
+use Rattle.texting_robots.specs.declared.segments.{Ending.Ending, Ends.Ends, Segment.Segment, Span.Span}
+use Rattle.texting_robots.specs.Internal.Segments.{ArePrefilter, AreWithin, IsHeadOf, ending_pairs, pair_bit}
+use Rattle.texting_robots.specs.Internal.Segments.{first_eight, ones_below, pair_set, AreApart, AreLeft}
+use Rattle.texting_robots.specs.Internal.Segments.{AreSegments, IsUnsearched, Fits, EndsAs, part_of, IsSpan}
+use Rattle.texting_robots.specs.Internal.Segments.{pattern_of, placed_at, rules_in, AreEntries, HaveMasks}
+use Rattle.texting_robots.specs.Internal.Segments.{GoesBefore, IsEntryOf, IsFirstMatch, MatchesAt}
 use Rattle.texting_robots.specs.Internal.Segments.{NoneBetween, NoneMatches, no_entry, rank_in, mask_in}
-use Rattle.texting_robots.specs.{Pattern.Matches, Cost.cost_of, Cost.looks_of, Rules.PlacedRule}
-use Rattle.texting_robots.specs.{Verdict.IsVerdict, Verdict.robots_file, Rules.unplaced}
-use Rattle.texting_robots.specs.View.{LooksAtMost, ViewValue}
+use Rattle.texting_robots.specs.{Pattern.Matches, Cost.cost_of, Cost.looks_of}
+use Rattle.texting_robots.specs.{Rules.PlacedRule, Rules.unplaced, View.LooksAtMost, View.ViewValue}
+use Rattle.texting_robots.specs.Verdict.{IsVerdict, robots_file}
 use Rattle.std.proofs.lemmas.Bool.{cond_both, eqb-false, leb-true, cases_lt, cases_order, le-leb}
 use Rattle.texting_robots.specs.declared.rules.{RuleEntry.RuleEntry, RuleTable.RuleTable}
-use Rattle.std.proofs.Math.{Nat.mul-le-mul_left}
+use Rattle.std.proofs.Math.Nat.{mul-le-mul_left}
 use Rattle.texting_robots.specs.Decision.{IsDecidingRule, IsLongestMatch, LooksForRules, as_long_as}
 use Rattle.texting_robots.proofs.BestLemmas.{IsAbove, IsBest, IsPreferred, NoMatch, best_decides, longer}
 use Rattle.texting_robots.proofs.BestLemmas.{deciding_longest, rank_of, verdict_by}
@@ -88,14 +85,12 @@ within_moved bits few some left all h k =
     (within_later left bits _ (within_later left some left (or_self left))) in
     within_through _ _ all more k
 
--- loop step: the first bigram is moved to the bits so far
 pub pairs_step : (bits bit whole : ℕ) (rest : List ℕ) → 2 ≤ length rest
     → bit ≡ pair_bit (get_or rest 0 0) (get_or rest 1 0) → bit_or bits (pair_set rest) ≡ whole
     → bit_or (bit_or bits bit) (pair_set (drop 1 rest)) ≡ whole
 unfolding pair_set
 pairs_step bits bit whole rest long is h3 = grind (arith, or_assoc)
 
--- loop step: two bigrams are moved, one after the other
 pub two_pairs : (bits one two whole : ℕ) (rest : List ℕ) → 3 ≤ length rest
     → one ≡ pair_bit (get_or rest 0 0) (get_or rest 1 0)
     → two ≡ pair_bit (get_or rest 1 0) (get_or rest 2 0)

@@ -4,32 +4,30 @@ use Rattle.std.proofs.Common.{drop, sym, ◌∙◌, Option, Some, None, is_some,
 use Rattle.std.proofs.Common.{slice_get, map, refl, ◌⊎◌, zero, suc, ◌<◌, ◌↔◌, ◌&&◌, length-drop}
 use Rattle.std.proofs.Common.{slice_index_or}
 use Rattle.std.specs.List.{AllZip, list_any, position_or_len, before_first, enumerate_from, filter_map}
-use Rattle.std.proofs.lemmas.Bool.{false_from_ne_true, or_parts, cases_Bool, cases_lt}
-use Rattle.std.proofs.lemmas.Bool.{cases_order, Decides.Decides-at, Decides.Decides-like}
-use Rattle.std.proofs.lemmas.Bool.{Decides.Decides-or, Decides.not_from_Decides}
+use Rattle.std.proofs.lemmas.Bool.{false_from_ne_true, or_parts, cases_Bool, cases_lt, cases_order}
+use Rattle.std.proofs.lemmas.Bool.Decides.{Decides-at, Decides-like, Decides-or, not_from_Decides}
 use Rattle.std.proofs.lemmas.List.{get_or_default, take-append-drop, take-take, take_all, take_rest}
-use Rattle.std.proofs.lemmas.List.{Folds.list_any-append, Folds.list_any_at, Folds.list_any_none, get_or-drop}
+use Rattle.std.proofs.lemmas.List.{get_or-drop, Folds.list_any-append, Folds.list_any_at, Folds.list_any_none}
 use Rattle.std.proofs.lemmas.List.Sums.{position_or_len_is, fails_before_first, passes_at_first}
 use Rattle.memchr.specs.Find.{Passes, Nowhere, NoneBefore, IsFirstByte}
-use Rattle.std.specs.{Bool.then_some, Option.IfSome, Bool.Decides}
+use Rattle.std.specs.{Bool.then_some, Bool.Decides, Option.IfSome}
 use Rattle.std.proofs.Math.Bool.{or_comm, and-or_distrib_right, or-and_distrib_left}
-use Rattle.std.proofs.{Math.Nat.add-zero, lemmas.Option.slice_get-get_or, Math.Nat.zero-add}
-use Rattle.texting_robots.specs.{declared.groups.GroupTracker.GroupTracker, Rules.Rule}
-use Rattle.texting_robots.specs.{Internal.Captured.is_captured, declared.labels.Membership.Membership}
+use Rattle.std.proofs.{Math.Nat.add-zero, Math.Nat.zero-add, lemmas.Option.slice_get-get_or}
+use Rattle.texting_robots.specs.declared.{groups.GroupTracker.GroupTracker, labels.Membership.Membership}
+use Rattle.texting_robots.{specs.Rules.Rule, proofs.LineLemmas.only_lines}
+use Rattle.texting_robots.specs.Internal.{Captured.is_captured, Line.line_of}
 use Rattle.texting_robots.specs.Group.{group_name, is_agent, is_member, IsCaptured, is_agent_named, passes_at}
 use Rattle.texting_robots.specs.Line.{Allow, Disallow, IsLineOf, LineValue, Raw, UserAgent}
-use Rattle.texting_robots.specs.Internal.Line.{line_of}
 use Rattle.texting_robots.specs.Labels.{is_own, label_at, labels_of, AreLabelsOf, AreOneGroup, IsInGroup}
-use Rattle.texting_robots.specs.Labels.{Label}
-use Rattle.texting_robots.specs.Labels.{bodies_in, lines_in}
-use Rattle.texting_robots.specs.Labels.{IsInOwnGroup, HasMembership, next_member, membership_of}
+use Rattle.texting_robots.specs.Labels.{Label, bodies_in, lines_in, IsInOwnGroup, HasMembership, next_member}
+use Rattle.texting_robots.specs.Labels.{membership_of}
 use Rattle.texting_robots.specs.declared.labels.Membership.TheVariants.{Own, Other, Ungrouped}
 use Rattle.texting_robots.specs.Executable.{placed_in, placed_rules, rule_in}
 use Rattle.texting_robots.specs.Internal.Group.{captured_ahead, from_captured, if_captured, labels_from, step}
 use Rattle.texting_robots.specs.Internal.Group.{own_rule_at, placed, membership_by, start_of}
 use Rattle.texting_robots.proofs.CapturedLemmas.{IsWalkAt, any_next, at_front, captured_walked, cond_same}
 use Rattle.texting_robots.proofs.CapturedLemmas.{occurs_first, occurs_next, is_captured_decides, itself}
-use Rattle.texting_robots.proofs.{CapturedLemmas.taken_decides, CapturedLemmas.within, LineLemmas.only_lines}
+use Rattle.texting_robots.proofs.CapturedLemmas.{taken_decides, within}
 
 -- ---- The first byte that passes a test, as `memchr` finds it.
 

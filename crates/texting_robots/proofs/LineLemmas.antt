@@ -1,16 +1,16 @@
 -- The computed lines are those of the text, and their values are ranges of it.
-use Rattle.std.proofs.Common.{◌≡◌, ◌⊎◌, ℕ, false, true, inl, inr, List, [], ◌∷◌, ◌++◌, map, sym, refl}
-use Rattle.std.proofs.Common.{◌∙◌, ◌≢◌}
-use Rattle.std.proofs.Common.{bytes_eq, append_assoc, append-nil, Option, Some, None, ◌==◌, arith, subst, ◌↔◌}
+use Rattle.std.proofs.Common.{◌≡◌, ◌⊎◌, ℕ, false, true, inl, inr, List, [], ◌∷◌, ◌++◌, map, sym, refl, ◌∙◌}
+use Rattle.std.proofs.Common.{◌≢◌, bytes_eq, append_assoc, append-nil, Option, Some, None, ◌==◌, arith, subst}
+use Rattle.std.proofs.Common.{◌↔◌}
 use Rattle.std.specs.{List.AllZip, Str.str_to_ascii_lowercase}
 use Rattle.std.proofs.lemmas.Bool.{cases_Bool, cond-true, cond-false, ne_eqb, Decides.eqb_tells}
-use Rattle.texting_robots.specs.{declared.parser.statement.Kind.Kind, Cut.lf, Group.is_agent}
-use Rattle.texting_robots.specs.{Group.is_agent_named}
-use Rattle.texting_robots.specs.{Delay.IsDelay, Internal.Delay.delay_of, Internal.Statement.colon}
+use Rattle.texting_robots.specs.{declared.parser.statement.Kind.Kind, Cut.lf, Delay.IsDelay}
+use Rattle.texting_robots.specs.Group.{is_agent, is_agent_named}
+use Rattle.texting_robots.specs.Internal.{Delay.delay_of, Cut.bodies_of, Cut.cut}
+use Rattle.texting_robots.specs.Internal.Statement.{colon, kind_by, skip_blanks, statement_of, tail_as}
+use Rattle.texting_robots.specs.Internal.Statement.{value_of}
 use Rattle.texting_robots.specs.Executable.{file_bodies, file_lines, parsed}
-use Rattle.texting_robots.specs.Internal.Cut.{bodies_of, cut}
 use Rattle.texting_robots.specs.Statement.{IsAfterBlanks, IsAfterColon, IsStatement}
-use Rattle.texting_robots.specs.Internal.Statement.{kind_by, skip_blanks, statement_of, tail_as, value_of}
 use Rattle.texting_robots.specs.Line.{AreFileBodiesOf, AreLinesOf, HoldRangesOf, HoldsRangeOf, IsLineOf, Raw}
 use Rattle.texting_robots.specs.Line.{IsLineWith, IsRangeOf, LineValue, CrawlDelay, Sitemap, UserAgent}
 use Rattle.texting_robots.specs.Line.{delay_in, is_raw, is_sitemap, nul_as_lf, without, without_bom}
@@ -126,14 +126,14 @@ module _ (body text : List ℕ) (is : text ≡ skip_blanks body) where
       → is_agent_named name (line_of body) ≡ bytes_eq (str_to_ascii_lowercase (value_of tail)) name
   agent_value tail name by found = rw (line_read _ tail by found) refl
 
--- the directive of a user-agent line, a sitemap or a delay
+-- ---- The first letter of a line selects its directive.
+
 abbrev kind_in : LineValue → Option Kind
 kind_in (UserAgent value) = Some kind.UserAgent
 kind_in (Sitemap value) = Some kind.Sitemap
 kind_in (CrawlDelay delay) = Some kind.CrawlDelay
 kind_in _ = None
 
--- if the line is one of these directives, it is the one that its first letter selects
 abbrev IsKindOf : Option Kind → LineValue → Type 0
 IsKindOf kind line = (kind_in line ≡ kind) ⊎ (kind_in line ≡ None)
 
@@ -178,6 +178,8 @@ delay_or_other found line is = grind arith
 pub sitemap_or_other : (found : Option Kind) (line : LineValue) → IsKindOf found line
     → (found ≡ Some kind.Sitemap) ⊎ (is_sitemap line ≡ false)
 sitemap_or_other found line is = grind arith
+
+-- ---- Values are ranges of the content, and contents of the text.
 
 range_of_range : (part middle whole : List ℕ) → IsRangeOf part middle → IsRangeOf middle whole
     → IsRangeOf part whole

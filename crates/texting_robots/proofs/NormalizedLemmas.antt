@@ -2,33 +2,30 @@
 use Rattle.std.proofs.Common.{◌≡◌, ◌≢◌, ◌<◌, ◌≤◌, ◌+◌, ◌^◌, ◌/◌, ◌∷◌, ◌++◌, ◌==◌, ◌||◌, ◌&&◌, ◌∙◌, ℕ, Bool}
 use Rattle.std.proofs.Common.{All, IsAscii, List, [], true, false, Some, inl, inr, not, ap, append_assoc}
 use Rattle.std.proofs.Common.{append-nil, arith, cond, decimal, drop, get_or, length, refl, slice_index, suc}
-use Rattle.std.proofs.Common.{sym, take, zero}
-use Rattle.std.specs.List.{list_any, prefix_len}
-use Rattle.std.proofs.{Math.Bool.or-true, Common.take-append-drop, lemmas.Bool.Decides.nat_tests}
+use Rattle.std.proofs.Common.{sym, take, zero, take-append-drop}
+use Rattle.std.specs.{List.list_any, List.prefix_len, Int.Bits.and_zero_r}
+use Rattle.std.{proofs.Math.Bool.or-true, specs.Char.is_ascii_lowercase, specs.Char.is_ascii_uppercase}
+use Rattle.std.proofs.lemmas.{Bool.Decides.nat_tests, Str.Ascii.IsAscii-nil, Fmt.decimal-digits_value}
 use Rattle.std.proofs.lemmas.Bool.{agree_below, agree_below_at, and_parts, cases_Bool, cases_eq, cases_lt}
 use Rattle.std.proofs.lemmas.Bool.{cond-false, cond-true, eq-eqb, le-ltb, lt-ltb, ne_eqb, not-true}
-use Rattle.std.proofs.lemmas.Str.Ascii.{IsAscii-nil}
 use Rattle.percent_encoding.specs.{AsciiSet.should_percent_encode, declared.ascii_set.AsciiSet.AsciiSet}
 use Rattle.percent_encoding.specs.Percent.{percent_encode, percent_encode_byte, encode_byte, IsKept}
 use Rattle.texting_robots.specs.declared.escape.TheConstants.{ESCAPED}
 use Rattle.texting_robots.specs.Escape.{is_escaped, escape_byte, escaped}
-use Rattle.std.specs.{Int.Bits.and_zero_r, Char.is_ascii_lowercase, Char.is_ascii_uppercase}
 use Rattle.std.specs.Str.Parse.{IsNumeral, digits_value, without_leading_plus}
 use Rattle.std.proofs.lemmas.List.Sums.{prefix_len-le-length, prefix_len_passes}
-use Rattle.std.proofs.lemmas.Fmt.{decimal-digits_value}
 use Rattle.std.proofs.lemmas.Str.Parse.{numerals_by_value, tells_digits, without_leading_plus_none}
 use Rattle.std.proofs.lemmas.List.{get_or_past, get_or-drop, get_or-take, length-take-le, drop-drop}
 use Rattle.std.proofs.lemmas.List.{Concat.flat_map-append, Folds.prefix_len-append}
 use Rattle.std.proofs.lemmas.List.Elements.{All-append, All-cons, All-head, All-nil, All-tail}
 use Rattle.url.specs.declared.sets.TheConstants.{FORBIDDEN_DOMAIN, PATH}
-use Rattle.url.specs.{declared.scheme.SchemeType.TheVariants.SpecialNotFile, Scheme.is_slash, Path.IsSegment}
-use Rattle.url.specs.{Input.rsplit_once, Path.dot_count, Path.join_segments}
+use Rattle.url.specs.{declared.scheme.SchemeType.TheVariants.SpecialNotFile, Scheme.is_slash}
+use Rattle.url.specs.{Path.IsSegment, Path.dot_count, Path.join_segments, Input.rsplit_once}
 use Rattle.url.proofs.PathLemmas.{empty_segment, no_segments}
 use Rattle.url.proofs.InputLemmas.{Passes, All-take-prefix_len}
 use Rattle.texting_robots.specs.declared.normalized.TheConstants.{NAME, NUMBER, OPEN, SEGMENT, UPPER}
-use Rattle.texting_robots.specs.Internal.Normalized.{IsAuthority, IsName, IsOther, IsPath, IsPort, Leaves}
-use Rattle.texting_robots.specs.Internal.Normalized.{after, begins_dotted, begins_plainly, is_kept}
-use Rattle.texting_robots.specs.Internal.Normalized.{kept_prefix}
+use Rattle.texting_robots.specs.Internal.Normalized.{IsAuthority, begins_dotted, begins_plainly, kept_prefix}
+use Rattle.texting_robots.specs.Internal.Normalized.{IsName, IsOther, IsPath, IsPort, Leaves, after, is_kept}
 
 -- ---- The byte set in `escape.rt` escapes the bytes that the specification escapes.
 
@@ -179,7 +176,7 @@ open_rest [] slash = absurd (omega arith)
 open_rest (b ∷ text) slash =
     open_read (suc (prefix_len (is_kept OPEN.now) text)) (b ∷ text) slash (omega arith)
 
--- the same, and the rest of the last segment
+-- these bytes, and the rest of the last segment
 pub segment_read : (n : ℕ) (text : List ℕ) → get_or text 0 0 ≡ 47 → 0 < n
     → n ≤ prefix_len (is_kept OPEN.now) (drop 1 text) + 1
     → dot_count (kept_prefix SEGMENT.now (drop n text)) ≡ 0
@@ -211,7 +208,7 @@ open_byte n text within =
     let plain = not-true _ (and_parts _ _ kept).1 in
     grind (arith, nat_tests, get_or-drop)
 
--- the same, where it isn't the last byte before a segment's rest that begins a dot segment
+-- such a byte, where it isn't the last one before a segment's rest that begins a dot segment
 pub open_end : (n : ℕ) (text : List ℕ) → get_or text 0 0 ≡ 47
     → n ≤ prefix_len (is_kept OPEN.now) (drop 1 text)
     → Leaves IsPath text (after SEGMENT.now (drop n text))

@@ -1,37 +1,36 @@
 -- Match targets: of URLs in normal form, and of strings that can't be parsed as URLs.
-use Rattle.std.specs.Prelude.{reverse}
+use Rattle.std.specs.{Prelude.reverse, List.list_all, List.prefix_len, List.suffix_len}
 use Rattle.std.proofs.Common.{◌≡◌, ℕ, ◌<◌, ◌&&◌, ◌||◌, ◌==◌, Bool, true, false, not, List, [], ◌∷◌, ◌++◌, All}
 use Rattle.std.proofs.Common.{IfSome, None, Ok, Option, Some, codes, decimal, drop, get_or, length, sym, refl}
-use Rattle.std.proofs.Common.{ap, ◌∙◌, subst, inl, inr, ⊎_elim, arith, append_assoc, append-nil, ◌-◌}
-use Rattle.std.proofs.Common.{◌≢◌, length-append, take-append-drop, take_at, drop_at, is_some, nat_lt, ◌+◌}
+use Rattle.std.proofs.Common.{ap, ◌∙◌, subst, inl, inr, ⊎_elim, arith, append_assoc, append-nil, ◌-◌, ◌≢◌}
+use Rattle.std.proofs.Common.{length-append, take-append-drop, take_at, drop_at, is_some, nat_lt, ◌+◌}
 use Rattle.std.proofs.Common.{option_map, slice_index, unwrap_or, ◌≤◌, Err, take}
-use Rattle.std.specs.List.{list_all, prefix_len, suffix_len}
 use Rattle.std.specs.Char.{is_ascii_digit, is_ascii_lowercase, to_ascii_lowercase}
 use Rattle.std.proofs.lemmas.Bool.{agree_below, cases_Bool, cond-false, cond-true, eqb-true, false≢true}
-use Rattle.std.proofs.lemmas.Bool.{Decides.nat_tests, cond_both}
-use Rattle.std.proofs.lemmas.List.{take_all, Sums.suffix_len_is, length-reverse, reverse-append}
+use Rattle.std.proofs.lemmas.Bool.{cond_both, Decides.nat_tests}
+use Rattle.std.proofs.lemmas.List.{take_all, length-reverse, reverse-append, Sums.suffix_len_is}
 use Rattle.std.proofs.lemmas.List.Elements.{All-nil, All-weaker, All-take}
 use Rattle.percent_encoding.specs.{declared.ascii_set.AsciiSet.AsciiSet, AsciiSet.should_percent_encode}
 use Rattle.percent_encoding.specs.Percent.{IsKept, percent_encode}
 use Rattle.url.specs.declared.sets.TheConstants.{FRAGMENT, SPECIAL_QUERY, USERINFO}
-use Rattle.url.specs.{declared.host.Host.TheVariants.Domain, Host.IsDomainOf, Head.without_tail}
-use Rattle.url.specs.{declared.scheme.SchemeType.TheVariants.SpecialNotFile, Parser.parse_url}
-use Rattle.url.specs.{declared.error.ParseError.TheVariants.RelativeUrlWithoutBase}
+use Rattle.url.specs.declared.{host.Host.TheVariants.Domain, scheme.SchemeType.TheVariants.SpecialNotFile}
+use Rattle.url.specs.{Host.IsDomainOf, Head.without_tail}
+use Rattle.url.proofs.{Theorems.parse_url-serialize_special, ParsedCanonical.before_special}
+use Rattle.url.specs.Parser.{parse_url, after_double_slash, parse_authority, parse_by_scheme, split_scheme}
+use Rattle.url.specs.Parser.{skip_slashes, and_then, parse_body, parse_parts, with_path, Parsed}
+use Rattle.url.specs.declared.error.ParseError.TheVariants.{RelativeUrlWithoutBase}
 use Rattle.url.specs.Input.{is_empty, rsplit_once, split_once, when, is_c0_control_or_space}
 use Rattle.url.specs.Input.{strip_tabs_and_new_lines, trim_c0_control_and_space}
 use Rattle.url.specs.Scheme.{IsScheme, default_port, scheme_len, scheme_type, is_file, is_slash, is_special}
-use Rattle.url.proofs.{ParsedCanonical.before_special, PathLemmas.root_only, InputLemmas.All-take-prefix_len}
-use Rattle.url.proofs.{Theorems.parse_url-serialize_special}
-use Rattle.url.proofs.RoundTrip.{special_body, split_own_scheme}
+use Rattle.url.proofs.{PathLemmas.root_only, RoundTrip.special_body, RoundTrip.split_own_scheme}
+use Rattle.url.proofs.InputLemmas.{All-take-prefix_len, All_from_list_all, IsNot, Passes, StopsAt, filter_all}
+use Rattle.url.proofs.InputLemmas.{is_empty_nonempty, lowercase_other, map_fixed, prefix_len_at}
+use Rattle.url.proofs.InputLemmas.{prefix_len_is, split_once_none}
 use Rattle.url.specs.Ipv4.{ends_in_a_number, is_number, last_label_of, parse_number}
 use Rattle.url.specs.Path.{IsSegmentList, dot_count, parse_path_start, parse_segments, push_segment}
 use Rattle.url.specs.Parts.{IsPortOf, IsValid, Parts, serialize, text_before, kind_of, text_between}
-use Rattle.url.specs.Parser.{after_double_slash, parse_authority, parse_by_scheme, split_scheme, skip_slashes}
-use Rattle.url.specs.Parser.{and_then, parse_body, parse_parts, with_path, Parsed}
 use Rattle.url.specs.declared.slicing.Position.TheVariants.{AfterPath, AfterPort, BeforePath, BeforeUsername}
 use Rattle.url.proofs.TextLemmas.{All_body, authority_bytes, is_authority_byte}
-use Rattle.url.proofs.InputLemmas.{All_from_list_all, IsNot, Passes, StopsAt, filter_all, is_empty_nonempty}
-use Rattle.url.proofs.InputLemmas.{lowercase_other, map_fixed, prefix_len_at, prefix_len_is, split_once_none}
 use Rattle.texting_robots.specs.Prepared.{with_delimiter, prepared, target_of}
 use Rattle.texting_robots.specs.declared.normalized.TheConstants.{FRAGMENT as TAIL, QUERY}
 use Rattle.texting_robots.specs.Internal.Normalized.{IsAuthority, IsDelimited, IsName, IsPath, IsSite}

@@ -1,18 +1,16 @@
 -- What the loops of the code preserve.
 use Rattle.std.proofs.Common.{◌≡◌, ◌⊎◌, ℕ, Bool, true, false, not, cond, List, [], ◌∷◌, ◌++◌, Option, Some}
-use Rattle.std.proofs.Common.{None}
-use Rattle.std.proofs.Common.{length, append_assoc, length-append, subst, sym, refl, ap, ◌∙◌, arith, inl, inr}
-use Rattle.std.proofs.{Common.slice_get, lemmas.Bool.cases_Bool, lemmas.List.Elements.All-push}
+use Rattle.std.proofs.Common.{None, length, append_assoc, length-append, subst, sym, refl, ap, ◌∙◌, arith}
+use Rattle.std.proofs.Common.{inl, inr, slice_get}
+use Rattle.std.proofs.lemmas.{Bool.cases_Bool, List.Sums.take_while-cons, List.Elements.All-push}
+use Rattle.std.proofs.lemmas.List.{append-nil, get_or-map, get_or_at, length-map}
 use Rattle.std.specs.List.{All, Any, before_first, cons_option, filter_map, last_or, list_any}
 use Rattle.std.specs.Option.{option_to_list, option_or, IfSome, IsSomeAnd}
-use Rattle.std.proofs.lemmas.List.{append-nil, get_or-map, get_or_at, length-map, Sums.take_while-cons}
-use Rattle.texting_robots.specs.{declared.error.Error.Error, Executable.rule_in, Executable.sitemap_in}
-use Rattle.texting_robots.specs.{Error.IsMemoryErrorOr, Group.is_agent, Group.is_member}
-use Rattle.texting_robots.specs.{Internal.Group.placed}
+use Rattle.texting_robots.specs.{declared.error.Error.Error, Error.IsMemoryErrorOr, Internal.Group.placed}
+use Rattle.texting_robots.specs.{Executable.rule_in, Executable.sitemap_in, Group.is_agent, Group.is_member}
+use Rattle.texting_robots.{proofs.BestLemmas.placed_of, specs.Pattern.IsOverlong}
 use Rattle.texting_robots.specs.Line.{LineValue, delay_in, is_raw, is_sitemap}
-use Rattle.texting_robots.specs.{Pattern.IsOverlong}
 use Rattle.texting_robots.specs.Rules.{IsFirstOverlong, PlacedRule, Rule, unplaced}
-use Rattle.texting_robots.proofs.{BestLemmas.placed_of}
 use Rattle.texting_robots.specs.declared.error.Error.TheVariants as mine
 
 pub no_sitemap : (line : LineValue) → is_sitemap line ≡ false → sitemap_in line ≡ None
@@ -56,7 +54,7 @@ pub given_more : {X : Type 0} (o : Option X) (xs old new : List X) → new ≡ o
     → new ++ xs ≡ old ++ cons_option o xs
 given_more o xs old new added = rw (added, append_assoc, cons_is o xs) refl
 
--- the same for the first result
+-- loop step for the first result
 pub first_more : {X : Type 0} (o old new : Option X) (xs : List X) → new ≡ option_or old o
     → option_or new (slice_get xs 0) ≡ option_or old (slice_get (cons_option o xs) 0)
 first_more o old new xs added = grind arith

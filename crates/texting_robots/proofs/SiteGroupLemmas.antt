@@ -1,15 +1,12 @@
 -- Where the lines of a group begin, and what one more group gives.
-use Rattle.std.specs.Prelude.{filter}
-use Rattle.std.proofs.Common.{◌≡◌, ◌≢◌, ℕ, zero, suc, ◌+◌, ◌<◌, ◌≤◌, ◌==◌, Bool, true, false}
-use Rattle.std.proofs.Common.{List, [], ◌∷◌, Some, length, drop, refl, sym, arith, cond}
-use Rattle.std.proofs.Common.{not, None, slice_get, subst, ◌&&◌}
-use Rattle.std.specs.{List.cons_option, List.list_any}
+use Rattle.std.specs.{Prelude.filter, List.cons_option, List.list_any}
+use Rattle.std.proofs.Common.{◌≡◌, ◌≢◌, ℕ, zero, suc, ◌+◌, ◌<◌, ◌≤◌, ◌==◌, Bool, true, false, List, [], ◌∷◌}
+use Rattle.std.proofs.Common.{Some, length, drop, refl, sym, arith, cond, not, None, slice_get, subst, ◌&&◌}
 use Rattle.std.proofs.lemmas.Bool.{and_parts, ne_eqb, Decides.eqb_tells}
-use Rattle.texting_robots.specs.Line.{LineValue, UserAgent}
+use Rattle.texting_robots.{specs.Line.LineValue, specs.Line.UserAgent, proofs.SiteLemmas.group_ends}
 use Rattle.texting_robots.specs.Group.{is_agent, is_agent_named, is_member}
 use Rattle.texting_robots.specs.Internal.Site.{Named, Tagged, has_name, in_front, named, named_from, tagged}
 use Rattle.texting_robots.specs.Internal.Site.{count_after, group_after, tagged_from}
-use Rattle.texting_robots.proofs.{SiteLemmas.group_ends}
 
 abbrev pub of_group : ℕ → List Tagged → List Tagged
 of_group group tags = filter (λ t. t.group == group) tags
@@ -61,7 +58,7 @@ ascends_from group joins position (line ∷ lines) within =
 pub tagged_ascends : (lines : List LineValue) → Ascends (tagged lines)
 tagged_ascends lines = ascends_from 0 false 0 lines (omega arith)
 
--- ---- if the groups ascend, the lines of a group directly follow those of earlier groups
+-- ---- If the groups ascend, the lines of a group directly follow those of earlier groups
 
 pub none_above : (r group : ℕ) (tags : List Tagged) → r < group → IsAbove group tags → of_group r tags ≡ []
 none_above r group [] less above = refl

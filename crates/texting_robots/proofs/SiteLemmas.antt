@@ -1,10 +1,9 @@
 -- The groups of a file and those of a site: what is captured for a name.
-use Rattle.std.specs.Prelude.{filter}
+use Rattle.std.specs.{Prelude.filter, Option.option_to_list, Str.str_to_ascii_lowercase}
 use Rattle.std.proofs.Common.{◌≡◌, ◌≢◌, ℕ, ◌+◌, ◌<◌, ◌≤◌, Bool, true, false, not, ◌&&◌, ◌||◌, List, [], ◌∷◌}
 use Rattle.std.proofs.Common.{◌++◌, Option, Some, None, cond, refl, sym, ◌∙◌, arith, append_assoc, ◌↔◌}
 use Rattle.std.proofs.Common.{IsTrue, slice_get, bytes_eq}
 use Rattle.std.specs.List.{cons_option, filter_map, list_any, Contains}
-use Rattle.std.specs.{Option.option_to_list, Str.str_to_ascii_lowercase}
 use Rattle.std.proofs.lemmas.List.{Elements.filter_map-append, Folds.list_any-append}
 use Rattle.std.proofs.Math.Bool.{and-false, and-true, or-false}
 use Rattle.std.proofs.lemmas.Bool.{and_parts, eq-eqb, ne_eqb}

@@ -1,24 +1,22 @@
 -- The names in a file, and how a site finds them.
 use Rattle.std.proofs.Common.{◌≡◌, ◌≢◌, inl, inr, ℕ, zero, suc, ◌+◌, ◌<◌, ◌≤◌, Bool, true, false, List, []}
 use Rattle.std.proofs.Common.{◌∷◌, Some, length, drop, refl, ap, sym, ◌∙◌, arith, add-one, drop-cons, get_or}
-use Rattle.std.proofs.Common.{ltb, map, replicate, set, slice_get, ◌||◌, ◌==◌, not, cond, ◌++◌}
-use Rattle.std.proofs.Common.{None, filter, ◌&&◌, take}
+use Rattle.std.proofs.Common.{ltb, map, replicate, set, slice_get, ◌||◌, ◌==◌, not, cond, ◌++◌, None, filter}
+use Rattle.std.proofs.Common.{◌&&◌, take}
 use Rattle.std.specs.List.{list_any, position_or_len, cons_option, filter_map}
 use Rattle.std.specs.Str.{str_to_ascii_lowercase, is_utf8}
 use Rattle.std.proofs.lemmas.Bool.{cases_Bool, eq-eqb, eqb-true, le-ltb, lt-ltb, ltb-false, ltb-true, ne_eqb}
-use Rattle.std.proofs.lemmas.Bool.{Decides.eqb_tells}
+use Rattle.std.proofs.lemmas.{Bool.Decides.eqb_tells, Grind.get_or-set_at, Slice.Eq.bytes_eq-Decides}
 use Rattle.std.proofs.lemmas.List.{drop-drop, get_or-replicate, get_or-set_other, length-map, length-set}
 use Rattle.std.proofs.lemmas.List.{length-replicate, take-map, take_more}
-use Rattle.std.proofs.lemmas.{Grind.get_or-set_at, Option.get_or_from_slice_get, Option.slice_get-get_or}
-use Rattle.std.proofs.lemmas.{Option.slice_get-map, Option.slice_get_read, Option.slice_get_within}
-use Rattle.std.proofs.lemmas.Slice.{Eq.bytes_eq-Decides}
-use Rattle.texting_robots.specs.Internal.Site.{AreLinked, bucket_of, first_named, is_in}
-use Rattle.texting_robots.specs.Internal.Site.{Named, has_name, in_front, is_of, is_group_of, named_of}
-use Rattle.texting_robots.specs.Internal.Site.{tag_at}
-use Rattle.texting_robots.specs.Internal.Site.{count_after, named, named_from, group_after}
+use Rattle.std.proofs.lemmas.Option.{get_or_from_slice_get, slice_get-get_or, slice_get-map, slice_get_read}
+use Rattle.std.proofs.lemmas.Option.{slice_get_within}
+use Rattle.texting_robots.specs.Internal.Site.{AreLinked, bucket_of, first_named, is_in, Named, has_name}
+use Rattle.texting_robots.specs.Internal.Site.{in_front, is_of, is_group_of, named_of, tag_at, count_after}
+use Rattle.texting_robots.specs.Internal.Site.{named, named_from, group_after}
 use Rattle.texting_robots.specs.declared.site.lines.{KeptLine.KeptLine, AgentLine.AgentLine}
 use Rattle.texting_robots.specs.Agents.{agent_in, agents_in, each_once, is_among}
-use Rattle.texting_robots.specs.{Group.is_member, Line.LineValue, Line.UserAgent, Internal.Group.text_from}
+use Rattle.texting_robots.specs.{Group.is_member, Internal.Group.text_from, Line.LineValue, Line.UserAgent}
 
 -- ---- Lookup by name: the buckets of a hash table, and the lines that iterating over a bucket visits.
 

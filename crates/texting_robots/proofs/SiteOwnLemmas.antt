@@ -1,10 +1,9 @@
 -- Iterating over the lines of a name: what this gives, and where it starts.
-use Rattle.std.specs.Prelude.{filter}
-use Rattle.std.proofs.Common.{◌≡◌, inl, inr, ℕ, zero, suc, ◌+◌, ◌<◌, ◌≤◌, ◌==◌, Bool, true, false, ◌||◌}
-use Rattle.std.proofs.Common.{◌&&◌, List, [], ◌∷◌, ◌++◌, Option, Some, None, length, drop, refl, ap, sym}
-use Rattle.std.proofs.Common.{arith, cond, get_or, slice_get, take, IsPermutation, subst, ltb}
+use Rattle.std.specs.{Prelude.filter, Option.option_to_list}
+use Rattle.std.proofs.Common.{◌≡◌, inl, inr, ℕ, zero, suc, ◌+◌, ◌<◌, ◌≤◌, ◌==◌, Bool, true, false, ◌||◌, ◌&&◌}
+use Rattle.std.proofs.Common.{List, [], ◌∷◌, ◌++◌, Option, Some, None, length, drop, refl, ap, sym, arith}
+use Rattle.std.proofs.Common.{cond, get_or, slice_get, take, IsPermutation, subst, ltb}
 use Rattle.std.specs.List.{All, cons_option, filter_map, list_any}
-use Rattle.std.specs.Option.{option_to_list}
 use Rattle.std.proofs.lemmas.Bool.{eq-eqb, ne_eqb, cases_Bool, le-ltb, lt-ltb, ltb-false, ltb-true}
 use Rattle.std.proofs.{lemmas.Bool.Decides.eqb_tells, Math.Bool.and-false}
 use Rattle.std.proofs.lemmas.List.{Elements.filter_agree, take_more, append-nil, drop-drop}
@@ -13,24 +12,21 @@ use Rattle.texting_robots.specs.{declared.error.Error.Error, Error.IsMemoryError
 use Rattle.texting_robots.specs.declared.error.Error.TheVariants as error
 use Rattle.texting_robots.specs.Group.{group_name, is_agent, is_member}
 use Rattle.texting_robots.specs.{Pattern.IsOverlong, Internal.Group.from_captured}
-use Rattle.texting_robots.specs.{declared.site.lines.ByteRange.ByteRange, declared.site.own.Position.Position}
-use Rattle.texting_robots.specs.Robot.{IsRobotOf, RobotValue}
+use Rattle.texting_robots.specs.declared.site.{lines.ByteRange.ByteRange, own.Position.Position}
+use Rattle.texting_robots.specs.{Robot.IsRobotOf, Robot.RobotValue, Line.LineValue, Line.UserAgent}
 use Rattle.texting_robots.specs.Executable.{captured_delays, captured_lines, file_lines, delay_for}
 use Rattle.texting_robots.specs.Executable.{placed_rules}
 use Rattle.texting_robots.proofs.{CapturedLemmas.captured_walked, ExecutableLemmas.delay_is_computed}
-use Rattle.texting_robots.proofs.{SiteNameLemmas.drop_is}
-use Rattle.texting_robots.proofs.MainTheoremLemmas.{rejected_of, rejection_is_computed}
-use Rattle.texting_robots.proofs.MainTheoremLemmas.{rules_are_computed}
+use Rattle.texting_robots.proofs.SiteNameLemmas.{drop_is, first_here, here, later_at, past_end}
+use Rattle.texting_robots.proofs.SiteNameLemmas.{groups_from_first}
+use Rattle.texting_robots.proofs.MainTheoremLemmas.{rejected_of, rejection_is_computed, rules_are_computed}
 use Rattle.texting_robots.proofs.SiteLemmas.{delay_of_group, given_push, rule_of_group, none_later}
-use Rattle.texting_robots.specs.Line.{LineValue, UserAgent}
 use Rattle.texting_robots.specs.Internal.Site.{Named, Tagged, delay_of, in_front, is_group_of, named, listed}
 use Rattle.texting_robots.specs.Internal.Site.{own_tagged, rejection_at, rule_of, tagged, tagged_from}
-use Rattle.texting_robots.specs.Internal.Site.{first_named, own_at}
-use Rattle.texting_robots.specs.Internal.Site.{AreOfFile, IsWholeWalk, is_later, own_from, has_name}
-use Rattle.texting_robots.proofs.SiteNameLemmas.{first_here, here, later_at, past_end, groups_from_first}
+use Rattle.texting_robots.specs.Internal.Site.{first_named, own_at, AreOfFile, IsWholeWalk, is_later}
+use Rattle.texting_robots.specs.Internal.Site.{own_from, has_name}
 use Rattle.texting_robots.proofs.SiteGroupLemmas.{Ascends, names_ascend, no_names, none_above, of_group}
-use Rattle.texting_robots.proofs.SiteGroupLemmas.{starts}
-use Rattle.texting_robots.proofs.SiteGroupLemmas.{some_names, tagged_ascends}
+use Rattle.texting_robots.proofs.SiteGroupLemmas.{starts, some_names, tagged_ascends}
 
 group_first : (p : ℕ → Bool) (r : ℕ) (tags : List Tagged) → ((q : ℕ) → q ≤ r → p q ≡ false) → Ascends tags
     → filter (λ t. (t.group == r) || p t.group) tags ≡ of_group r tags ++ filter (λ t. p t.group) tags
@@ -177,6 +173,8 @@ pub whole_walk : (name : List ℕ) (position : Position) (names : List Named) (t
 whole_walk name position [] tags first at_zero unnamed some = grind (arith, own_unnamed)
 whole_walk name position (n ∷ names) tags first at_zero unnamed some = grind (arith, own_named, past_end)
 
+-- ---- What all members give, and the members of a group.
+
 added : {X : Type 0} (is_member : Bool) (given : Tagged → Option X) (tag : Tagged) (tags : List Tagged)
     (here : Option X) → given tag ≡ here → (is_member ≡ false → here ≡ None)
     → cons_option here (filter_map given tags)
@@ -233,6 +231,8 @@ given_whole given all name [] tags walk lines named_is tagged_is whole unnamed s
     grind (arith, no_names)
 given_whole given all name (n ∷ names) tags walk lines named_is tagged_is whole unnamed some =
     grind (arith, some_names)
+
+-- ---- Loops of a site, and equal robots.
 
 pub listed_more : (text : List ℕ) (sitemaps : List ByteRange) (i : ℕ) (d : ByteRange) → i < length sitemaps
     → filter_map (listed text) (take (i + 1) sitemaps)

@@ -2,22 +2,21 @@
 use Rattle.std.proofs.Common.{◌≡◌, ℕ, ◌+◌, ◌≤◌, true, List, [], ◌∷◌, Some, arith, drop, get_or, length, map}
 use Rattle.std.proofs.Common.{refl, take, false, sym, ap, ◌∙◌, ◌⊎◌, ◌≢◌, ◌==◌, not, ◌||◌, inl, inr, ◌++◌}
 use Rattle.std.proofs.Common.{rules, cond, if◌then◌else◌, Option, None, length-append, nat_lt}
-use Rattle.std.proofs.lemmas.List.{drop_more, length-map, Sums.take_while-cons, map-append, take-append-drop}
-use Rattle.std.proofs.lemmas.List.{take-map, drop_at}
+use Rattle.std.proofs.lemmas.List.{drop_more, length-map, map-append, take-append-drop, take-map, drop_at}
+use Rattle.std.proofs.lemmas.{List.Sums.take_while-cons, Slice.Eq.bytes_eq-Decides}
 use Rattle.std.specs.{Char.to_ascii_lowercase, Str.bytes_eq, Bool.Decides}
 use Rattle.texting_robots.specs.Internal.Statement.{skip_blanks, after_blanks, after_separator, statement_of}
-use Rattle.texting_robots.specs.Internal.Statement.{after_any, space, kind_by, region_of, value_of}
-use Rattle.texting_robots.specs.Internal.Statement.{begins, tab, hash, tail_of, tail_as, trimmed}
+use Rattle.texting_robots.specs.Internal.Statement.{after_any, space, kind_by, region_of, value_of, begins}
+use Rattle.texting_robots.specs.Internal.Statement.{tab, hash, tail_of, tail_as, trimmed, IsOptionalComment}
 use Rattle.std.proofs.lemmas.Bool.{false_from_ne_true, cases_Bool, cond-true, cond-false, eqb-true, eqb-false}
 use Rattle.std.proofs.lemmas.Bool.{ne_eqb, ltb-true, lt-ltb}
-use Rattle.std.proofs.lemmas.Slice.{Eq.bytes_eq-Decides}
 use Rattle.std.specs.List.{AllByRecursion as Each, Contains}
 use Rattle.std.proofs.lemmas.Option.{option_and_then_some, same_Some, some_pair_parts}
-use Rattle.std.proofs.lemmas.Str.{Ascii.lowercase-lowercase}
+use Rattle.std.proofs.lemmas.Str.Ascii.{lowercase-lowercase}
 use Rattle.std.proofs.lemmas.List.Elements.{All-contains, Contains-append_right}
 use Rattle.texting_robots.specs.declared.parser.statement.Kind.{Kind}
-use Rattle.texting_robots.specs.{Statement.field_names, Internal.Statement.IsOptionalComment}
-use Rattle.texting_robots.specs.Statement.{IsBlank, StartsValue, IsAfterBlanks, IsAfterColon, IsStatement}
+use Rattle.texting_robots.specs.Statement.{field_names, IsBlank, StartsValue, IsAfterBlanks, IsAfterColon}
+use Rattle.texting_robots.specs.Statement.{IsStatement}
 use Rattle.texting_robots.proofs.TrimLemmas.{trimmed_is_trim, is_trimmed, blanks_skipped}
 
 -- ---- A text that has the bytes of a usual field name begins with it.

@@ -1,20 +1,20 @@
 -- Which changes of the lines have no effect.
-use Rattle.std.proofs.Common.{◌≡◌, ◌↔◌, ℕ, ◌+◌, Bool, false, not, ◌||◌, List, [], ◌∷◌, ◌++◌}
-use Rattle.std.proofs.Common.{Option, None, length, drop, filter, cond, codes, zero-add, add-zero, arith, sym}
-use Rattle.std.proofs.Common.{refl, ap, ◌∙◌, subst}
+use Rattle.std.proofs.Common.{◌≡◌, ◌↔◌, ℕ, ◌+◌, Bool, false, not, ◌||◌, List, [], ◌∷◌, ◌++◌, Option, None}
+use Rattle.std.proofs.Common.{length, drop, filter, cond, codes, zero-add, add-zero, arith, sym, refl, ap}
+use Rattle.std.proofs.Common.{◌∙◌, subst}
 use Rattle.std.specs.{List.filter_map, List.list_any, Str.str_to_ascii_lowercase}
 use Rattle.std.proofs.lemmas.Bool.{cases_Bool, false_from_ne_true}
-use Rattle.std.proofs.{lemmas.List.Elements.filter_map-append, lemmas.List.Folds.list_any-append}
-use Rattle.texting_robots.specs.{declared.groups.GroupTracker.GroupTracker}
-use Rattle.texting_robots.specs.{Theorems.IsSameKind, Theorems.Same, Theorems.SameButSitemaps}
-use Rattle.texting_robots.specs.Line.{LineValue, delay_in, is_raw}
-use Rattle.texting_robots.specs.Line.{is_sitemap}
+use Rattle.std.proofs.lemmas.List.{Elements.filter_map-append, Folds.list_any-append}
+use Rattle.texting_robots.specs.declared.groups.GroupTracker.{GroupTracker}
+use Rattle.texting_robots.specs.Theorems.{IsSameKind, Same, SameButSitemaps}
+use Rattle.texting_robots.specs.Line.{LineValue, delay_in, is_raw, is_sitemap}
 use Rattle.texting_robots.specs.Group.{group_name, is_agent, is_agent_named, is_member, IsCaptured}
 use Rattle.texting_robots.specs.Executable.{delay_for, rule_in, rules_for, sitemap_in}
 use Rattle.texting_robots.specs.Internal.Group.{start_of, step}
-use Rattle.texting_robots.proofs.{CapturedLemmas.IsWalkAt, MainTheoremLemmas.rejection_is_computed}
-use Rattle.texting_robots.proofs.CapturedLemmas.{at_front, cond_same, delays_are, given_captured, only_agents}
-use Rattle.texting_robots.proofs.CapturedLemmas.{is_captured_decides, rules_are, occurs_first, occurs_next}
+use Rattle.texting_robots.proofs.CapturedLemmas.{IsWalkAt, at_front, cond_same, delays_are, given_captured}
+use Rattle.texting_robots.proofs.CapturedLemmas.{only_agents, is_captured_decides, rules_are, occurs_first}
+use Rattle.texting_robots.proofs.CapturedLemmas.{occurs_next}
+use Rattle.texting_robots.proofs.MainTheoremLemmas.{rejection_is_computed}
 use Rattle.texting_robots.proofs.RulesLemmas.{before_agent, before_agents}
 
 along : {X : Type 0} (P : X → Type 0) (x y : X) → x ≡ y → P x ↔ P y
@@ -70,6 +70,8 @@ same_alike agent lines others are = same_from agent lines agent others
         ap (λ b. let tracker : GroupTracker = record { captured = not b; named = false } in tracker)
         are.agents in
         same ∙ rw (name, start) refl
+
+-- ---- Lines that change nothing.
 
 pub record IsNeutral (line : LineValue) : Type 0 where
   pub agent : is_agent line ≡ false
@@ -160,6 +162,8 @@ sitemaps_change_nothing_else = same_kept (λ line. not (is_sitemap line)) sitema
 pub agent_case : (agent other : List ℕ) (lines : List LineValue)
     → str_to_ascii_lowercase agent ≡ str_to_ascii_lowercase other → Same agent lines other lines
 agent_case agent other lines same = (same_from agent lines other lines (rw same refl) (rw same refl), refl)
+
+-- ---- Another line of the same kind.
 
 record IsAlike (line other : LineValue) : Type 0 where
   agent : is_agent line ≡ is_agent other

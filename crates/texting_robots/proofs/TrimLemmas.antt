@@ -1,26 +1,26 @@
 -- `trimmed` computes the trim of a raw value, and the trim is unique.
 use Rattle.std.proofs.Common.{◌≡◌, ℕ, zero, suc, ◌+◌, ◌≤◌, ◌<◌, ◌-◌, Bool, true, false, cond, inl, inr, List}
-use Rattle.std.proofs.Common.{[], ◌∷◌, ◌++◌, length, take, drop, sym, refl, ap, ◌∙◌, append_assoc}
-use Rattle.std.proofs.Common.{◌==◌, not, append-nil, arith, bytes_eq, IsTrue, Option, Some, None}
-use Rattle.std.proofs.Common.{length-append, slice_get, get_or}
-use Rattle.std.proofs.Math.{Seq.drop-nil, Utf8.scalars}
-use Rattle.std.specs.{List.AllByRecursion as Each, List.prefix_len, Str.str_to_ascii_lowercase}
-use Rattle.std.specs.{Str.IsUtf8, Str.encode_utf8_all}
+use Rattle.std.proofs.Common.{[], ◌∷◌, ◌++◌, length, take, drop, sym, refl, ap, ◌∙◌, append_assoc, ◌==◌, not}
+use Rattle.std.proofs.Common.{append-nil, arith, bytes_eq, IsTrue, Option, Some, None, length-append}
+use Rattle.std.proofs.Common.{slice_get, get_or}
+use Rattle.std.proofs.{Math.Seq.drop-nil, Math.Utf8.scalars, lemmas.Option.slice_get-get_or}
+use Rattle.std.specs.List.{AllByRecursion as Each, prefix_len}
+use Rattle.std.specs.Str.{str_to_ascii_lowercase, IsUtf8, encode_utf8_all}
 use Rattle.std.specs.Char.{is_ascii_graphic, is_whitespace, encode_utf8, eq_ignore_ascii_case}
 use Rattle.std.proofs.lemmas.Bool.{and_parts, cases_Bool, cond-true, cond-false, Decides.nat_tests}
-use Rattle.std.proofs.lemmas.{List.append_cancel_right, Option.slice_get-get_or}
-use Rattle.std.proofs.lemmas.List.{drop_all, drop_at, drop-append-le, drop-drop, length-drop, length-take}
-use Rattle.std.proofs.lemmas.List.{take-append-drop, take-append-le, take_all, take_at, take_more}
+use Rattle.std.proofs.lemmas.List.{append_cancel_right, drop_all, drop_at, drop-append-le, drop-drop}
+use Rattle.std.proofs.lemmas.List.{length-drop, length-take, take-append-drop, take-append-le, take_all}
+use Rattle.std.proofs.lemmas.List.{take_at, take_more}
 use Rattle.std.proofs.lemmas.Str.{encode_ascii, encodes-append, IsUtf8-encode, IsCharBoundary-start}
 use Rattle.bstr.specs.Utf8.{Decoded, decoded, good, or_replacement, pieces, spans_from, IsLastPiece}
 use Rattle.bstr.specs.Trim.{kept_start, kept_end, trim_start_by, trim_end_by}
 use Rattle.bstr.proofs.lemmas.PieceLemmas.{piece-bounds, spans-first, spans-last, spans-nil, pieces-append}
 use Rattle.bstr.proofs.lemmas.PieceLemmas.{pieces-step, pieces-nil, StartsClean}
 use Rattle.bstr.proofs.lemmas.{EncodeLemmas.decoded-encode, SoundLemmas.SpellsChar-decoded}
-use Rattle.bstr.proofs.lemmas.{TrimLemmas.kept_end-snoc}
+use Rattle.bstr.proofs.lemmas.TrimLemmas.{kept_end-snoc}
 use lib.Utf8.{low_scalar, scalar}
-use Rattle.texting_robots.specs.{Trim.IsSpaces, Trim.IsTrimOf, Statement.IsBlank, Internal.Statement.trimmed}
-use Rattle.texting_robots.specs.Internal.Statement.{hash, region_of, value_of}
+use Rattle.texting_robots.specs.{Trim.IsSpaces, Trim.IsTrimOf, Statement.IsBlank}
+use Rattle.texting_robots.specs.Internal.Statement.{trimmed, hash, region_of, value_of}
 
 abbrev first_char : List ℕ → ℕ
 first_char bytes = or_replacement (decoded bytes).char
@@ -54,7 +54,7 @@ written bytes = at (decoded bytes).char refl
     at None is white = absurd (grind (arith, nat_tests))
     at (Some c) is white = rw is (SpellsChar-decoded bytes c is).bytes
 
--- ---- the start
+-- ---- The start of a value.
 
 shifted : (k n off n' off' : ℕ) (ps : List Decoded) → n' ≡ k + n → off' ≡ k + off
     → kept_start is_whitespace n' (spans_from off' ps)
@@ -119,7 +119,7 @@ started = by_units Started ([], tt, sym (drop-nil _)) (λ bytes some (chars, all
       )
     ])
 
--- ---- the end
+-- ---- The end of a value.
 
 -- where the last character that isn't white space ends
 abbrev end_of : List ℕ → ℕ

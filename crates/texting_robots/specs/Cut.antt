@@ -13,7 +13,6 @@ pub record Pair : Type 0 where
   pub body : List ℕ
   pub ending : List ℕ
 
--- neither CR nor LF
 abbrev pub IsBodyByte : ℕ → Type 0
 IsBodyByte byte = (byte ≢ cr) × (byte ≢ lf)
 
@@ -21,7 +20,6 @@ IsBodyByte byte = (byte ≢ cr) × (byte ≢ lf)
 abbrev pub IsLineEnd : List ℕ → Type 0
 IsLineEnd bytes = (k : ℕ) × ((bytes ≡ replicate k cr) ⊎ (bytes ≡ replicate k cr ++ lf ∷ []))
 
--- the bytes of the pairs, in order
 abbrev pub joined : List Pair → List ℕ
 joined pairs = flat_map (λ pair. pair.body ++ pair.ending) pairs
 

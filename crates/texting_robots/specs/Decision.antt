@@ -1,9 +1,9 @@
 -- Which line decides, and how many looks (counted byte comparisons) this takes.
 use Rattle.std.specs.Prelude.{◌≡◌, ◌≢◌, ◌⊎◌, ℕ, ◌*◌, ◌<◌, ◌≤◌, nat_le, true, false, List, Option, Some, None}
 use Rattle.std.specs.Prelude.{Contains, count_by, length}
-use Rattle.texting_robots.specs.View.{LooksAtMost, ViewValue}
-use Rattle.texting_robots.specs.{declared.decision.Decision.Decision, Pattern.Matches, Rules.PlacedRule}
-use Rattle.texting_robots.specs.{Rules.unplaced, Verdict.IsVerdict, Verdict.robots_file}
+use Rattle.texting_robots.specs.{View.LooksAtMost, View.ViewValue, Rules.PlacedRule, Rules.unplaced}
+use Rattle.texting_robots.specs.{declared.decision.Decision.Decision, Pattern.Matches}
+use Rattle.texting_robots.specs.Verdict.{IsVerdict, robots_file}
 
 -- the rule matches the text, and no matching rule is longer
 pub record IsLongestMatch (rules : List PlacedRule) (text : List ℕ) (placed : PlacedRule) : Type 0 where

@@ -12,7 +12,7 @@ use Rattle.texting_robots.specs.Line.{Disallow, Sitemap, CrawlDelay}
 use Rattle.texting_robots.specs.Pattern.{IsOverlong, Matches, MatchesStars, collapsed}
 use Rattle.texting_robots.specs.declared.parser.statement.Kind.TheVariants as kind
 
--- ---- lines
+-- ---- Lines.
 
 -- CR CR LF is one line terminator, and LF LF are two
 abbrev pub line_ends : Type 0
@@ -123,7 +123,7 @@ no_delay =
     IsDelay [] None × IsDelay (codes ".") None × IsDelay (codes "nan") None × IsDelay (codes "1e") None
     × IsDelay (codes " 5") None
 
--- ---- groups
+-- ---- Groups.
 
 abbrev pub allow_at : ℕ → List ℕ → PlacedRule
 allow_at line pattern = record { rule = (pattern, true); line = line }
@@ -229,7 +229,7 @@ abbrev pub which_delay : Type 0
 which_delay =
     GivesDelay (codes "BobBot") two_delays 5000000 × GivesDelay (codes "BobBot") early_delays 2000000
 
--- ---- patterns
+-- ---- Patterns.
 
 -- a pattern matches a text that begins with it
 abbrev pub beginning : Type 0
@@ -285,7 +285,7 @@ order =
     IsBefore (codes "/ab") (codes "/a") × IsBefore (codes "/a**") (codes "/a*")
     × IsBefore (codes "/a") (codes "/b")
 
--- ---- verdicts
+-- ---- Verdicts, match targets and addresses.
 
 -- the verdict of the rules on the text, and the deciding line
 pub record Answers (rules : List PlacedRule) (text : List ℕ) (answer : Bool) (line : Option ℕ)

@@ -41,7 +41,6 @@ rule_in _ = None
 abbrev pub captured_lines : List ℕ → List LineValue → List (ℕ × LineValue)
 captured_lines name lines = filter (λ p. is_captured name lines p.0) (enumerate_from 0 lines)
 
--- the rule of the line at a position, with the number of the line
 abbrev pub placed_in : ℕ × LineValue → Option PlacedRule
 placed_in p = placed (p.0 + 1) (rule_in p.1)
 
@@ -49,7 +48,6 @@ placed_in p = placed (p.0 + 1) (rule_in p.1)
 abbrev pub placed_rules : List ℕ → List LineValue → List PlacedRule
 placed_rules agent lines = filter_map placed_in (captured_lines (group_name agent lines) lines)
 
--- the captured rules, in order
 abbrev pub rules_for : List ℕ → List LineValue → List Rule
 rules_for agent lines = unplaced (placed_rules agent lines)
 

@@ -39,7 +39,6 @@ IsLineOf line body =
     ((kind : Kind) × (value : List ℕ) × IsStatement kind value body × IsLineWith kind value body line)
     ⊎ (((kind : Kind) (value : List ℕ) → ¬ IsStatement kind value body) × (line ≡ Raw body))
 
--- the text without this byte, if the byte is its first
 abbrev pub without : ℕ → List ℕ → List ℕ
 without byte [] = []
 without byte (first ∷ text) = if first == byte then text else first ∷ text
@@ -66,7 +65,6 @@ abbrev pub AreFileBodiesOf : List (List ℕ) → List ℕ → Type 0
 AreFileBodiesOf bodies text = (pairs : List Pair) × IsCut pairs (without_bom (map nul_as_lf text))
     × (bodies ≡ map (λ pair. pair.body) pairs)
 
--- P holds for the list of the file's lines
 abbrev pub HasLines : List ℕ → (List LineValue → Type 0) → Type 0
 HasLines file P = (lines : List LineValue) × AreFileLinesOf lines file × P lines
 

@@ -36,7 +36,7 @@ MatchesWith anchors (b ∷ q) t = (s : List ℕ) × Consumes anchors b t s × Ma
 abbrev pub Matches : List ℕ → List ℕ → Type 0
 Matches pattern text = MatchesWith true pattern text
 
--- the same with a dollar as an ordinary byte
+-- what a pattern matches with a dollar as an ordinary byte
 abbrev pub MatchesStars : List ℕ → List ℕ → Type 0
 MatchesStars pattern text = MatchesWith false pattern text
 

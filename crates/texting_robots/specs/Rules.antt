@@ -59,7 +59,6 @@ IsRejected agent lines =
 abbrev pub IsFirst : (ℕ → ℕ → Type 0) → ℕ → Type 0
 IsFirst P number = (position : ℕ) × P position number × ((other n : ℕ) → P other n → position ≤ other)
 
--- P holds for the number at some position, and at no later position for any number
 abbrev pub IsLast : (ℕ → ℕ → Type 0) → ℕ → Type 0
 IsLast P number = (position : ℕ) × P position number × ((other n : ℕ) → P other n → other ≤ position)
 

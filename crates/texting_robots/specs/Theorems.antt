@@ -19,7 +19,7 @@ pub record SameButSitemaps (agent : List ℕ) (lines : List LineValue)
   pub delay : delay_for agent lines ≡ delay_for other others
   pub rejection : IsRejected agent lines ↔ IsRejected other others
 
--- and the same sitemaps
+-- all of this, and the same sitemaps
 abbrev pub Same : List ℕ → List LineValue → List ℕ → List LineValue → Type 0
 Same agent lines other others =
     SameButSitemaps agent lines other others × (sitemaps_in lines ≡ sitemaps_in others)

@@ -19,6 +19,7 @@ use percent_encoding::ascii_str;
 use std::alloc::{AllocError, Global};
 use std::marker::Model;
 
+/// The parts of a robot.
 #[derive(Drop)]
 pub(crate) struct Parts {
     pub(crate) delay: Option<u64>,
@@ -35,6 +36,7 @@ impl Model for Parts {
     ghost view = { λ p. record { delay = p.delay; sitemaps = map string_bytes p.sitemaps.items; rules = p.rules } };
 }
 
+/// What the lines read so far give a crawler.
 #[derive(Drop)]
 pub(crate) struct RobotBuilder {
     pub(crate) tracker: GroupTracker,
@@ -44,8 +46,7 @@ pub(crate) struct RobotBuilder {
     pub(crate) rules: RuleTable,
 }
 
-/// The value as a string, if it is UTF-8, and whether some byte of it is escaped. If none is, nothing is
-/// decoded.
+/// The value, if it is UTF-8, and whether some byte has to be escaped. If none has, it is ASCII.
 fn decoded<'a>(value: &'a [u8]) -> Option<(&'a str, bool)>
     ensures { MatchOption result (is_utf8 value.now ≡ false) (λ decoded. (is_utf8 value.now ≡ true)
         × (decoded.0.now ≡ value.now) × (decoded.1 ≡ list_any is_escaped value.now)) }
@@ -69,6 +70,7 @@ pub(crate) fn as_text<'a>(value: &'a [u8]) -> Option<&'a str>
     }
 }
 
+/// Adds the rule of a value, or nothing if that isn't UTF-8.
 fn push_rule(rules: &mut RuleTable, value: &[u8], is_allow: bool, line: usize) -> Result<(), Error>
     requires { AreEntries rules.old }
     ensures known { OnOk result (AreEntries rules.new) }
@@ -117,8 +119,8 @@ impl RobotBuilder {
         }
     }
 
-    /// It allocates only for a rule or a sitemap. If members don't apply here, only lines that may be
-    /// user-agent lines or sitemaps are parsed.
+    /// Reads the next line, for the group `name`. Only a rule or a sitemap is allocated. If members
+    /// don't apply here, only user-agent lines and sitemaps are parsed.
     #[tactic(auto, using(crate::proofs::RulesLemmas::no_sitemap, crate::proofs::RulesLemmas::nothing_in))]
     pub(crate) fn take(
         &mut self,
@@ -173,7 +175,7 @@ impl RobotBuilder {
     }
 }
 
-/// Reads a whole file in two passes. The first finds the crawler's group name, the second what applies to it.
+/// Reads a file in two passes: the first finds the crawler's group name, the second what applies.
 pub(crate) fn read_file(alloc: Global, agent: &str, txt: &[u8]) -> Result<Parts, Error>
     ensures robot { IfOk result (IsComputedRobot agent.now (file_lines txt.now)) }
     ensures rejected { IfErr result (IsMemoryErrorOr (IsFileRejected agent.now txt.now)) }

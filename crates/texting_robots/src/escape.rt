@@ -13,7 +13,7 @@ use std::simd::prelude::*;
 
 const ESCAPED: AsciiSet = ascii_set!(CONTROLS.add(b' ').add(b'"').add(b'<').add(b'>').add(b'`'));
 
-/// From this length on, bytes are tested by a loop that the compiler vectorizes.
+/// More bytes than this are tested by a loop that the compiler vectorizes.
 const MANY_BYTES: usize = 128;
 
 /// The escaped string. It is borrowed if no byte is escaped.
@@ -38,7 +38,7 @@ fn is_escaped(byte: u8) -> bool
         | (byte == b'`')
 }
 
-/// All bytes are tested without an early exit, so that the compiler can vectorize the loop.
+/// Without an early exit, so that the compiler can vectorize the loop.
 fn holds_escaped_among(bytes: &[u8]) -> bool
     ensures { result ≡ list_any is_escaped bytes.now }
 {
@@ -49,7 +49,7 @@ fn holds_escaped_among(bytes: &[u8]) -> bool
     holds
 }
 
-/// `N` bytes are tested at once.
+/// The `N` bytes are tested at once.
 #[inline(always)]
 fn lanes_hold_escaped<const N: usize>(bytes: &[u8]) -> bool
     requires { (length bytes.now ≡ N) × (N ≤ 64) }
@@ -65,7 +65,7 @@ fn lanes_hold_escaped<const N: usize>(bytes: &[u8]) -> bool
     escaped.any()
 }
 
-/// The first and the last `N` bytes, which may overlap.
+/// Tests the first and the last `N` bytes, which may overlap, and are all.
 #[tactic(auto, using(crate::proofs::LabelLemmas::either_end, crate::proofs::LabelLemmas::front_tells))]
 #[inline(always)]
 fn ends_hold_escaped<const N: usize>(bytes: &[u8]) -> bool
@@ -87,8 +87,7 @@ fn few_hold_escaped(bytes: &[u8]) -> bool
     }
 }
 
-/// More than 32 bytes are tested sixteen at a time, with an early exit, and more than `MANY_BYTES` all at
-/// once.
+/// Whether some byte has to be escaped. Up to `MANY_BYTES` are tested sixteen at a time.
 #[inline(never)]
 pub(crate) fn holds_escaped(bytes: &[u8]) -> bool
     ensures { result ≡ list_any is_escaped bytes.now }
@@ -106,6 +105,7 @@ pub(crate) fn holds_escaped(bytes: &[u8]) -> bool
     few_hold_escaped(rest)
 }
 
+/// Appends the byte, escaped if it has to be.
 #[tactic(auto, unfolding(percent_encoding::specs::Percent::percent_encode_byte))]
 #[inline(always)]
 fn push_byte(out: &mut String, byte: u8) -> Result<(), AllocError>
@@ -117,7 +117,7 @@ fn push_byte(out: &mut String, byte: u8) -> Result<(), AllocError>
     out.push_str(percent_encode_byte(byte))
 }
 
-/// Byte by byte, as a call for each escape takes longer.
+/// Appends the escaped bytes one by one, as a call for each escape takes longer.
 #[inline(never)]
 fn push_escapes(out: &mut String, bytes: &[u8]) -> Result<(), AllocError>
     ensures { OnOk result (string_bytes out.new ≡ string_bytes out.old ++ escaped bytes.now) }

@@ -71,6 +71,7 @@ pub(crate) struct GroupTracker {
 }
 
 impl GroupTracker {
+    /// Above all lines. Without user-agent lines all members are captured.
     fn start(has_agents: bool) -> Self
         ensures captured { result.captured ≡ not has_agents }
         ensures named { result.named ≡ false }

@@ -1,5 +1,4 @@
-//! Texts that patterns are matched against. A look, which may be counted, is one comparison of a byte of the
-//! text.
+//! Texts that patterns are matched against. A look, which may be counted, compares one byte.
 ghost use Rattle.std.specs.Prelude.{◌≡◌, ◌≢◌, ℕ, ◌+◌, ◌-◌, ◌<◌, ◌≤◌, ◌↔◌, ◌++◌, List, [], IfNone, IfSome};
 ghost use Rattle.std.specs.Prelude.{IsTrue, MatchOption, codes, drop, length};
 ghost use Rattle.std.specs.Option.{option_map_or};
@@ -22,6 +21,7 @@ pub(crate) struct Near {
     pub(crate) end: usize,
 }
 
+/// A [`View`], whose looks are counted, or an [`Uncounted`] text, for which rules are skipped.
 pub(crate) trait Haystack {
     ghost use Rattle.std.specs.Prelude.{ℕ, List};
     ghost use Rattle.texting_robots.specs.View.{ViewValue};
@@ -59,6 +59,7 @@ pub(crate) trait Haystack {
         ensures answer { Meets prefilter (seen self.old).text → IsTrue result }
         ensures same { seen self.new ≡ seen self.old };
 
+    /// What is left after the segment, if the text begins with it.
     fn begins_with(&mut self, segment: &[u8]) -> Option<Self::Rest>
         ensures none { IfNone result ((following : List ℕ) → (seen self.old).text ≢ segment.now ++ following) }
         ensures some { IfSome result (λ rest. is_rest rest (seen self.old).text
@@ -172,7 +173,8 @@ fn occurs_at(view: &mut View<'_>, at: usize, segment: &[u8]) -> bool
     true
 }
 
-/// A text whose looks aren't counted, with its first eight bytes as a number, and its bigrams once they were requested.
+/// A text whose looks aren't counted, with its first eight bytes as a number, and its bigrams once
+/// they were requested.
 #[derive(Drop)]
 pub(crate) struct Uncounted<'a> {
     text: &'a [u8],
@@ -202,7 +204,7 @@ impl<'a> Uncounted<'a> {
         }
     }
 
-    /// They are computed once.
+    /// The bigrams of the text, computed once.
     fn pairs(&mut self) -> BigramSet
         ensures pairs { result.bits ≡ pair_set self.old }
         ensures same { self.new ≡ self.old }

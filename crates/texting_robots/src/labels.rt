@@ -50,8 +50,8 @@ pub struct LabeledLineIter<'n, 'a> {
 impl<'n, 'a> Model for LabeledLineIter<'n, 'a> {
     ghost use Rattle.std.specs.Prelude.{◌≡◌, ◌+◌, ◌<◌, ◌^◌, List, length, map};
     ghost use Rattle.std.specs.{Option.IfSome, Str.str_to_ascii_lowercase};
-    ghost use Rattle.texting_robots.specs.{Labels.Label, Internal.Line.line_of};
-    ghost use Rattle.texting_robots.specs.Internal.Group.{captured_ahead, labels_from};
+    ghost use Rattle.texting_robots.specs.Labels.{Label};
+    ghost use Rattle.texting_robots.specs.Internal.{Line.line_of, Group.captured_ahead, Group.labels_from};
 
     ghost Value = { List Label };
 
@@ -62,6 +62,7 @@ impl<'n, 'a> Model for LabeledLineIter<'n, 'a> {
         ≡ known) };
 }
 
+/// `captured`: members apply here; `begun`: this line or one above is a user-agent line.
 fn membership_of(captured: bool, begun: bool, line: Line<'_>) -> Membership
     ensures { result ≡ membership_by captured begun (by_value line.entry) }
 {
@@ -105,8 +106,8 @@ impl<'n, 'a> Iterator for LabeledLineIter<'n, 'a> {
 /// The lines of the file `txt`, each with its number and its membership for the crawler with the product token `agent`.
 /// It doesn't allocate, and there are no more lines than bytes.
 ///
-/// All bytes are read, while a robot reads the first [`FILE_LIMIT`](crate::robot::FILE_LIMIT). To compare these lines
-/// with the rules or decisions of a robot, pass the same first bytes of the file.
+/// All bytes are read, while a robot reads the first [`FILE_LIMIT`](crate::robot::FILE_LIMIT). To compare
+/// these lines with a robot's rules or decisions, pass the same bytes.
 pub fn labeled_lines<'n, 'a>(agent: &'n str, txt: &'a [u8]) -> LabeledLineIter<'n, 'a>
     ensures labels { result ≡ labels_of (group_name agent.now (file_lines txt.now)) (file_bodies txt.now) }
     ensures count { length result ≤ length txt.now }

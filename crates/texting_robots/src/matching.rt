@@ -46,6 +46,7 @@ impl<'a> Pattern<'a> {
     }
 }
 
+/// Whether the rest of a text is as the ending of the pattern demands.
 fn ends_as<A: Haystack>(haystack: &mut A, rest: A::Rest, pattern: &[u8], ending: Ending) -> bool
     requires rest { A.is_rest rest (A.seen haystack.old).text }
     requires ending { IsEnding pattern.now ending }

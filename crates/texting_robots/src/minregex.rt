@@ -1,11 +1,10 @@
 //! Patterns of rules: `*` matches any bytes, and `$` matches at the end of the text.
-ghost use Rattle.std.specs.Prelude.{◌≡◌, ◌+◌, ◌*◌, ◌↔◌, ◌==◌, IsTrue, IfErr, IfOk, OnOk};
-ghost use Rattle.std.specs.Prelude.{length, string_bytes};
+ghost use Rattle.std.specs.Prelude.{◌≡◌, ◌+◌, ◌*◌, ◌↔◌, ◌==◌, IsTrue, IfErr, IfOk, OnOk, length};
+ghost use Rattle.std.specs.Prelude.{string_bytes};
 ghost use Rattle.std.specs.Cmp.{partial_order_from_own_ties, Lexicographic.pointwise, Rules.comparing};
-ghost use Rattle.std.specs.Ordering.{as_partial_cmp, on};
-ghost use Rattle.std.proofs.{Common.rules};
-ghost use Rattle.texting_robots.specs.{Internal.Segments.IsCutAtStar, Error.IsMemoryErrorOr, Order.IsBefore};
-ghost use Rattle.texting_robots.specs.{Order.pattern_cmp, View.LooksAtMost};
+ghost use Rattle.std.{specs.Ordering.as_partial_cmp, specs.Ordering.on, proofs.Common.rules};
+ghost use Rattle.texting_robots.specs.{Internal.Segments.IsCutAtStar, Error.IsMemoryErrorOr};
+ghost use Rattle.texting_robots.specs.{Order.IsBefore, Order.pattern_cmp, View.LooksAtMost};
 ghost use Rattle.texting_robots.specs.Pattern.{IsOverlong, Matches, MatchesStars, collapsed};
 
 use crate::error::Error;
@@ -26,6 +25,7 @@ pub struct MinRegex {
     collapsed_text: String,
     ends: Ends,
     segments: Vec<Segment>,
+    /// The failure tables of the segments.
     borders: Vec<u32>,
 }
 
@@ -114,8 +114,8 @@ impl MinRegex {
             .matches(&mut Uncounted::new(text.as_bytes()))
     }
 
-    /// The same for the argument `pattern`, with `$` as an ordinary byte. `self` isn't used. It doesn't
-    /// allocate.
+    /// Whether `pattern` matches from the start of the text, with `$` as an ordinary byte. `self`
+    /// isn't used. It doesn't allocate.
     pub fn match_stars(&self, pattern: &[u8], text: &[u8]) -> bool
         ensures { IsTrue result ↔ MatchesStars pattern.now text.now }
     {
@@ -218,6 +218,7 @@ fn collapse_stars(alloc: Global, pattern: &str) -> Result<String, AllocError>
     Ok(text)
 }
 
+/// What is before the first star, and what is after it, if there is one.
 fn cut_at_star(pattern: &[u8]) -> (&[u8], Option<&[u8]>)
     ensures { IsCutAtStar pattern.now result.0.now result.1 }
 {

@@ -1,20 +1,18 @@
 //! Absolute URLs that the crate `url` would leave unchanged. Their match target is their last part, so it can be
 //! borrowed.
-ghost use Rattle.std.specs.Prelude.{◌≡◌, ◌<◌, ◌≤◌, ◌≢◌, ◌↔◌, false, true, length, map, slice_index};
-ghost use Rattle.std.specs.Prelude.{IfSome, IsTrue};
-ghost use Rattle.std.specs.Char.{is_ascii_lowercase};
-ghost use Rattle.std.specs.List.{prefix_len};
-ghost use Rattle.std.specs.Simd.Lanes.{Each1};
+ghost use Rattle.std.specs.Prelude.{◌≡◌, ◌<◌, ◌≤◌, ◌≢◌, ◌↔◌, false, true, length, map, slice_index, IfSome};
+ghost use Rattle.std.specs.Prelude.{IsTrue};
+ghost use Rattle.std.specs.{Char.is_ascii_lowercase, List.prefix_len, Simd.Lanes.Each1};
 ghost use Rattle.url.specs.{Input.rsplit_once, Path.dot_count, Path.dot_len};
 ghost use Rattle.texting_robots.specs.Prepared.{prepared};
-ghost use Rattle.texting_robots.specs.Internal.Normalized.{after, after_delimited, begins_dotted, begins_plainly, kept_prefix};
-ghost use Rattle.texting_robots.specs.Internal.Normalized.{IsAuthority, IsOther, IsPath, IsPort, IsSite};
-ghost use Rattle.texting_robots.specs.Internal.Normalized.{IsTarget, Leaves, is_kept};
+ghost use Rattle.texting_robots.specs.Internal.Normalized.{after, after_delimited, begins_dotted};
+ghost use Rattle.texting_robots.specs.Internal.Normalized.{begins_plainly, kept_prefix, IsAuthority, IsOther};
+ghost use Rattle.texting_robots.specs.Internal.Normalized.{IsPath, IsPort, IsSite, IsTarget, Leaves, is_kept};
 
 use std::simd::prelude::*;
 
 /// One bit for each upper half of an ASCII byte. The tables below are sets of bytes that `url` leaves
-/// unchanged in a part of a URL. A table is indexed by the lower half of a byte, and has the bits of the
+/// unchanged in a `part` of a URL. A table is indexed by the lower half of a byte, and has the bits of the
 /// upper halves with which the byte is in the set.
 const UPPER: &[u8; 16] = &[1, 2, 4, 8, 16, 32, 64, 128, 0, 0, 0, 0, 0, 0, 0, 0];
 
@@ -41,6 +39,7 @@ const FRAGMENT: &[u8; 16] = &[
 
 const NUMBER: &[u8; 16] = &[8, 8, 8, 8, 8, 8, 8, 8, 8, 8, 0, 0, 0, 0, 0, 0];
 
+/// The entries of the table at these places.
 fn looked_up(table: &[u8; 16], places: u8x16) -> u8x16
     requires { Each1 (λ k. k < 16) places }
     ensures { result ≡ map (slice_index table.now) places }
@@ -48,6 +47,7 @@ fn looked_up(table: &[u8; 16], places: u8x16) -> u8x16
     u8x16::from_array(*table).swizzle_dyn_within::<16>(places)
 }
 
+/// How many of the sixteen bytes precede the first that isn't in the set `part`.
 fn prefix_len_in_sixteen(part: &[u8; 16], bytes: u8x16) -> usize
     ensures { result ≡ prefix_len (is_kept part.now) bytes }
 {
@@ -61,7 +61,7 @@ fn prefix_len_in_sixteen(part: &[u8; 16], bytes: u8x16) -> usize
     }
 }
 
-/// It isn't inlined, so that the buffer for the bytes is only needed if it is called.
+/// How many leading bytes of fewer than sixteen are in the set. Not inlined, as it has a buffer.
 #[inline(never)]
 fn front_len(part: &[u8; 16], text: &[u8]) -> usize
     requires { length text.now < 16 }
@@ -73,6 +73,7 @@ fn front_len(part: &[u8; 16], text: &[u8]) -> usize
     prefix_len_in_sixteen(part, u8x16::from_array(bytes)).min(text.len())
 }
 
+/// The text without its leading bytes in the set.
 #[tactic(auto, using(crate::proofs::NormalizedLemmas::after_few, crate::proofs::NormalizedLemmas::after_all))]
 fn after<'a>(part: &[u8; 16], text: &'a [u8]) -> &'a [u8]
     ensures { result.now ≡ after part.now text.now }
@@ -88,6 +89,7 @@ fn after<'a>(part: &[u8; 16], text: &'a [u8]) -> &'a [u8]
     &rest[front_len(part, rest)..]
 }
 
+/// The leading bytes in the set, and what follows them.
 fn split<'a>(part: &[u8; 16], text: &'a [u8]) -> (&'a [u8], &'a [u8])
     ensures front { result.0.now ≡ kept_prefix part.now text.now }
     ensures rest { result.1.now ≡ after part.now text.now }
@@ -114,6 +116,7 @@ fn begins_with_letter(text: &[u8]) -> bool
     }
 }
 
+/// Neither with a plus, nor with a zero before another digit.
 fn begins_plainly(digits: &[u8]) -> bool
     ensures { result ≡ begins_plainly digits.now }
 {
@@ -123,7 +126,7 @@ fn begins_plainly(digits: &[u8]) -> bool
     }
 }
 
-/// Few URLs have a port, so it isn't inlined either.
+/// If true, it is a port other than `own`, as `url` writes it. Not inlined, as few URLs have one.
 #[inline(never)]
 fn is_port(own: u16, digits: &[u8]) -> bool
     ensures { IsTrue result → IsOther own digits.now }
@@ -137,7 +140,7 @@ fn is_port(own: u16, digits: &[u8]) -> bool
     }
 }
 
-/// `None` if the port isn't as `url` writes it, or is the scheme's default port, `own`.
+/// What follows a port, if any. `None` if it is the default, `own`, or `url` might change it.
 fn after_port(own: u16, text: &[u8]) -> Option<&[u8]>
     ensures { IfSome result (λ rest. Leaves (IsPort own) text.now rest.now) }
 {
@@ -152,6 +155,7 @@ fn after_port(own: u16, text: &[u8]) -> Option<&[u8]>
     }
 }
 
+/// What follows a host and a port. `None` if `url` may write them otherwise.
 #[inline(always)]
 fn after_authority(own: u16, text: &[u8]) -> Option<&[u8]>
     ensures { IfSome result (λ rest. Leaves (IsAuthority own) text.now rest.now) }
@@ -164,6 +168,7 @@ fn after_authority(own: u16, text: &[u8]) -> Option<&[u8]>
     }
 }
 
+/// What follows scheme, host and port. `None` if `url` may write them otherwise.
 fn after_site(url: &[u8]) -> Option<&[u8]>
     ensures { IfSome result (λ rest. Leaves IsSite url.now rest.now) }
 {
@@ -195,6 +200,7 @@ fn is_dots(segment: &[u8]) -> bool
     dot != 0 && dot_len(rest) == rest.len()
 }
 
+/// With a dot, or with an escape, which may be one.
 fn begins_dotted(text: &[u8]) -> bool
     ensures { result ≡ begins_dotted text.now }
 {
@@ -249,6 +255,7 @@ fn after_path(text: &[u8]) -> Option<&[u8]>
     Some(rest)
 }
 
+/// What follows the delimiter and bytes of the set; all, if the text has no such delimiter.
 fn after_delimited<'a>(delimiter: u8, part: &[u8; 16], text: &'a [u8]) -> &'a [u8]
     ensures { result.now ≡ after_delimited delimiter part.now text.now }
 {
@@ -258,6 +265,7 @@ fn after_delimited<'a>(delimiter: u8, part: &[u8; 16], text: &'a [u8]) -> &'a [u
     }
 }
 
+/// If true, it is a path, query and fragment that `url` leaves unchanged.
 fn is_target(text: &[u8]) -> bool
     ensures { IsTrue result → IsTarget text.now }
 {

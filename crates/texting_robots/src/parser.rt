@@ -73,6 +73,7 @@ impl<'a> Line<'a> {
 #[derive(Drop)]
 pub(crate) struct LazyLine<'a> {
     body: &'a [u8],
+    /// Without leading spaces and tabs.
     text: &'a [u8],
     /// Determined by the first letter of `text`.
     kind: Option<Kind>,
@@ -127,6 +128,7 @@ impl<'a> LazyLine<'a> {
         }
     }
 
+    /// Whether it is a user-agent line that names the crawler.
     #[tactic(auto, using(crate::proofs::AgentLemmas::no_agent))]
     #[inline(always)]
     fn names(&self, agent: &[u8]) -> bool
@@ -138,6 +140,7 @@ impl<'a> LazyLine<'a> {
         }
     }
 
+    /// Parses the line.
     #[tactic(auto, using(crate::proofs::LineLemmas::line_read, crate::proofs::LineLemmas::line_without_tail, crate::proofs::LineLemmas::line_without_kind))]
     #[inline(always)]
     pub(crate) fn read(&self) -> Line<'a>
@@ -153,7 +156,7 @@ impl<'a> LazyLine<'a> {
     }
 }
 
-/// `nul_ends` determines whether NUL is read as LF.
+/// The content of the first line, and the later lines. If `nul_ends`, NUL is read as LF.
 #[inline(always)]
 pub(crate) fn split_line<'a>(text: &'a [u8], nul_ends: bool) -> (&'a [u8], &'a [u8])
     requires { 0 < length text.now }
@@ -215,7 +218,7 @@ impl<'a> Model for LazyLines<'a> {
 }
 
 impl<'a> LazyLines<'a> {
-    /// Lines that can't be user-agent lines are skipped many bytes at a time.
+    /// Whether a user-agent line names the crawler. Other lines are skipped many bytes at a time.
     pub(crate) fn name_agent(&self, agent: &[u8]) -> bool
         ensures { result ≡ is_named agent.now self.now }
     {
@@ -284,6 +287,7 @@ impl<'a> Iterator for LineIter<'a> {
     }
 }
 
+/// Drops a leading EF, then BB, then BF: a byte order mark or a part of one.
 pub(crate) fn without_bom<'a>(text: &'a [u8]) -> &'a [u8]
     ensures value { result.now ≡ without_bom text.now }
     ensures end { (front : List ℕ) × (text.now ≡ front ++ result.now) }
@@ -348,6 +352,7 @@ pub fn file_lines<'a>(input: &'a [u8]) -> LineIter<'a>
     }
 }
 
+/// The line of a directive, or `Raw` if its delay can't be read.
 #[tactic(auto, using(crate::proofs::DelayLemmas::is_delay_of))]
 #[inline(always)]
 fn line_with<'a>(kind: Kind, value: &'a [u8], body: &'a [u8]) -> Line<'a>

@@ -32,7 +32,7 @@ impl Prefilter {
     }
 }
 
-/// Of a long segment only both ends count, as more bytes would rarely add a bigram that isn't in the set yet.
+/// Bigrams of a segment: of a long one those of its ends, as others are rarely new.
 fn end_pairs(segment: &[u8]) -> BigramSet
     ensures { AreWithin result.bits (pair_set segment.now) }
 {
@@ -43,6 +43,7 @@ fn end_pairs(segment: &[u8]) -> BigramSet
     BigramSet::of(segment)
 }
 
+/// The bigrams of what a text has to end with.
 fn ending_pairs(pattern: &[u8], ending: Ending) -> BigramSet
     requires { IsEnding pattern.now ending }
     ensures { result.bits ≡ ending_pairs pattern.now ending }
@@ -53,7 +54,7 @@ fn ending_pairs(pattern: &[u8], ending: Ending) -> BigramSet
     }
 }
 
-/// All eight masks are tested without an early exit, since usually none is a subset.
+/// Whether none of eight masks is a subset of the text's bigrams. No early exit, as that is usual.
 fn are_apart(masks: &[u64], from: usize, text: u64) -> bool
     requires { from + 8 ≤ length masks.now }
     ensures { result ≡ true → AreApart masks.now text from (from + 8) }

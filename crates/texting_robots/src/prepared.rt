@@ -1,6 +1,5 @@
 //! Match targets: what patterns are compared with.
-ghost use Rattle.std.specs.Prelude.{◌≡◌, IfOk, string_bytes};
-ghost use Rattle.std.specs.Cow.{cow_str_bytes};
+ghost use Rattle.std.specs.{Prelude.◌≡◌, Prelude.IfOk, Prelude.string_bytes, Cow.cow_str_bytes};
 ghost use Rattle.texting_robots.specs.Prepared.{prepared, target_of};
 
 use crate::escape::escaped;
@@ -38,7 +37,7 @@ pub fn match_target(alloc: Global, url: &str) -> Result<String, AllocError>
     prepare(alloc, url)?.into_owned(alloc)
 }
 
-/// In the allocation of the URL.
+/// The match target, in the allocation of the URL.
 fn into_target(url: Url) -> Result<String, AllocError>
     ensures { IfOk result (λ text. string_bytes text ≡ target_of url) }
 {
@@ -48,7 +47,7 @@ fn into_target(url: Url) -> Result<String, AllocError>
     Ok(text)
 }
 
-/// The path, query and fragment are adjacent at the end of a URL.
+/// The path, query and fragment, which are adjacent at the end of a URL.
 pub(crate) fn target(url: &Url) -> &str
     ensures { result.now ≡ target_of url.now }
 {

@@ -1,9 +1,9 @@
-//! The robot.
+//! The robot: it reads a file for one crawler, and answers whether a URL may be fetched.
 ghost use Rattle.std.specs.Prelude.{◌≡◌, ◌≢◌, ◌+◌, ◌*◌, ◌<◌, ◌≤◌, ◌^◌, IfErr, IfOk, IsOk, None, length, take};
 ghost use Rattle.std.specs.Prelude.{string_bytes};
-ghost use Rattle.texting_robots.specs.{Cost.cost_of, Error.IsMemoryErrorOr, Line.HasLines, Prepared.prepared};
-ghost use Rattle.texting_robots.specs.{Prepared.target_of, View.LooksAtMost};
-ghost use Rattle.texting_robots.specs.{Verdict.IsVerdict, Verdict.robots_file, View.seen_of};
+ghost use Rattle.texting_robots.specs.{Cost.cost_of, Error.IsMemoryErrorOr, Line.HasLines};
+ghost use Rattle.texting_robots.specs.{Prepared.prepared, Prepared.target_of, View.LooksAtMost, View.seen_of};
+ghost use Rattle.texting_robots.specs.Verdict.{IsVerdict, robots_file};
 ghost use Rattle.texting_robots.specs.Decision.{IsDecidingLine, IsDecisionOn, LooksForRules};
 ghost use Rattle.texting_robots.specs.Robot.{IsFileRejected, IsRobotOfFile, file_limit};
 ghost use Rattle.texting_robots.specs.Rules.{HasNoRulesOrSitemaps, unplaced};
@@ -51,8 +51,8 @@ impl Robot {
     /// # Errors
     ///
     /// `Error::InvalidRule` if a rule that applies to this crawler, in UTF-8, contains `$` and has more than
-    /// 4,096 bytes, escaped and with each run of stars counted as one. The caller decides how to treat a file
-    /// that it can't use. `Error::Memory` if an allocation fails.
+    /// 4,096 bytes, escaped and with each run of stars counted as one. `Error::Memory` if
+    /// an allocation fails.
     pub fn new(alloc: Global, agent: &str, txt: &[u8]) -> Result<Self, Error>
         ensures robot { IfOk result (IsRobotOfFile agent.now (take file_limit txt.now)) }
         ensures rejected { IfErr result (IsMemoryErrorOr (IsFileRejected agent.now (take file_limit txt.now))) }
@@ -83,7 +83,7 @@ impl Robot {
     }
 
     /// How many bytes of memory it takes: its own size and the capacities of its vectors. Only a bound is
-    /// proved; tests compare the number with what was allocated.
+    /// proved.
     pub fn bytes(&self) -> usize
         ensures { seen_of (64 * length self.now.rules) ≤ result }
     {
@@ -114,10 +114,9 @@ impl Robot {
     }
 
     /// Whether the crawler may fetch a URL, or a path alone. Any other string is matched as described at
-    /// [`Robot::prepare_url`]. As tests show, it doesn't allocate for a path of which nothing is escaped. Nor
-    /// does it for an absolute `http` or `https` URL with a host name, the last label of which begins with a
-    /// letter, and without a user, that `url` would leave unchanged, or to which it would only add a missing
-    /// slash at the end.
+    /// [`Robot::prepare_url`]. As tests show, it doesn't allocate for a path without bytes to escape, nor for
+    /// an `http` or `https` URL without a user that `url` would leave unchanged, but for a missing last
+    /// slash, and whose host is a name with a last label that begins with a letter.
     ///
     /// # Errors
     ///
@@ -179,7 +178,8 @@ impl Robot {
         self.decision(view).allowed
     }
 
-    /// The same, and the line that decides. It doesn't allocate. The bound on its looks is the same.
+    /// The verdict of [`Robot::allowed_view`], with its bound on looks, and the deciding line. It
+    /// doesn't allocate.
     pub fn decision(&self, view: &mut View<'_>) -> Decision
         ensures verdict { IsVerdict (unplaced self.now.rules) view.old.text result.allowed }
         ensures line { IsDecidingLine self.now.rules view.old.text result.line }
@@ -215,8 +215,8 @@ impl Robot {
         self.rules.decision_within(view, None, budget)
     }
 
-    /// The same for a view of `text`. A rule with a pair of adjacent bytes after a `*` that the text doesn't contain
-    /// is usually passed over, and counts as one look. Reading the text once for its pairs isn't counted.
+    /// [`Robot::decision_within`] for a view of `text`. A rule with a pair of bytes after a `*` that
+    /// isn't in the text is usually passed over, as one look. Finding pairs isn't counted.
     ///
     /// # Errors
     ///

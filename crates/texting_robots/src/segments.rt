@@ -49,7 +49,7 @@ impl Span {
     }
 }
 
-/// A number with more than 32 bits doesn't fit into memory as rules are kept.
+/// A number in 32 bits, as rules are kept. One that has more counts as a lack of memory.
 pub(crate) fn narrow(number: usize) -> Result<u32, AllocError>
     ensures { IfOk result (λ narrow. narrow ≡ number) }
 {
@@ -132,7 +132,7 @@ fn is_wildcard(byte: u8) -> bool
     byte == STAR || byte == DOLLAR
 }
 
-/// The first `N` bytes are compared at once.
+/// The index of the first wildcard in the first `N` bytes, or `N`. They are compared at once.
 #[inline(always)]
 fn wildcard_in<const N: usize>(pattern: &[u8]) -> usize
     requires { (N ≤ length pattern.now) × (N ≤ 64) }
@@ -143,7 +143,7 @@ fn wildcard_in<const N: usize>(pattern: &[u8]) -> usize
     first_lane(labels.to_bitmask(), N)
 }
 
-/// The first and then the last `N` bytes, which may overlap.
+/// The first and then the last `N` bytes, which may overlap, and are all.
 #[tactic(auto, using(crate::proofs::LaneLemmas::first_seen, crate::proofs::LaneLemmas::last_seen, crate::proofs::LaneLemmas::within_front))]
 #[inline(always)]
 fn wildcard_by_ends<const N: usize>(pattern: &[u8]) -> usize
@@ -172,7 +172,7 @@ fn wildcard_in_few(pattern: &[u8]) -> usize
     }
 }
 
-/// More than 32 bytes are compared sixteen at a time.
+/// The index of the first wildcard, or the length. Many bytes are compared sixteen at a time.
 fn first_wildcard(pattern: &[u8]) -> usize
     ensures { result ≡ position_or_len is_wildcard pattern.now }
 {
@@ -187,6 +187,7 @@ fn first_wildcard(pattern: &[u8]) -> usize
     pattern.len() - rest.len() + wildcard_in_few(rest)
 }
 
+/// What precedes the first wildcard, and what begins with it.
 #[tactic(auto, using(crate::proofs::SegmentLemmas::cut_at_first))]
 fn cut_at_wildcard(pattern: &[u8]) -> (&[u8], &[u8])
     ensures { IsCutAtWildcard pattern.now result.0.now result.1.now }
@@ -194,7 +195,7 @@ fn cut_at_wildcard(pattern: &[u8]) -> (&[u8], &[u8])
     pattern.split_at(first_wildcard(pattern))
 }
 
-/// Counted one by one.
+/// How many leading stars there are, counted one by one.
 fn few_stars_len(pattern: &[u8]) -> usize
     ensures value { result ≡ prefix_len (λ b. b == star) pattern.now }
     ensures within { result ≤ length pattern.now }
@@ -202,7 +203,7 @@ fn few_stars_len(pattern: &[u8]) -> usize
     pattern.iter().take_while(|b| **b == STAR).count()
 }
 
-/// Many are counted `LANES` at a time.
+/// How many leading stars there are; many are counted `LANES` at a time.
 fn stars_len(pattern: &[u8]) -> usize
     ensures value { result ≡ prefix_len (λ b. b == star) pattern.now }
     ensures within { result ≤ length pattern.now }
@@ -220,6 +221,7 @@ fn only_wildcards(pattern: &[u8]) -> bool
     pattern.iter().all(|b| is_wildcard(*b))
 }
 
+/// Whether it matches only the end of a text: a dollar and then only wildcards.
 #[tactic(auto, using(crate::proofs::SegmentLemmas::only_wildcards_match, std::proofs::lemmas::Slice::Eq::strip_prefix_is))]
 fn closes(pattern: &[u8]) -> bool
     ensures { IsTrue result ↔ Closes pattern.now }
@@ -230,7 +232,7 @@ fn closes(pattern: &[u8]) -> bool
     }
 }
 
-/// Each run of stars counts as one.
+/// The length, with each run of stars counted as one.
 #[tactic(auto, using(crate::proofs::CollapseLemmas::length_last, crate::proofs::CollapseLemmas::length_plain, crate::proofs::CollapseLemmas::star_starts, crate::proofs::CollapseLemmas::length_merged, crate::proofs::CollapseLemmas::length_none))]
 fn collapsed_len(pattern: &[u8]) -> usize
     ensures { result ≡ length (collapsed pattern.now) }

@@ -1,16 +1,16 @@
-//! A site.
+//! A site: a file that is read once, and the robots, rules, names and sitemaps that it gives.
 ghost use Rattle.std.specs.Prelude.{◌≡◌, ◌≤◌, ◌++◌, [], All, IfErr, IfOk, IsOk, None, OnOk, length, map};
 ghost use Rattle.std.specs.Prelude.{slice_get, string_bytes, take};
 ghost use Rattle.std.specs.List.{filter_map, list_any};
 ghost use Rattle.std.specs.{Option.option_to_list, Str.str_to_ascii_lowercase};
-ghost use Rattle.texting_robots.specs.{Agents.agents_in, Line.HasLines, Line.by_value};
-ghost use Rattle.texting_robots.specs.{Labels.is_named, Pattern.IsOverlong};
-ghost use Rattle.texting_robots.specs.{Robot.IsRobotOfFile, Robot.IsRobotWithoutSitemaps, Robot.file_limit};
+ghost use Rattle.texting_robots.specs.{Agents.agents_in, Labels.is_named, Pattern.IsOverlong};
+ghost use Rattle.texting_robots.specs.{Line.HasLines, Line.by_value, Group.group_name, Group.is_agent};
+ghost use Rattle.texting_robots.specs.Robot.{IsRobotOfFile, IsRobotWithoutSitemaps, file_limit};
 ghost use Rattle.texting_robots.specs.Executable.{captured_delays, file_lines, placed_rules, sitemap_in};
 ghost use Rattle.texting_robots.specs.Executable.{IsRejectionOf, sitemaps_in};
-ghost use Rattle.texting_robots.specs.Group.{group_name, is_agent};
 ghost use Rattle.texting_robots.specs.Rules.{AreRulesFor, AreSitemapsOf, HasNoRulesOrSitemaps, IsDelayFor};
-ghost use Rattle.texting_robots.specs.Internal.{Segments.AreEntries, Segments.rules_in, Group.text_from, Site.rejection_at};
+ghost use Rattle.texting_robots.specs.Internal.Segments.{AreEntries, rules_in};
+ghost use Rattle.texting_robots.specs.Internal.{Group.text_from, Site.rejection_at};
 ghost use Rattle.texting_robots.specs.OwnLines.{delay_of, rule_of};
 
 mod lines;
@@ -32,7 +32,7 @@ pub use rules::{SiteRule, SiteRules};
 use std::alloc::{AllocError, Global};
 use std::marker::Model;
 
-/// A robots.txt file that is read once for many crawlers. It has a copy of the bytes that were read, the names in
+/// A robots.txt file that is read once for many crawlers. It has a copy of the bytes, the names in
 /// user-agent lines, and the position of each Allow, Disallow, Crawl-delay and sitemap.
 #[derive(Drop)]
 pub struct Site {
@@ -41,7 +41,7 @@ pub struct Site {
     lines: Vec<KeptLine>,
     names: NameIndex,
     sitemaps: Vec<ByteRange>,
-    /// The last one above the first user-agent line.
+    /// The last delay above the first user-agent line.
     early: Option<u64>,
 }
 
@@ -204,6 +204,7 @@ impl Site {
         }
     }
 
+    /// The crawler's rules in file order, or the first one that is too long.
     fn own_rules(&self, alloc: Global, agent: &str) -> Result<RuleTable, RobotError>
         ensures known { IfOk result AreEntries }
         ensures rules { IfOk result (λ own. rules_in own ≡ placed_rules agent.now (file_lines self.now)) }
@@ -252,6 +253,7 @@ impl Site {
         Ok(Robot { sitemaps, ..robot })
     }
 
+    /// The first delay in the crawler's groups.
     fn own_delay(&self, agent: &str) -> Option<u64>
         ensures { result ≡ slice_get (captured_delays agent.now (file_lines self.now)) 0 }
     {
@@ -273,6 +275,7 @@ impl Site {
         self.own_delay(agent).or(self.early)
     }
 
+    /// A copy of the sitemaps, for a robot.
     fn all_sitemaps(&self, alloc: Global) -> Result<Vec<String>, AllocError>
         ensures sitemaps { IfOk result (λ sitemaps. map string_bytes sitemaps.items ≡ sitemaps_in (file_lines self.now)) }
         ensures without_memory { sitemaps_in (file_lines self.now) ≡ [] → IsOk result }

@@ -79,7 +79,7 @@ impl<'a> View<'a> {
         self.text == "/robots.txt"
     }
 
-    /// At most `u64::MAX`.
+    /// How many looks were taken, at most `u64::MAX`.
     pub fn seen(&self) -> u64
         ensures { result ≡ seen_of self.now.looks }
     {

@@ -2,10 +2,10 @@
 use Rattle.std.specs.Prelude.{ℕ, ◌+◌, Bool, false, not, ◌&&◌, ◌||◌, List, [], ◌∷◌, Option, Some, None}
 use Rattle.std.specs.Prelude.{if◌then◌else◌, map}
 use Rattle.std.specs.{List.cons_option, List.list_any, Str.is_utf8}
-use Rattle.texting_robots.specs.{declared.groups.GroupTracker.GroupTracker, Group.is_agent, Group.is_member}
-use Rattle.texting_robots.specs.{Group.is_agent_named, Internal.Line.line_of, Line.LineValue}
-use Rattle.texting_robots.specs.{declared.labels.Membership.Membership}
-use Rattle.texting_robots.specs.{Labels.Label, Labels.is_own, Executable.rule_in, Rules.PlacedRule}
+use Rattle.texting_robots.specs.declared.{groups.GroupTracker.GroupTracker, labels.Membership.Membership}
+use Rattle.texting_robots.specs.Group.{is_agent, is_member, is_agent_named}
+use Rattle.texting_robots.specs.{Internal.Line.line_of, Line.LineValue, Executable.rule_in, Rules.PlacedRule}
+use Rattle.texting_robots.specs.Labels.{Label, is_own}
 use Rattle.texting_robots.specs.declared.labels.Membership.TheVariants.{Own, Other, Ungrouped}
 pub use Rattle.texting_robots.specs.Rules.{placed}
 

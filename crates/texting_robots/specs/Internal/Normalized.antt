@@ -1,16 +1,14 @@
 -- Absolute URLs that `url` leaves unchanged, and how they are read from their start.
-use Rattle.std.specs.Prelude.{◌≡◌, ◌⊎◌, ℕ, ◌==◌, Bool, not, true, false, List, [], ◌∷◌, ◌++◌, take, drop}
-use Rattle.std.specs.Prelude.{All, codes, length, nat_lt}
-use Rattle.std.specs.Prelude.{slice_index, if◌then◌else◌, ◌≢◌, ◌<◌, ◌^◌, ◌/◌, ◌&&◌, ◌||◌, decimal, Option}
-use Rattle.std.specs.Prelude.{IfSome, option_map}
+use Rattle.std.specs.Prelude.{◌≡◌, ◌⊎◌, ℕ, ◌==◌, Bool, not, true, false, List, [], ◌∷◌, ◌++◌, take, drop, All}
+use Rattle.std.specs.Prelude.{codes, length, nat_lt, slice_index, if◌then◌else◌, ◌≢◌, ◌<◌, ◌^◌, ◌/◌, ◌&&◌}
+use Rattle.std.specs.Prelude.{◌||◌, decimal, Option, IfSome, option_map}
 use Rattle.std.specs.{Int.Bits.bit_and, List.prefix_len, Str.byte}
 use Rattle.std.specs.Char.{is_ascii_lowercase, is_ascii_uppercase}
 use Rattle.percent_encoding.specs.{declared.ascii_set.AsciiSet.AsciiSet, Percent.IsKept}
-use Rattle.url.specs.declared.scheme.SchemeType.{TheVariants.SpecialNotFile}
+use Rattle.url.specs.{declared.scheme.SchemeType.TheVariants.SpecialNotFile, Input.rsplit_once}
 use Rattle.url.specs.declared.sets.TheConstants.{FORBIDDEN_DOMAIN, FRAGMENT, SPECIAL_QUERY}
-use Rattle.url.specs.{Input.rsplit_once, Path.IsSegmentList}
-use Rattle.texting_robots.specs.Prepared.{with_delimiter}
-use Rattle.texting_robots.specs.declared.normalized.TheConstants.{UPPER}
+use Rattle.url.specs.Path.{IsSegmentList}
+use Rattle.texting_robots.specs.{Prepared.with_delimiter, declared.normalized.TheConstants.UPPER}
 
 -- a host that `url` leaves unchanged; its last label begins with a letter, so that it isn't a number
 pub record IsName (host : List ℕ) : Type 0 where

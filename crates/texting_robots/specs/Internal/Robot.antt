@@ -1,7 +1,6 @@
 -- A robot by functions of its lines.
 use Rattle.std.specs.Prelude.{◌≡◌, ℕ, List, Any, IsPermutation}
-use Rattle.texting_robots.specs.{Line.LineValue, Pattern.IsOverlong, Robot.RobotValue}
-use Rattle.texting_robots.specs.Rules.{Rule}
+use Rattle.texting_robots.specs.{Line.LineValue, Pattern.IsOverlong, Robot.RobotValue, Rules.Rule}
 use Rattle.texting_robots.specs.Executable.{delay_for, placed_rules, rules_for, sitemaps_in}
 
 abbrev pub SomeOverlong : List ℕ → List LineValue → Type 0

@@ -1,17 +1,17 @@
--- Segments of patterns: stars, borders, entries and the prefilter.
+-- How patterns are matched: stars, borders, segments, the prefilter, masks and entries of rules.
 use Rattle.std.specs.Prelude.{◌≡◌, ◌+◌, ◌*◌, ◌≤◌, ℕ, List, length, ◌≢◌, Option, Some, None, All, [], ◌∷◌, ◌-◌}
 use Rattle.std.specs.Prelude.{◌++◌, ◌<◌, slice_index, ◌↔◌, ◌==◌, true, false, drop, slice_range, take, ◌%◌}
 use Rattle.std.specs.Prelude.{◌^◌, IfSome, bit_and, bit_or, min, Bool, EachIndex, map, slice_index_or}
 use Rattle.std.specs.Prelude.{string_bytes, if◌then◌else◌}
-use Rattle.texting_robots.specs.{View.ViewValue, declared.prefilter.Prefilter.Prefilter, Rules.PlacedRule}
-use Rattle.std.specs.{Borrow.Bor, List.position_or_len, List.prefix_len, Int.w64, Int.from_le_bytes}
+use Rattle.texting_robots.specs.{View.ViewValue, Rules.PlacedRule}
+use Rattle.texting_robots.specs.declared.prefilter.{Prefilter.Prefilter, head.Head.Head}
+use Rattle.std.specs.{Borrow.Bor, declared.cmp.Ordering.Ordering, Int.w64, Int.from_le_bytes}
+use Rattle.std.specs.List.{position_or_len, prefix_len}
 use Rattle.texting_robots.specs.Pattern.{IsSuffix, star, dollar, Matches}
 use Rattle.texting_robots.specs.declared.segments.{Span.Span, Segment.Segment, Ending.Ending, Ends.Ends}
 use Rattle.texting_robots.specs.declared.segments.Ending.TheVariants.{Open, Closed, Last, Never}
-use Rattle.texting_robots.specs.declared.prefilter.head.{Head.Head}
-use Rattle.texting_robots.specs.declared.prefilter.bigrams.{BigramSet.BigramSet}
+use Rattle.texting_robots.specs.declared.prefilter.bigrams.BigramSet.{BigramSet}
 use Rattle.std.specs.Ordering.{flip_args, nat_cmp, on, then_cmp}
-use Rattle.std.specs.declared.cmp.{Ordering.Ordering}
 use Rattle.texting_robots.specs.declared.rules.{RuleEntry.RuleEntry, RuleTable.RuleTable}
 pub use Rattle.texting_robots.specs.Pattern.{is_wildcard}
 
@@ -194,7 +194,6 @@ Fits head front = bit_and front head.mask ≡ head.bytes
 abbrev pub pair_bit : ℕ → ℕ → ℕ
 pair_bit first second = 2 ^ ((first + 2 * second) % 64)
 
--- the bit of the byte and the next one, if there is one
 abbrev pub front_bit : ℕ → List ℕ → ℕ
 front_bit first [] = 0
 front_bit first (second ∷ rest) = pair_bit first second
@@ -206,7 +205,6 @@ pair_set (first ∷ rest) = bit_or (front_bit first rest) (pair_set rest)
 abbrev pub AreWithin : ℕ → ℕ → Type 0
 AreWithin few many = bit_or few many ≡ many
 
--- the bigrams are those of the text, if they are known
 abbrev pub ArePairsOf : List ℕ → Option BigramSet → Type 0
 ArePairsOf text pairs = IfSome pairs (λ known. known.bits ≡ pair_set text)
 
@@ -217,7 +215,7 @@ ending_pairs pattern Closed = 0
 ending_pairs pattern (Last span) = pair_set (part_of pattern span)
 ending_pairs pattern Never = 0
 
--- ---- masks: some bigrams without which a rule can't match, by which many rules are skipped at once
+-- ---- Masks: some bigrams without which a rule can't match, by which many rules are skipped at once
 
 -- the masks of this range exist, and none is a subset of the text's bigrams
 abbrev pub AreApart : List ℕ → ℕ → ℕ → ℕ → Type 0
@@ -278,7 +276,6 @@ pub record GoesBefore (first second : RuleEntry) : Type 0 where
   pub higher : rank_in second ≤ rank_in first
   pub earlier : rank_in second ≡ rank_in first → first.line ≤ second.line
 
--- a default, for positions without an entry
 abbrev pub no_entry : RuleEntry
 no_entry =
     let none : Span = record { start = 0; end = 0 } in
@@ -305,7 +302,6 @@ abbrev pub MatchesAt : RuleTable → ℕ → List ℕ → Type 0
 MatchesAt all at text =
     Matches (pattern_of all (slice_index_or all.entries.items at no_entry)) text
 
--- no rule of this range matches
 abbrev pub NoneBetween : RuleTable → List ℕ → ℕ → ℕ → Type 0
 NoneBetween all text from to = (k : ℕ) → from ≤ k → k < to → ¬ MatchesAt all k text
 

@@ -1,16 +1,15 @@
--- The lines of a site: names, members and iterations over them.
+-- The lines of a site: names, members, the name index, and iterations over a crawler's members.
 use Rattle.std.specs.Prelude.{◌≡◌, ℕ, ◌+◌, ◌==◌, Bool, not, ◌&&◌, ◌||◌, false, List, [], ◌∷◌, Option, Some}
 use Rattle.std.specs.Prelude.{None, drop, filter, map, take, if◌then◌else◌, bytes_eq, ◌*◌, ◌%◌, ◌<◌, ◌≤◌, ◌≢◌}
 use Rattle.std.specs.Prelude.{get_or, length, slice_get, ◌++◌, ltb}
 use Rattle.std.specs.List.{cons_option, filter_map, list_any, position_or_len}
 use Rattle.std.specs.{Option.option_or, Str.str_to_ascii_lowercase}
-use Rattle.texting_robots.specs.Group.{is_agent, is_member}
-use Rattle.texting_robots.specs.{Line.LineValue, Line.UserAgent, Line.delay_in, Internal.Line.line_of}
+use Rattle.texting_robots.specs.{Group.is_agent, Group.is_member, Internal.Line.line_of}
+use Rattle.texting_robots.specs.Line.{LineValue, UserAgent, delay_in}
 use Rattle.texting_robots.specs.Executable.{delay_before_agents, file_lines, sitemap_in, sitemaps_in}
 use Rattle.texting_robots.specs.declared.site.lines.{AgentLine.AgentLine, KeptLine.KeptLine}
-use Rattle.texting_robots.specs.declared.site.lines.{ByteRange.ByteRange}
-use Rattle.texting_robots.specs.declared.{site.own.Position.Position, error.Error.Error}
-use Rattle.texting_robots.specs.declared.{error.RobotError.RobotError}
+use Rattle.texting_robots.specs.declared.site.{lines.ByteRange.ByteRange, own.Position.Position}
+use Rattle.texting_robots.specs.declared.error.{Error.Error, RobotError.RobotError}
 use Rattle.texting_robots.specs.declared.error.RobotError.TheVariants.{Memory, Overlong}
 use Rattle.texting_robots.specs.declared.error.Error.TheVariants as error
 pub use Rattle.texting_robots.specs.OwnLines.{Tagged, delay_of, rule_of, tag_of}
@@ -120,7 +119,6 @@ abbrev pub hash_from : ℕ → List ℕ → ℕ
 hash_from hash [] = hash
 hash_from hash (b ∷ bs) = hash_from ((hash * 33 + b) % 16777216) bs
 
--- the bucket of a name in lowercase, of `count` buckets
 abbrev pub bucket_of : ℕ → List ℕ → ℕ
 bucket_of count name = hash_from 0 name % count
 
@@ -149,7 +147,6 @@ abbrev pub own_from : List ℕ → ℕ → List Tagged → List Named → List T
 own_from name group rest names tags = in_front group rest
     ++ filter (λ t. is_later name group names t.group) tags
 
--- the lines that are left at a position
 abbrev pub own_at : List ℕ → Position → List Named → List Tagged → List Tagged
 own_at name position names tags =
     own_from name position.group (drop position.at tags) (drop position.name_index names) tags

@@ -9,7 +9,7 @@ use super::cut::{after_end, body_len};
 /// How many pairs of adjacent bytes are tested at once.
 const LANES: usize = 32;
 
-/// One comparison, so it also accepts other bytes below CR.
+/// CR, LF, NUL, and other bytes below CR, so that one comparison is enough.
 fn may_end(byte: u8) -> bool
     ensures { result ≡ may_end byte }
 {
@@ -22,7 +22,7 @@ fn may_begin(byte: u8) -> bool
     (byte == b' ') | (byte == b'\t') | (byte == b'U') | (byte == b'u')
 }
 
-/// All pairs are tested without an early exit, since usually none is found.
+/// If true, no user-agent line begins right after one of the first `LANES` bytes. No early exit.
 fn none_begins(text: &[u8]) -> bool
     requires { LANES < length text.now }
     ensures { result ≡ true → NoneBegins text.now LANES }

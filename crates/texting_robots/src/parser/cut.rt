@@ -11,6 +11,7 @@ use std::simd::prelude::*;
 /// How many bytes are compared at once if fewer than `LANES` are left.
 const HALF: usize = 16;
 
+/// The index of the first byte that ends a line.
 fn first_end(text: &[u8], nul_ends: bool) -> Option<usize>
     ensures { let len = body_len (read_as nul_ends text.now) in MatchOption result (len ≡ length text.now)
         (λ end. (len ≡ end) × (end < length text.now)) }
@@ -22,6 +23,7 @@ fn first_end(text: &[u8], nul_ends: bool) -> Option<usize>
     }
 }
 
+/// What ends lines besides CR and LF: NUL, or else LF once more.
 fn third_end(nul_ends: bool) -> u8
     ensures { result ≡ (if nul_ends then 0 else lf) }
 {
@@ -41,6 +43,7 @@ fn body_len_in<const N: usize>(text: &[u8], nul_ends: bool) -> usize
     first_lane(ends.to_bitmask(), N)
 }
 
+/// [`body_len`] of fewer than `LANES` bytes.
 fn short_body_len(text: &[u8], nul_ends: bool) -> usize
     ensures value { result ≡ body_len (read_as nul_ends text.now) }
     ensures within { result ≤ length text.now }
@@ -56,6 +59,7 @@ fn short_body_len(text: &[u8], nul_ends: bool) -> usize
     HALF + first_end(rest, nul_ends).unwrap_or(rest.len())
 }
 
+/// How many bytes precede the first line terminator: all, if there is none.
 pub(crate) fn body_len(text: &[u8], nul_ends: bool) -> usize
     ensures value { result ≡ body_len (read_as nul_ends text.now) }
     ensures within { result ≤ length text.now }
@@ -71,6 +75,7 @@ pub(crate) fn body_len(text: &[u8], nul_ends: bool) -> usize
     text.len() - rest.len() + short_body_len(rest, nul_ends)
 }
 
+/// LF, or NUL if that is read as LF.
 fn feeds(byte: u8, nul_ends: bool) -> bool
     ensures { result ≡ is_feed nul_ends byte }
 {
@@ -89,7 +94,7 @@ fn skip_returns<'a>(text: &'a [u8], nul_ends: bool) -> &'a [u8]
     rest
 }
 
-/// The same if there are at least two. Most terminators have at most one CR, which is left to the caller.
+/// Skips most leading CRs if there are at least two. Most terminators have at most one.
 #[inline(always)]
 fn without_many_returns<'a>(text: &'a [u8], nul_ends: bool) -> &'a [u8]
     ensures { drop (end_len (read_as nul_ends result.now)) result.now ≡ drop (end_len (read_as nul_ends text.now)) text.now }
@@ -100,7 +105,7 @@ fn without_many_returns<'a>(text: &'a [u8], nul_ends: bool) -> &'a [u8]
     }
 }
 
-/// For any terminator.
+/// What follows a leading line terminator, whatever that is.
 #[tactic(auto, using(crate::proofs::CutFromFront::past_return, crate::proofs::CutFromFront::past_feed, crate::proofs::CutFromFront::no_end))]
 #[inline(never)]
 fn after_any_end<'a>(text: &'a [u8], nul_ends: bool) -> &'a [u8]
@@ -116,7 +121,7 @@ fn after_any_end<'a>(text: &'a [u8], nul_ends: bool) -> &'a [u8]
     }
 }
 
-/// A single LF is tested first, without a call.
+/// What follows a leading line terminator. A single LF, as usual, needs no call.
 #[tactic(auto, using(crate::proofs::CutFromFront::past_line_feed))]
 #[inline(always)]
 pub(crate) fn after_end<'a>(text: &'a [u8], nul_ends: bool) -> &'a [u8]
@@ -128,7 +133,7 @@ pub(crate) fn after_end<'a>(text: &'a [u8], nul_ends: bool) -> &'a [u8]
     }
 }
 
-/// All bytes are tested without an early exit, so that the compiler can vectorize the loop.
+/// Without an early exit, so that the compiler can vectorize the loop.
 fn all_feed(bytes: &[u8], nul_ends: bool) -> bool
     ensures { result ≡ list_all (is_feed nul_ends) bytes.now }
 {
@@ -139,7 +144,7 @@ fn all_feed(bytes: &[u8], nul_ends: bool) -> bool
     all
 }
 
-/// How many empty lines the text begins with, counted one by one. Lines that end with a CR aren't counted.
+/// Counts the leading empty lines up to one with a CR, one by one.
 fn few_empty_lines(text: &[u8], nul_ends: bool) -> usize
     ensures value { result ≡ empty_lines nul_ends text.now }
     ensures within { result ≤ length text.now }
@@ -149,7 +154,7 @@ fn few_empty_lines(text: &[u8], nul_ends: bool) -> usize
         .count()
 }
 
-/// The same, but most of them are counted `LANES` at a time.
+/// Counts the leading empty lines up to one with a CR, `LANES` at a time.
 #[inline(never)]
 fn many_empty_lines(text: &[u8], nul_ends: bool) -> usize
     ensures value { result ≡ empty_lines nul_ends text.now }
@@ -162,7 +167,7 @@ fn many_empty_lines(text: &[u8], nul_ends: bool) -> usize
     text.len() - rest.len() + few_empty_lines(rest, nul_ends)
 }
 
-/// The same. If there is none, nothing is called.
+/// Counts the leading empty lines up to one with a CR. If none, nothing is called.
 #[tactic(auto, using(crate::proofs::CutFromFront::no_empty_line))]
 #[inline(always)]
 fn some_empty_lines(text: &[u8], nul_ends: bool) -> usize
@@ -175,7 +180,7 @@ fn some_empty_lines(text: &[u8], nul_ends: bool) -> usize
     }
 }
 
-/// The same. If there is at most one, as usual, nothing is called.
+/// Counts the leading empty lines up to one with a CR. If at most one, nothing is called.
 #[tactic(auto, using(crate::proofs::CutFromFront::no_empty_line, crate::proofs::CutFromFront::an_empty_line))]
 #[inline(always)]
 pub(crate) fn empty_lines(text: &[u8], nul_ends: bool) -> usize

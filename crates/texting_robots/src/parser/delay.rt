@@ -32,6 +32,7 @@ const MICROS_DIGITS: usize = 6;
 /// A number other than 0 that is followed by so many zeros is above `u64::MAX`.
 const ZEROS: [u8; 20] = [b'0'; 20];
 
+/// Whether the text has a minus, and what follows its sign, if any.
 fn split_sign(text: &[u8]) -> (bool, &[u8])
     ensures minus { result.0 ≡ starts_with_minus text.now }
     ensures rest { result.1.now ≡ without_leading_sign text.now }
@@ -57,6 +58,7 @@ fn split_digits(text: &[u8]) -> (&[u8], &[u8])
     text.split_at(digits_len(text))
 }
 
+/// The digits after a leading point, if there is one, and what follows them.
 fn split_fraction(text: &[u8]) -> (&[u8], &[u8])
     ensures digits { result.0.now ≡ steps.fraction_in_front text.now }
     ensures rest { result.1.now ≡ steps.after_fraction text.now }
@@ -85,6 +87,7 @@ fn is_numeral(text: &[u8]) -> bool
     !text.is_empty() && are_digits(text)
 }
 
+/// What follows `e` if that is an exponent; nothing for no text; `None` for anything else.
 fn read_exponent(text: &[u8]) -> Option<&[u8]>
     ensures { option_copied result ≡ steps.exponent_of text.now }
 {
@@ -111,13 +114,14 @@ fn read_number(text: &[u8]) -> Option<Number<'_>>
     })
 }
 
+/// The first `count` digits, or all if there are fewer.
 fn first(digits: &[u8], count: usize) -> &[u8]
     ensures { result.now ≡ take count digits.now }
 {
     digits.get(..count).unwrap_or(digits)
 }
 
-/// At most `u64::MAX`.
+/// The number `start` with these digits after its own, at most `u64::MAX`.
 #[tactic(auto, using(crate::proofs::DelayNumbers::digit_there, crate::proofs::DelayNumbers::one_more_digit, crate::proofs::DelayNumbers::all_digits_read))]
 fn append_digits(start: u64, digits: &[u8]) -> u64
     requires { All IsAsciiDigit digits.now }
@@ -139,6 +143,7 @@ impl Number<'_> {
         are_zeros(self.whole) && are_zeros(self.fraction)
     }
 
+    /// How many digits, from the first one on, are whole microseconds.
     fn micros_digits(&self) -> usize
         ensures { result ≡ steps.bounded (steps.places self.now) }
     {
@@ -152,6 +157,7 @@ impl Number<'_> {
         }
     }
 
+    /// In microseconds, rounded down, at most `u64::MAX`.
     fn micros(&self) -> u64
         ensures { result ≡ steps.rounded self.now }
     {

@@ -52,7 +52,7 @@ pub(crate) fn skip_blanks<'a>(text: &'a [u8]) -> &'a [u8]
     rest
 }
 
-/// Only the first letter of the text is tested.
+/// The only kind that the text may be, by its first letter.
 #[inline(always)]
 pub(crate) fn kind_by(text: &[u8]) -> Option<Kind>
     ensures { result ≡ kind_by text.now }
@@ -80,6 +80,7 @@ fn after_name<'a>(name: &str, text: &'a [u8]) -> Option<&'a [u8]>
     }
 }
 
+/// What follows the first of these names that the text begins with.
 fn after_any<'a>(field_names: &[&str], text: &'a [u8]) -> Option<&'a [u8]>
     ensures { let small = map (λ name. str_to_ascii_lowercase name.now) field_names.now
         in MatchOption result (after_any small text.now ≡ None)
@@ -93,6 +94,7 @@ fn after_any<'a>(field_names: &[&str], text: &'a [u8]) -> Option<&'a [u8]>
     None
 }
 
+/// What follows a leading separator.
 #[inline(always)]
 fn tail_of<'a>(rest: &'a [u8]) -> Option<&'a [u8]>
     ensures { MatchOption result (tail_of rest.now ≡ None) (λ tail. tail_of rest.now ≡ Some tail.now) }
@@ -105,7 +107,7 @@ fn tail_of<'a>(rest: &'a [u8]) -> Option<&'a [u8]>
     }
 }
 
-/// The eight bytes of the name are compared at once.
+/// What follows the name, whose eight bytes are compared at once.
 #[inline(always)]
 fn strip_eight<'a>(text: &'a [u8], name: &[u8]) -> Option<&'a [u8]>
     requires { length name.now ≡ 8 }
@@ -122,6 +124,7 @@ fn strip_eight<'a>(text: &'a [u8], name: &[u8]) -> Option<&'a [u8]>
     }
 }
 
+/// What follows `name` and `nt`, the end of `User-agent`.
 #[inline(always)]
 fn strip_agent<'a>(text: &'a [u8], name: &[u8]) -> Option<&'a [u8]>
     requires { length name.now ≡ 8 }
@@ -133,7 +136,7 @@ fn strip_agent<'a>(text: &'a [u8], name: &[u8]) -> Option<&'a [u8]>
     }
 }
 
-/// If the field name is the usual one in its usual case. Others are left to [`after_any`].
+/// What follows the field name, if that is written as usual. Others are left to [`after_any`].
 #[inline(always)]
 fn after_usual<'a>(kind: Kind, text: &'a [u8]) -> Option<&'a [u8]>
     ensures { IfSome result (λ rest. after_any (field_names kind) text.now ≡ Some rest.now) }
@@ -156,6 +159,7 @@ fn after_usual<'a>(kind: Kind, text: &'a [u8]) -> Option<&'a [u8]>
     }
 }
 
+/// The tail after any field name of this kind.
 #[inline(never)]
 fn tail_by_field_names<'a>(kind: Kind, text: &'a [u8]) -> Option<&'a [u8]>
     ensures { MatchOption result (tail_as kind text.now ≡ None) (λ tail. tail_as kind text.now ≡ Some tail.now) }
@@ -163,6 +167,7 @@ fn tail_by_field_names<'a>(kind: Kind, text: &'a [u8]) -> Option<&'a [u8]>
     tail_of(after_any(field_names(kind), text)?)
 }
 
+/// The tail, if the text is a directive of this kind.
 #[inline(always)]
 pub(crate) fn tail_as<'a>(kind: Kind, text: &'a [u8]) -> Option<&'a [u8]>
     ensures { MatchOption result (tail_as kind text.now ≡ None) (λ tail. tail_as kind text.now ≡ Some tail.now) }
@@ -173,7 +178,7 @@ pub(crate) fn tail_as<'a>(kind: Kind, text: &'a [u8]) -> Option<&'a [u8]>
     }
 }
 
-/// All bytes are tested without an early exit, so that the compiler can vectorize the loop.
+/// Without an early exit, so that the compiler can vectorize the loop.
 fn holds_hash_among(bytes: &[u8]) -> bool
     ensures { result ≡ list_any (λ byte. byte == hash) bytes.now }
 {
@@ -184,7 +189,7 @@ fn holds_hash_among(bytes: &[u8]) -> bool
     holds
 }
 
-/// The first and the last `N` bytes, which may overlap.
+/// Tests the first and the last `N` bytes, which may overlap, and are all.
 #[tactic(auto, using(crate::proofs::LabelLemmas::either_end, crate::proofs::LabelLemmas::front_tells))]
 #[inline(always)]
 fn ends_hold_hash<const N: usize>(text: &[u8]) -> bool
@@ -218,7 +223,7 @@ fn before_hash<'a>(tail: &'a [u8]) -> &'a [u8]
     }
 }
 
-/// It first tests whether there is a comment, since most tails have none.
+/// The tail without its comment. Most have none, so that is tested first.
 #[tactic(auto, using(crate::proofs::LabelLemmas::plain_is))]
 fn region_of<'a>(tail: &'a [u8]) -> &'a [u8]
     ensures { result.now ≡ region_of tail.now }
@@ -230,7 +235,7 @@ fn region_of<'a>(tail: &'a [u8]) -> &'a [u8]
     }
 }
 
-/// The UTF-8 characters at both ends are decoded.
+/// Trims Unicode white space, and so decodes the characters at both ends.
 #[inline(never)]
 fn trimmed_by_chars<'a>(text: &'a [u8]) -> &'a [u8]
     ensures { result.now ≡ trimmed text.now }
@@ -238,7 +243,7 @@ fn trimmed_by_chars<'a>(text: &'a [u8]) -> &'a [u8]
     text.trim()
 }
 
-/// Nothing is decoded if the first and last bytes are visible ASCII characters.
+/// Trims Unicode white space. If both ends are visible ASCII, nothing is decoded.
 #[tactic(auto, using(crate::proofs::TrimLemmas::graphic_ends))]
 fn trimmed<'a>(text: &'a [u8]) -> &'a [u8]
     ensures { result.now ≡ trimmed text.now }
@@ -258,8 +263,8 @@ pub(crate) fn value_of<'a>(tail: &'a [u8]) -> &'a [u8]
     trimmed(region_of(tail))
 }
 
-/// Whether the value in a tail is the name, ASCII letters in any case. Most values begin with another visible byte than
-/// the name, and aren't cut out then.
+/// Whether the value in a tail is the name, ASCII letters in any case. Most values begin with
+/// another visible byte than the name, and aren't cut out then.
 #[tactic(auto, using(crate::proofs::NameLemmas::tested_names))]
 #[inline(always)]
 pub(crate) fn value_is(tail: &[u8], name: &[u8]) -> bool

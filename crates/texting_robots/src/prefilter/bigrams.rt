@@ -15,7 +15,7 @@ impl BigramSet {
         BigramSet { bits: 0 }
     }
 
-    /// Each iteration adds two.
+    /// The bigrams of the text. Each iteration adds two.
     pub(crate) fn of(text: &[u8]) -> Self
         ensures { result.bits ≡ pair_set text.now }
     {

@@ -29,6 +29,7 @@ impl Head {
     }
 }
 
+/// The first eight bytes as a number, with zeros for missing ones.
 pub(crate) fn front(text: &[u8]) -> u64
     ensures { result ≡ first_eight text.now }
 {
@@ -54,6 +55,7 @@ fn byte_or_zero(text: &[u8], at: usize) -> u8
     text.get(at).copied().unwrap_or(0)
 }
 
+/// Ones for the first `len` bytes of eight.
 fn mask_of(len: usize) -> u64
     ensures { result ≡ ones_below len }
 {

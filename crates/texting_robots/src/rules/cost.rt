@@ -1,12 +1,11 @@
 //! What a query costs at most, and a query with a budget.
-ghost use Rattle.std.specs.Prelude.{◌≡◌, ◌≢◌, ◌+◌, ◌<◌, ◌≤◌, ◌^◌, IfErr, IfNone, IfOk, IfSome, IsOk, None};
-ghost use Rattle.std.specs.Prelude.{ℕ, List, length, max, string_bytes};
-ghost use Rattle.std.specs.{Option.option_map_or};
-ghost use Rattle.texting_robots.specs.{Cost.cost_of, Verdict.robots_file};
-ghost use Rattle.texting_robots.specs.View.{LooksAtMost, seen_of};
+ghost use Rattle.std.specs.Prelude.{◌≡◌, ◌≢◌, ◌+◌, ◌<◌, ◌≤◌, ◌^◌, IfErr, IfNone, IfOk, IfSome, IsOk, None, ℕ};
+ghost use Rattle.std.specs.Prelude.{List, length, max, string_bytes};
+ghost use Rattle.std.specs.Option.{option_map_or};
+ghost use Rattle.texting_robots.specs.{Cost.cost_of, Verdict.robots_file, View.LooksAtMost, View.seen_of};
 ghost use Rattle.texting_robots.specs.Decision.{IsDecidingLine, IsDecisionOn};
-ghost use Rattle.texting_robots.specs.Internal.Segments.{AreEntries, ArePairsOf, HaveMasks};
-ghost use Rattle.texting_robots.specs.Internal.Segments.{IsFirstMatch, NoneBetween, NoneMatches, rules_in};
+ghost use Rattle.texting_robots.specs.Internal.Segments.{AreEntries, ArePairsOf, HaveMasks, IsFirstMatch};
+ghost use Rattle.texting_robots.specs.Internal.Segments.{NoneBetween, NoneMatches, rules_in};
 
 use super::{NO_RULE, RuleTable, Rules};
 use crate::decision::Decision;
@@ -38,8 +37,8 @@ impl RuleTable {
         first_near(&self.masks, at + 1, pairs.bits)
     }
 
-    /// Each rule that is tried or passed over counts as a look. It gives up if more looks than the limit might
-    /// be counted next.
+    /// The index of the first rule that matches. Each one tried or passed over counts as a look. It
+    /// gives up if more looks than the limit might be counted next.
     fn first_within(
         &self,
         view: &mut View<'_>,

@@ -72,6 +72,7 @@ pub(crate) struct AgentLine {
     pub(crate) start: usize,
 }
 
+/// What a site keeps of the lines that were read, and the state between two lines.
 #[derive(Drop)]
 pub(crate) struct SiteLines {
     pub(crate) member_lines: Vec<KeptLine>,
@@ -87,6 +88,7 @@ pub(crate) struct SiteLines {
     joins: bool,
 }
 
+/// The last delay above the user-agent lines, after one more line.
 fn early_after(begun: bool, early: Option<u64>, line: Line<'_>) -> Option<u64>
     ensures { result ≡ early_after begun early (by_value line.entry) }
 {
@@ -141,6 +143,7 @@ impl SiteLines {
         Ok(())
     }
 
+    /// Adds the line with this number, which is at `span`.
     fn add(
         &mut self,
         alloc: Global,
@@ -185,7 +188,7 @@ impl SiteLines {
         }
     }
 
-    /// The last delay above the first user-agent line is dropped if there was no user-agent line.
+    /// `early` is dropped if there was no user-agent line.
     fn finished(self) -> Self
         ensures lines { result.member_lines ≡ self.member_lines }
         ensures names { result.agent_lines ≡ self.agent_lines }

@@ -51,7 +51,7 @@ fn bucket_of(name: &[u8], count: usize) -> usize
     hash_of(name) % count
 }
 
-/// From the last line to the first.
+/// Links the lines of each bucket, from the last line to the first.
 fn link(lines: &[AgentLine], heads: &mut [usize], nexts: &mut [usize])
     requires heads { heads.old ≡ replicate (length lines.now) (length lines.now) }
     requires nexts { length nexts.old ≡ length lines.now }
@@ -87,8 +87,8 @@ impl NameIndex {
         &self.lines
     }
 
-    /// `start` is the index of a line in the name's bucket, or the number of lines, which is also the result
-    /// if no line is found.
+    /// The first line with the name from `start` on, or the number of lines. `start` is also that
+    /// number, or a line of the name's bucket.
     fn find_from(&self, start: usize, name: &[u8]) -> usize
         requires { position_or_len (is_in (length self.now) (bucket_of (length self.now) (str_to_ascii_lowercase name.now)))
             (drop start self.now) ≡ 0 }
@@ -113,7 +113,7 @@ impl NameIndex {
         bytes.saturating_add(links.saturating_mul(size_of::<usize>()))
     }
 
-    /// ASCII letters are in any case. The number of lines if there is none.
+    /// The first line with this name, ASCII letters in any case, or the number of lines.
     pub(crate) fn first(&self, name: &[u8]) -> usize
         ensures { result ≡ first_named (str_to_ascii_lowercase name.now) self.now }
     {

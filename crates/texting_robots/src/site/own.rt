@@ -8,6 +8,7 @@ use crate::site::lines::{KeptLine, MemberLine};
 use crate::site::names::NameIndex;
 use std::marker::Model;
 
+/// Where an iteration is.
 #[derive(Clone, Copy)]
 pub(crate) struct Position {
     /// The index of the next user-agent line with the group name, or the number of user-agent lines.
@@ -32,8 +33,7 @@ pub struct OwnLines<'s, 'n> {
 }
 
 impl<'s, 'n> Model for OwnLines<'s, 'n> {
-    ghost use Rattle.std.specs.Prelude.{List, map};
-    ghost use Rattle.std.specs.Str.{str_to_ascii_lowercase};
+    ghost use Rattle.std.specs.{Prelude.List, Prelude.map, Str.str_to_ascii_lowercase};
     ghost use Rattle.texting_robots.specs.Internal.Site.{IsWalk, own_at, tag_at};
     ghost use Rattle.texting_robots.specs.OwnLines.{Tagged};
 
@@ -46,6 +46,7 @@ impl<'s, 'n> Model for OwnLines<'s, 'n> {
         (map (tag_at s.text.now) s.lines.now) };
 }
 
+/// The line with this index, if it is in the group.
 fn line_of_group<'t>(
     text: &'t [u8],
     lines: &[KeptLine],
@@ -61,6 +62,7 @@ fn line_of_group<'t>(
     }
 }
 
+/// The next line that applies from `start` on, and the position after it.
 fn next_line<'t>(
     text: &'t [u8],
     lines: &[KeptLine],
@@ -99,8 +101,7 @@ fn next_line<'t>(
     }
 }
 
-/// In a file without user-agent lines all members apply to every crawler. Members above the first user-agent
-/// line apply to none.
+/// 0 in a file without user-agent lines, as all members apply then; else the number of members.
 fn first_line(lines: &[KeptLine], names: &NameIndex) -> usize
     ensures unnamed { length names.now ≡ 0 → result ≡ 0 }
     ensures named { 0 < length names.now → length lines.now ≤ result }

@@ -51,8 +51,7 @@ pub struct SiteRules<'s, 'n> {
 }
 
 impl<'s, 'n> Model for SiteRules<'s, 'n> {
-    ghost use Rattle.std.specs.Prelude.{List};
-    ghost use Rattle.std.specs.{List.filter_map};
+    ghost use Rattle.std.specs.{Prelude.List, List.filter_map};
     ghost use Rattle.texting_robots.specs.{Rules.PlacedRule, OwnLines.rule_of};
 
     ghost Value = { List PlacedRule };
@@ -60,6 +59,7 @@ impl<'s, 'n> Model for SiteRules<'s, 'n> {
     ghost view = { λ s. filter_map rule_of s.lines };
 }
 
+/// The rule of a value, if that is UTF-8.
 fn rule_with<'s>(value: &'s [u8], is_allow: bool, line: usize) -> Option<SiteRule<'s>>
     ensures { result ≡ placed line (rule_with value.now is_allow) }
 {

@@ -1,7 +1,6 @@
 use Rattle.std.proofs.Common.{arith}
-use Rattle.std.proofs.{lemmas.Bool.false_from_ne_true}
-use Rattle.std.proofs.lemmas.Str.{IsUtf8-from_is_utf8, is_utf8-from_IsUtf8}
-use Rattle.texting_robots.proofs.{NormalizedLemmas.plain_ascii}
+use Rattle.std.proofs.lemmas.{Bool.false_from_ne_true, Str.IsUtf8-from_is_utf8, Str.is_utf8-from_IsUtf8}
+use Rattle.texting_robots.proofs.NormalizedLemmas.{plain_ascii}
 use Rattle.texting_robots.proofs.builder.decoded.Goals as goal
 
 pub ascii_str-requires : goal.ascii_str-requires

@@ -1,5 +1,4 @@
-use Rattle.std.proofs.Common.{◌≡◌, length}
-use Rattle.std.specs.List.{list_any}
+use Rattle.std.{proofs.Common.◌≡◌, proofs.Common.length, specs.List.list_any}
 use Rattle.texting_robots.specs.Escape.{is_escaped}
 use Rattle.texting_robots.proofs.escape.holds_escaped.Given as goal
 

@@ -1,5 +1,4 @@
-use Rattle.std.proofs.Common.{◌≡◌, take}
-use Rattle.std.specs.List.{list_any}
+use Rattle.std.{proofs.Common.◌≡◌, proofs.Common.take, specs.List.list_any}
 use Rattle.texting_robots.specs.Escape.{is_escaped}
 use Rattle.texting_robots.proofs.escape.holds_escaped_among.Given as goal
 

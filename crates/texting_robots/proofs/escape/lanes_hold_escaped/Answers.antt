@@ -1,11 +1,9 @@
 use Rattle.std.proofs.Common.{ℕ, ◌∙◌, ap, arith, cond}
-use Rattle.std.specs.List.{list_any}
-use Rattle.std.proofs.lemmas.List.{take_all}
+use Rattle.std.{specs.List.list_any, proofs.lemmas.List.take_all}
 use Rattle.std.proofs.lemmas.Simd.{length-chunk, zip2_of_maps, zip2_splat, zip2_splat_left}
 use lib.Dec.{ltb}
 use lib.Lanes.{chunk}
-use Rattle.texting_robots.specs.Escape.{is_escaped}
-use Rattle.texting_robots.proofs.LaneLemmas.{escaped_lane}
+use Rattle.texting_robots.{specs.Escape.is_escaped, proofs.LaneLemmas.escaped_lane}
 use Rattle.texting_robots.proofs.escape.lanes_hold_escaped.Goals as goal
 
 pub returns : goal.returns

@@ -1,6 +1,6 @@
 use Rattle.std.proofs.{Common.refl, lemmas.List.length-map, lemmas.List.FromFn.length-enumerate_from}
-use Rattle.texting_robots.specs.{Group.group_name, Executable.file_bodies, Executable.file_lines}
-use Rattle.texting_robots.proofs.{LabelLemmas.labels_are}
+use Rattle.texting_robots.{specs.Group.group_name, proofs.LabelLemmas.labels_are}
+use Rattle.texting_robots.specs.Executable.{file_bodies, file_lines}
 use Rattle.texting_robots.proofs.labels.labeled_lines.Goals as goal
 
 pub returns : goal.returns

@@ -1,14 +1,12 @@
-use Rattle.std.proofs.Common.{arith}
-use Rattle.std.proofs.{Common.Some, Common.codes, Common.refl, lemmas.Bool.Decides.not_from_Decides}
-use Rattle.std.specs.Str.{chars, is_utf8}
+use Rattle.std.proofs.Common.{arith, Some, codes, refl}
+use Rattle.std.{proofs.lemmas.Bool.Decides.not_from_Decides, specs.Str.chars, specs.Str.is_utf8}
 use Rattle.bstr.specs.{Trim.kept_end, Trim.kept_start, Utf8.pieces_from, Utf8.spans_from}
 use Rattle.texting_robots.specs.Examples.{ferris_lines, ferris_robot}
-use Rattle.texting_robots.specs.{Pattern.collapsed}
+use Rattle.texting_robots.{specs.Pattern.collapsed, proofs.LineLemmas.lines_are}
 use Rattle.texting_robots.specs.Internal.{Cut.cut, Delay.delay_of, Line.line_of, Statement.statement_of}
 use Rattle.texting_robots.proofs.ExampleLemmas.{answers, any_overlong_decides}
 use Rattle.texting_robots.proofs.ExecutableLemmas.{delay_is_computed, sitemaps_are_computed}
 use Rattle.texting_robots.proofs.MainTheoremLemmas.{computed_are, rejection_is_computed}
-use Rattle.texting_robots.proofs.LineLemmas.{lines_are}
 use lib.Utf8.{encode}
 use Rattle.texting_robots.proofs.laws.example_of_a_file.Goals as goal
 

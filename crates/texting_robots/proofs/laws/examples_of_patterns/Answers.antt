@@ -1,7 +1,5 @@
-use Rattle.std.proofs.Common.{arith}
-use Rattle.std.proofs.{Common.codes, Common.refl, lemmas.Bool.Decides.not_from_Decides}
-use Rattle.texting_robots.specs.{Examples.long, Pattern.collapsed}
-use Rattle.texting_robots.proofs.{VerdictLemmas.less_is_before}
+use Rattle.std.proofs.{Common.arith, Common.codes, Common.refl, lemmas.Bool.Decides.not_from_Decides}
+use Rattle.texting_robots.{specs.Examples.long, specs.Pattern.collapsed, proofs.VerdictLemmas.less_is_before}
 use Rattle.texting_robots.proofs.ExampleLemmas.{matching, not_matching, overlong_decides}
 use Rattle.texting_robots.proofs.laws.examples_of_patterns.Goals as goal
 

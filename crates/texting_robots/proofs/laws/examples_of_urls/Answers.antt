@@ -1,5 +1,4 @@
-use Rattle.std.proofs.Common.{arith}
-use Rattle.std.{specs.Fmt.digits}
+use Rattle.std.{proofs.Common.arith, specs.Fmt.digits}
 use Rattle.percent_encoding.specs.AsciiSet.{should_percent_encode}
 use Rattle.percent_encoding.specs.Percent.{percent_decode, percent_encode}
 use Rattle.url.specs.{Host.ascii_domain, Host.parse_special_host, Ipv4.ends_in_a_number, Ipv4.parse_number}

@@ -1,6 +1,6 @@
 use Rattle.std.proofs.Common.{Some, None, string_bytes, arith}
-use Rattle.std.proofs.lemmas.Bool.{iff_false}
-use Rattle.std.proofs.lemmas.Str.{encode_ascii, Pattern.split_parts, Pattern.starts_char}
+use Rattle.std.proofs.lemmas.{Bool.iff_false, Str.encode_ascii}
+use Rattle.std.proofs.lemmas.Str.Pattern.{split_parts, starts_char}
 use Rattle.texting_robots.specs.Pattern.{star}
 use Rattle.texting_robots.proofs.CollapseLemmas.{collapse_end, star_goes, star_stays}
 use Rattle.texting_robots.proofs.minregex.collapse_stars.Goals as goal

@@ -1,7 +1,5 @@
-use Rattle.std.proofs.Common.{arith, refl, subst}
-use Rattle.std.proofs.lemmas.{List.take_rest}
-use Rattle.texting_robots.specs.Internal.Normalized.{IsOther}
-use Rattle.texting_robots.proofs.NormalizedLemmas.{port_read}
+use Rattle.std.proofs.{Common.arith, Common.refl, Common.subst, lemmas.List.take_rest}
+use Rattle.texting_robots.{specs.Internal.Normalized.IsOther, proofs.NormalizedLemmas.port_read}
 use Rattle.texting_robots.proofs.normalized.after_port.Goals as goal
 
 pub returns-then-is_port : goal.returns-then-is_port

@@ -1,5 +1,4 @@
-use Rattle.std.proofs.Common.{arith}
-use Rattle.std.proofs.lemmas.Bool.{and_parts}
+use Rattle.std.proofs.{Common.arith, lemmas.Bool.and_parts}
 use Rattle.texting_robots.proofs.NormalizedLemmas.{decimal_read}
 use Rattle.texting_robots.proofs.normalized.is_port.Goals as goal
 

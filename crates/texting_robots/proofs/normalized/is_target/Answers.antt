@@ -1,5 +1,4 @@
-use Rattle.std.proofs.Common.{rules}
-use Rattle.std.proofs.lemmas.{List.nil_from_length}
+use Rattle.std.proofs.{Common.rules, lemmas.List.nil_from_length}
 use Rattle.texting_robots.proofs.PreparedLemmas.{target_read}
 use Rattle.texting_robots.proofs.normalized.is_target.Goals as goal
 

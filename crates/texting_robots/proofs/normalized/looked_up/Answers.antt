@@ -1,5 +1,4 @@
-use Rattle.std.proofs.Common.{◌≡◌, ◌∙◌, ◌+◌, ◌*◌, ◌/◌, ◌<◌, arith, get_or}
-use Rattle.std.proofs.Common.{length, refl, slice_index, sym, w8}
+use Rattle.std.proofs.Common.{◌≡◌, ◌∙◌, ◌+◌, ◌*◌, ◌/◌, ◌<◌, arith, get_or, length, refl, slice_index, sym, w8}
 use Rattle.std.proofs.lemmas.List.{ext_get_or, get_or-map, length-map}
 use Rattle.std.proofs.lemmas.Simd.{Each1-get_or, SwzOk-from_below, get_or-swz_l_below, length-swz_l}
 use Rattle.texting_robots.proofs.normalized.looked_up.Goals as goal

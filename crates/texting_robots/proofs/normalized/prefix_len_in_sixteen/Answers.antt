@@ -1,8 +1,7 @@
-use Rattle.std.proofs.Common.{◌≡◌, ◌/◌, ◌<◌, ◌%◌, ◌^◌, ◌==◌, ◌∙◌, ℕ, Bool}
-use Rattle.std.proofs.Common.{List, ap, arith, bit_and, cond, length, map, replicate, slice_index, sym, w8}
-use Rattle.std.specs.List.{prefix_len}
+use Rattle.std.proofs.Common.{◌≡◌, ◌/◌, ◌<◌, ◌%◌, ◌^◌, ◌==◌, ◌∙◌, ℕ, Bool, List, ap, arith, bit_and, cond}
+use Rattle.std.proofs.Common.{length, map, replicate, slice_index, sym, w8}
+use Rattle.std.{specs.List.prefix_len, proofs.lemmas.List.length-map, proofs.lemmas.Nat.and_le_r}
 use Rattle.std.proofs.lemmas.Bool.{cond-true, cond-false, eq-eqb, ne_eqb}
-use Rattle.std.proofs.lemmas.{List.length-map, Nat.and_le_r}
 use Rattle.std.proofs.lemmas.Simd.{Each1-all, Each1-weaker, Each1-zip2, Each2-splat, below_from_Fits}
 use Rattle.std.proofs.lemmas.Simd.{bitmask_splat, first_set_mask_l, map-map, zip2_of_maps, zip2_splat}
 use lib.Count.{count_trailing_zeros}

@@ -1,6 +1,5 @@
-use Rattle.std.proofs.Common.{arith, sym}
-use Rattle.std.specs.Int.{Bits.or_self}
-use Rattle.std.proofs.lemmas.List.{length-take-le, take_rest}
+use Rattle.std.proofs.{Common.arith, Common.sym, lemmas.List.length-take-le, lemmas.List.take_rest}
+use Rattle.std.specs.Int.Bits.{or_self}
 use Rattle.texting_robots.proofs.FirstLemmas.{ends_within}
 use Rattle.texting_robots.proofs.prefilter.end_pairs.Goals as goal
 

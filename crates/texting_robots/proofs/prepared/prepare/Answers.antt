@@ -1,5 +1,4 @@
-use Rattle.std.proofs.Common.{arith}
-use Rattle.std.proofs.{lemmas.Str.Pattern.starts_char}
+use Rattle.std.proofs.{Common.arith, lemmas.Str.Pattern.starts_char}
 use Rattle.texting_robots.proofs.PreparedLemmas.{slash_prepared}
 use Rattle.texting_robots.proofs.prepared.prepare.Goals as goal
 

@@ -1,5 +1,4 @@
-use Rattle.std.proofs.Common.{◌<◌, length}
-use Rattle.std.specs.Prelude.{IsPermutation}
+use Rattle.std.{proofs.Common.◌<◌, proofs.Common.length, specs.Prelude.IsPermutation}
 use Rattle.texting_robots.proofs.rules.swap_by_keys.Given as goal
 
 abbrev pub invariant-loop-start : goal.invariant-loop-start

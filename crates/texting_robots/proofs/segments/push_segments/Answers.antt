@@ -1,6 +1,5 @@
 use Rattle.std.proofs.Common.{◌≡◌, length, arith, sym}
-use Rattle.std.proofs.lemmas.Bool.{eqb-true, iff_false}
-use Rattle.std.proofs.lemmas.{List.take_all, Slice.Eq.strip_prefix_is}
+use Rattle.std.proofs.lemmas.{Bool.eqb-true, Bool.iff_false, List.take_all, Slice.Eq.strip_prefix_is}
 use Rattle.texting_robots.proofs.SegmentLemmas.{cut_closed, cut_first, cut_last, cut_more, cut_never}
 use Rattle.texting_robots.proofs.SegmentLemmas.{cut_open, IsFromStar}
 use Rattle.texting_robots.proofs.segments.push_segments.Goals as goal

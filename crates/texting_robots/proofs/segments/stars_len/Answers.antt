@@ -1,6 +1,5 @@
 use Rattle.std.proofs.Common.{◌∙◌, ◌==◌, length-drop, arith, sym}
-use Rattle.texting_robots.specs.Pattern.{star}
-use Rattle.texting_robots.proofs.LaneLemmas.{all_seen}
+use Rattle.texting_robots.{specs.Pattern.star, proofs.LaneLemmas.all_seen}
 use Rattle.texting_robots.proofs.segments.stars_len.Goals as goal
 
 pub loop-rest-preserved : goal.loop-rest-preserved

@@ -1,8 +1,7 @@
 use Rattle.std.proofs.Common.{◌∙◌, arith}
 use Rattle.std.proofs.lemmas.Simd.{length-chunk, zip2_of_maps, zip2_splat}
 use lib.Lanes.{chunk}
-use Rattle.texting_robots.specs.Pattern.{dollar, star}
-use Rattle.texting_robots.proofs.LaneLemmas.{first_wildcard_lane}
+use Rattle.texting_robots.{specs.Pattern.dollar, specs.Pattern.star, proofs.LaneLemmas.first_wildcard_lane}
 use Rattle.texting_robots.proofs.segments.wildcard_in.Goals as goal
 
 pub returns : goal.returns

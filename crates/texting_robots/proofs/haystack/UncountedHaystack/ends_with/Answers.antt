@@ -1,5 +1,4 @@
-use Rattle.std.proofs.Common.{◌-◌, arith}
-use Rattle.std.proofs.lemmas.{Bool.Decides.Decides-eqb, Slice.Eq.ends_is}
+use Rattle.std.proofs.{Common.◌-◌, Common.arith, lemmas.Bool.Decides.Decides-eqb, lemmas.Slice.Eq.ends_is}
 use Rattle.texting_robots.proofs.haystack.UncountedHaystack.ends_with.Goals as goal
 
 pub returns-clause-answer : goal.returns-clause-answer

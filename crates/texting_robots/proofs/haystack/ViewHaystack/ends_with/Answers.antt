@@ -1,5 +1,4 @@
-use Rattle.std.proofs.Common.{◌-◌, arith}
-use Rattle.std.proofs.lemmas.Bool.{leb-true}
+use Rattle.std.proofs.{Common.◌-◌, Common.arith, lemmas.Bool.leb-true}
 use Rattle.texting_robots.proofs.SearchLemmas.{ends_short, ends_with}
 use Rattle.texting_robots.proofs.haystack.ViewHaystack.ends_with.Goals as goal
 

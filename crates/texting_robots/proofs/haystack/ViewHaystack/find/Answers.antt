@@ -1,5 +1,4 @@
-use Rattle.std.proofs.Common.{◌≡◌, ◌+◌, ◌-◌, arith}
-use Rattle.std.proofs.lemmas.Bool.{iff_false}
+use Rattle.std.proofs.{Common.◌≡◌, Common.◌+◌, Common.◌-◌, Common.arith, lemmas.Bool.iff_false}
 use Rattle.texting_robots.proofs.SearchLemmas.{open_back, open_found, open_none, after_found, found_nowhere}
 use Rattle.texting_robots.proofs.haystack.ViewHaystack.find.Goals as goal
 

@@ -1,5 +1,4 @@
-use Rattle.std.proofs.Common.{arith, length-drop}
-use Rattle.std.proofs.lemmas.{Bool.eqb-true, List.drop_all}
+use Rattle.std.proofs.{Common.arith, Common.length-drop, lemmas.Bool.eqb-true, lemmas.List.drop_all}
 use Rattle.texting_robots.proofs.haystack.ViewHaystack.is_at_end.Goals as goal
 
 pub returns : goal.returns

@@ -1,6 +1,5 @@
 use Rattle.std.proofs.Common.{None, Some, arith}
-use Rattle.std.proofs.lemmas.Bool.{Decides.Decides-eqb}
-use Rattle.std.proofs.lemmas.{List.Prefix.front_rest, Slice.Eq.strip_prefix_is}
+use Rattle.std.proofs.lemmas.{Bool.Decides.Decides-eqb, List.Prefix.front_rest, Slice.Eq.strip_prefix_is}
 use Rattle.texting_robots.proofs.SegmentLemmas.{end_matches}
 use Rattle.texting_robots.proofs.SearchLemmas.{stars_here, stars_in_front, stars_nowhere}
 use Rattle.texting_robots.proofs.minregex.MinRegex.match_stars.Goals as goal

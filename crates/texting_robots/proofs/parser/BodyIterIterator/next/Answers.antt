@@ -1,5 +1,4 @@
-use Rattle.std.proofs.Common.{arith}
-use Rattle.std.proofs.lemmas.{List.nil_from_length}
+use Rattle.std.proofs.{Common.arith, lemmas.List.nil_from_length}
 use Rattle.texting_robots.proofs.CutFromFront.{bodies_nil}
 use Rattle.texting_robots.proofs.parser.BodyIterIterator.next.Goals as goal
 

@@ -1,9 +1,8 @@
 use Rattle.std.proofs.Common.{◌∙◌, ◌||◌, map, sym, ap, arith}
 use Rattle.std.proofs.lemmas.{Bool.Decides.nat_tests, List.nil_from_length}
 use Rattle.std.specs.{List.list_any, Str.str_to_ascii_lowercase}
-use Rattle.texting_robots.specs.{Group.is_agent_named}
+use Rattle.texting_robots.{specs.Group.is_agent_named, proofs.AgentLemmas.none_named}
 use Rattle.texting_robots.specs.Internal.{Cut.read_as, Line.line_of, Line.lines_of}
-use Rattle.texting_robots.proofs.AgentLemmas.{none_named}
 use Rattle.texting_robots.proofs.parser.LazyLines.name_agent.Goals as goal
 
 pub returns-then-names : goal.returns-then-names

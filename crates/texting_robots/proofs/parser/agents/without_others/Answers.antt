@@ -1,5 +1,4 @@
-use Rattle.std.proofs.Common.{◌∙◌, arith}
-use Rattle.std.proofs.lemmas.{Grind.common_steps}
+use Rattle.std.proofs.{Common.◌∙◌, Common.arith, lemmas.Grind.common_steps}
 use Rattle.texting_robots.proofs.AgentLemmas.{other_first}
 use Rattle.texting_robots.proofs.parser.agents.without_others.Goals as goal
 

@@ -1,5 +1,4 @@
-use Rattle.std.proofs.Common.{◌≡◌, take}
-use Rattle.std.specs.List.{list_all}
+use Rattle.std.{proofs.Common.◌≡◌, proofs.Common.take, specs.List.list_all}
 use Rattle.texting_robots.specs.Internal.Cut.{is_feed}
 use Rattle.texting_robots.proofs.parser.cut.all_feed.Given as goal
 

@@ -1,6 +1,5 @@
 use Rattle.std.proofs.Common.{◌∙◌, length-drop, arith, sym}
-use Rattle.texting_robots.specs.Internal.Cut.{is_feed}
-use Rattle.texting_robots.proofs.LaneLemmas.{all_seen}
+use Rattle.texting_robots.{specs.Internal.Cut.is_feed, proofs.LaneLemmas.all_seen}
 use Rattle.texting_robots.proofs.parser.cut.many_empty_lines.Goals as goal
 
 pub loop-rest-preserved : goal.loop-rest-preserved

@@ -1,5 +1,4 @@
-use Rattle.std.proofs.Common.{arith}
-use Rattle.std.{proofs.lemmas.List.length-map}
+use Rattle.std.proofs.{Common.arith, lemmas.List.length-map}
 use Rattle.texting_robots.proofs.StatementLemmas.{written_same, written_other}
 use Rattle.texting_robots.proofs.parser.statement.after_name.Goals as goal
 

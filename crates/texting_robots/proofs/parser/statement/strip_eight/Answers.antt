@@ -1,6 +1,5 @@
 use Rattle.std.proofs.Common.{◌≡◌, ◌∙◌, arith, refl, sym}
-use Rattle.std.proofs.lemmas.List.{take-append-drop, take_all}
-use Rattle.std.proofs.lemmas.Simd.{length-chunk}
+use Rattle.std.proofs.lemmas.{List.take-append-drop, List.take_all, Simd.length-chunk}
 use lib.Lanes.{chunk}
 use Rattle.texting_robots.proofs.LaneLemmas.{same_lanes}
 use Rattle.texting_robots.proofs.parser.statement.strip_eight.Goals as goal

@@ -1,5 +1,4 @@
-use Rattle.std.proofs.Common.{arith, sym}
-use Rattle.std.proofs.lemmas.{Grind.common_steps}
+use Rattle.std.proofs.{Common.arith, Common.sym, lemmas.Grind.common_steps}
 use Rattle.texting_robots.proofs.TrimLemmas.{other_value}
 use Rattle.texting_robots.proofs.parser.statement.value_is.Goals as goal
 

@@ -1,6 +1,5 @@
-use Rattle.std.proofs.Common.{arith}
-use Rattle.std.specs.Int.{Bits.or_self, Bits.or_zero_l}
-use Rattle.std.proofs.lemmas.List.{drop_all, drop_more}
+use Rattle.std.proofs.{Common.arith, lemmas.List.drop_all, lemmas.List.drop_more}
+use Rattle.std.specs.Int.Bits.{or_self, or_zero_l}
 use Rattle.texting_robots.specs.Internal.Segments.{AreWithin, no_segment}
 use Rattle.texting_robots.proofs.FirstLemmas.{are_prefilter, segment_pairs, within_moved}
 use Rattle.texting_robots.proofs.prefilter.Prefilter.of.Goals as goal

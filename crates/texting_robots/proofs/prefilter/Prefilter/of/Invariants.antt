@@ -1,6 +1,5 @@
 use Rattle.std.{proofs.Common.drop, specs.Int.RustNames.bit_or}
-use Rattle.texting_robots.specs.Internal.Segments.{AreWithin}
-use Rattle.texting_robots.proofs.FirstLemmas.{segment_pairs}
+use Rattle.texting_robots.{specs.Internal.Segments.AreWithin, proofs.FirstLemmas.segment_pairs}
 use Rattle.texting_robots.proofs.prefilter.Prefilter.of.Given as goal
 
 abbrev pub invariant-loop-segment : goal.invariant-loop-segment

@@ -1,6 +1,5 @@
-use Rattle.std.proofs.Common.{arith}
-use Rattle.std.proofs.{lemmas.List.get_or_read}
-use Rattle.texting_robots.specs.{Internal.Segments.no_entry}
+use Rattle.std.proofs.{Common.arith, lemmas.List.get_or_read}
+use Rattle.texting_robots.specs.Internal.Segments.{no_entry}
 use Rattle.texting_robots.proofs.FirstLemmas.{first_decides, first_line}
 use Rattle.texting_robots.proofs.rules.RuleTable.decision_at.Goals as goal
 

@@ -1,6 +1,5 @@
 use Rattle.std.proofs.Common.{◌≡◌}
-use Rattle.texting_robots.specs.View.{seen_of}
-use Rattle.texting_robots.proofs.FirstLemmas.{cost_upto}
+use Rattle.texting_robots.{specs.View.seen_of, proofs.FirstLemmas.cost_upto}
 use Rattle.texting_robots.proofs.rules.Rules.cost.Given as goal
 
 abbrev pub invariant-loop-entry : goal.invariant-loop-entry

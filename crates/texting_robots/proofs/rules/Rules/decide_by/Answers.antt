@@ -1,5 +1,4 @@
-use Rattle.std.proofs.Common.{arith, rules}
-use Rattle.std.proofs.{Common.inr, lemmas.Bool.iff_false, lemmas.List.length-map}
+use Rattle.std.proofs.{Common.arith, Common.rules, Common.inr, lemmas.Bool.iff_false, lemmas.List.length-map}
 use Rattle.texting_robots.proofs.{FirstLemmas.first_looks, FirstLemmas.none_occurs, BestLemmas.none_denies}
 use Rattle.texting_robots.proofs.rules.Rules.decide_by.Goals as goal
 

@@ -1,5 +1,4 @@
-use Rattle.std.proofs.Common.{arith}
-use Rattle.std.proofs.{Common.inl, Common.inr, lemmas.List.length-map}
+use Rattle.std.proofs.{Common.arith, Common.inl, Common.inr, lemmas.List.length-map}
 use Rattle.texting_robots.proofs.{BestLemmas.none_denies, FirstLemmas.first_line, FirstLemmas.none_occurs}
 use Rattle.texting_robots.proofs.rules.Rules.decision_within.Goals as goal
 

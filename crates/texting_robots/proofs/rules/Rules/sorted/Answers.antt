@@ -1,5 +1,4 @@
-use Rattle.std.proofs.Common.{string_bytes, arith}
-use Rattle.std.proofs.lemmas.Grind.{common_steps}
+use Rattle.std.proofs.{Common.string_bytes, Common.arith, lemmas.Grind.common_steps}
 use Rattle.std.proofs.lemmas.List.Sorted.{All-permutation, IsPermutation-map, length_permutation}
 use Rattle.texting_robots.specs.Internal.Segments.{IsEntry, placed_at}
 use Rattle.texting_robots.proofs.rules.Rules.sorted.Goals as goal

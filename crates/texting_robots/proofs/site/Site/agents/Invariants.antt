@@ -1,6 +1,5 @@
 use Rattle.std.proofs.Common.{◌≡◌, ◌++◌, map}
-use Rattle.texting_robots.specs.{Agents.agents_in, Executable.file_lines}
-use Rattle.texting_robots.proofs.SiteNameLemmas.{left_at}
+use Rattle.texting_robots.{specs.Agents.agents_in, specs.Executable.file_lines, proofs.SiteNameLemmas.left_at}
 use Rattle.texting_robots.proofs.site.Site.agents.Given as goal
 
 abbrev pub invariant-loop-position : goal.invariant-loop-position

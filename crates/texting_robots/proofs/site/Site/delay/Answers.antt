@@ -1,5 +1,4 @@
-use Rattle.std.proofs.Common.{ap, ◌∙◌}
-use Rattle.std.specs.Option.{option_or}
+use Rattle.std.{proofs.Common.ap, proofs.Common.◌∙◌, specs.Option.option_or}
 use Rattle.texting_robots.specs.{Executable.delay_before_agents, Executable.file_lines, Rules.IsDelayFor}
 use Rattle.texting_robots.proofs.{ExecutableLemmas.delay_is_computed, MainTheoremLemmas.has_lines}
 use Rattle.texting_robots.proofs.site.Site.delay.Goals as goal

@@ -1,5 +1,4 @@
-use Rattle.std.proofs.Common.{arith}
-use Rattle.std.proofs.lemmas.List.{length-map}
+use Rattle.std.proofs.{Common.arith, lemmas.List.length-map}
 use Rattle.texting_robots.proofs.SiteGroupLemmas.{has_names}
 use Rattle.texting_robots.proofs.site.Site.has_agents.Goals as goal
 

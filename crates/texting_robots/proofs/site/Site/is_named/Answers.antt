@@ -1,6 +1,5 @@
 use Rattle.std.proofs.Common.{ap, length, sym, ◌∙◌, arith}
-use Rattle.std.specs.{Str.str_to_ascii_lowercase}
-use Rattle.std.proofs.lemmas.{List.length-map}
+use Rattle.std.{specs.Str.str_to_ascii_lowercase, proofs.lemmas.List.length-map}
 use Rattle.texting_robots.specs.Internal.Site.{named_of}
 use Rattle.texting_robots.proofs.{SiteNameLemmas.first_within, SiteGroupLemmas.names_any}
 use Rattle.texting_robots.proofs.site.Site.is_named.Goals as goal

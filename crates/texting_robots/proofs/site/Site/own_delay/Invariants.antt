@@ -1,5 +1,4 @@
-use Rattle.std.proofs.Common.{◌≡◌, slice_get}
-use Rattle.std.specs.{List.filter_map}
+use Rattle.std.{proofs.Common.◌≡◌, proofs.Common.slice_get, specs.List.filter_map}
 use Rattle.texting_robots.specs.{Executable.captured_delays, Executable.file_lines, Internal.Site.delay_of}
 use Rattle.texting_robots.proofs.site.Site.own_delay.Given as goal
 

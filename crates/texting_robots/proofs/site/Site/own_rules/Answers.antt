@@ -1,7 +1,6 @@
 use Rattle.std.proofs.{Common.Some, Common.append_assoc, Common.◌∙◌, lemmas.List.Elements.All-push}
 use Rattle.texting_robots.specs.{Pattern.IsOverlong, Rules.PlacedRule}
-use Rattle.texting_robots.proofs.RulesLemmas.{given_none}
-use Rattle.texting_robots.proofs.{SiteOwnLemmas.rejected_at}
+use Rattle.texting_robots.proofs.{RulesLemmas.given_none, SiteOwnLemmas.rejected_at}
 use Rattle.texting_robots.proofs.site.Site.own_rules.Goals as goal
 
 pub loop-rule-preserved : goal.loop-rule-preserved

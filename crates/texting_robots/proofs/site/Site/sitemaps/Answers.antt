@@ -1,6 +1,5 @@
 use Rattle.std.proofs.Common.{ap, arith, map, ◌∙◌}
-use Rattle.std.proofs.lemmas.List.{take_all}
-use Rattle.std.specs.List.{filter_map}
+use Rattle.std.{proofs.lemmas.List.take_all, specs.List.filter_map}
 use Rattle.texting_robots.specs.{Executable.file_lines, Internal.Site.listed, Rules.AreSitemapsOf}
 use Rattle.texting_robots.proofs.{ExecutableLemmas.sitemaps_are_computed, MainTheoremLemmas.has_lines}
 use Rattle.texting_robots.proofs.SiteOwnLemmas.{listed_more}

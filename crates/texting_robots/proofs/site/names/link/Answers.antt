@@ -1,6 +1,5 @@
 use Rattle.std.proofs.Common.{◌≡◌, ◌<◌, ◌-◌, ◌+◌, ap, arith, length, map, refl, subst, ◌∙◌}
-use Rattle.std.specs.Str.{str_to_ascii_lowercase}
-use Rattle.std.proofs.lemmas.{List.length-map}
+use Rattle.std.{specs.Str.str_to_ascii_lowercase, proofs.lemmas.List.length-map}
 use Rattle.texting_robots.specs.Internal.Site.{AreLinked, bucket_of, named_of}
 use Rattle.texting_robots.proofs.SiteNameLemmas.{agent_at, linked_more, linked_none}
 use Rattle.texting_robots.proofs.site.names.link.Goals as goal

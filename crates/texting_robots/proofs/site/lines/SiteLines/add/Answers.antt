@@ -1,5 +1,4 @@
-use Rattle.texting_robots.specs.Internal.Site.{listed}
-use Rattle.texting_robots.proofs.SiteLemmas.{given_push}
+use Rattle.texting_robots.{specs.Internal.Site.listed, proofs.SiteLemmas.given_push}
 use Rattle.texting_robots.proofs.site.lines.SiteLines.add.Goals as goal
 
 pub returns-in_ok-push-in-Sitemap-clause-sitemaps :

@@ -1,15 +1,15 @@
 use Rattle.std.proofs.Common.{◌≡◌, ◌+◌, ◌-◌, ◌++◌, [], ◌∷◌, ℕ, List, append_assoc, append-nil, ap, arith, map}
 use Rattle.std.proofs.Common.{cond, drop, length, length-drop, None, refl, sym, take, true, ◌∙◌}
-use Rattle.std.proofs.lemmas.Bool.{Decides.nat_tests}
+use Rattle.std.proofs.{lemmas.Bool.Decides.nat_tests, Math.Seq.drop-append_seam, Math.Seq.take-append_seam}
 use Rattle.std.proofs.lemmas.List.{length-append, nil_from_length, take-append-drop}
-use Rattle.std.proofs.Math.Seq.{drop-append_seam, take-append_seam}
 use Rattle.std.specs.List.{filter_map, last_or, list_any}
 use Rattle.texting_robots.specs.{Executable.file_lines, Group.is_agent, Line.LineValue, Line.delay_in}
 use Rattle.texting_robots.specs.Internal.{Cut.empty_lines, Cut.read_as, Line.line_of, Line.lines_of}
 use Rattle.texting_robots.specs.Internal.Site.{count_after, early_after, joins_after, line_at, group_after}
 use Rattle.texting_robots.proofs.EmptyLemmas.{agents_past, delay_past, named_past, sitemaps_past, tagged_past}
-use Rattle.texting_robots.proofs.{CutFromFront.bodies_nil, LineLemmas.front_read, RulesLemmas.before_agents}
-use Rattle.texting_robots.proofs.{RulesLemmas.given_more, SiteLemmas.agents_more, SiteLemmas.early_more}
+use Rattle.texting_robots.proofs.{CutFromFront.bodies_nil, LineLemmas.front_read}
+use Rattle.texting_robots.proofs.RulesLemmas.{before_agents, given_more}
+use Rattle.texting_robots.proofs.SiteLemmas.{agents_more, early_more}
 use Rattle.texting_robots.proofs.site.lines.SiteLines.read.Goals as goal
 
 pub loop-rest-init : goal.loop-rest-init

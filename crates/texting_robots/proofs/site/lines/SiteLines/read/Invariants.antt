@@ -1,10 +1,9 @@
 use Rattle.std.proofs.Common.{◌≡◌, ◌+◌, ◌≤◌, ◌++◌, ◌||◌, ℕ, List, cond, length, map, true}
 use Rattle.std.specs.List.{filter_map, list_any}
 use Rattle.texting_robots.specs.Executable.{delay_before_agents, file_lines, sitemaps_in}
-use Rattle.texting_robots.specs.{Group.is_agent, Internal.Cut.read_as, Internal.Line.lines_of}
-use Rattle.texting_robots.specs.Internal.Site.{listed, named, named_from, named_of, tag_at, tagged}
-use Rattle.texting_robots.specs.Internal.Site.{tagged_from}
-use Rattle.texting_robots.proofs.{RulesLemmas.delay_from}
+use Rattle.texting_robots.{specs.Group.is_agent, proofs.RulesLemmas.delay_from}
+use Rattle.texting_robots.specs.Internal.{Cut.read_as, Site.listed, Site.named, Site.tag_at, Site.tagged}
+use Rattle.texting_robots.specs.Internal.{Line.lines_of, Site.named_from, Site.named_of, Site.tagged_from}
 use Rattle.texting_robots.proofs.site.lines.SiteLines.read.Given as goal
 
 -- what was read so far and what the remaining lines give is what the file gives

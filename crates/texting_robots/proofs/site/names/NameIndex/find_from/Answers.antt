@@ -1,6 +1,5 @@
 use Rattle.std.proofs.Common.{◌-◌, arith, sym, ◌∙◌}
-use Rattle.std.proofs.lemmas.Option.{slice_get_within}
-use Rattle.std.specs.Str.{str_to_ascii_lowercase}
+use Rattle.std.{proofs.lemmas.Option.slice_get_within, specs.Str.str_to_ascii_lowercase}
 use Rattle.texting_robots.proofs.NameLemmas.{tested_names}
 use Rattle.texting_robots.proofs.SiteNameLemmas.{agent_at, found, further, passed, walk_on}
 use Rattle.texting_robots.proofs.site.names.NameIndex.find_from.Goals as goal

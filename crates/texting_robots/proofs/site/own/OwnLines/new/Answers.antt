@@ -1,6 +1,5 @@
 use Rattle.std.proofs.Common.{map, refl, arith}
-use Rattle.std.specs.Str.{str_to_ascii_lowercase}
-use Rattle.std.proofs.lemmas.List.{length-map}
+use Rattle.std.{specs.Str.str_to_ascii_lowercase, proofs.lemmas.List.length-map}
 use Rattle.texting_robots.specs.Internal.Site.{tag_at}
 use Rattle.texting_robots.proofs.{SiteNameLemmas.first_here, SiteOwnLemmas.whole_walk}
 use Rattle.texting_robots.proofs.site.own.OwnLines.new.Goals as goal

@@ -1,5 +1,4 @@
-use Rattle.std.proofs.Common.{◌≡◌, length}
-use Rattle.std.specs.List.{filter_map}
+use Rattle.std.{proofs.Common.◌≡◌, proofs.Common.length, specs.List.filter_map}
 use Rattle.texting_robots.specs.Internal.Site.{rule_of}
 use Rattle.texting_robots.proofs.site.rules.SiteRulesIterator.next.Given as goal
 
