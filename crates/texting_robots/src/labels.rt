@@ -106,8 +106,8 @@ impl<'n, 'a> Iterator for LabeledLineIter<'n, 'a> {
 /// The lines of the file `txt`, each with its number and its membership for the crawler with the product token `agent`.
 /// It doesn't allocate, and there are no more lines than bytes.
 ///
-/// All bytes are read, while a robot reads the first [`FILE_LIMIT`](crate::robot::FILE_LIMIT). To compare
-/// these lines with a robot's rules or decisions, pass the same bytes.
+/// All bytes are read, while a robot reads the first [`FILE_LIMIT`](crate::robot::FILE_LIMIT). To
+/// compare these lines with a robot's rules or decisions, pass the same bytes.
 pub fn labeled_lines<'n, 'a>(agent: &'n str, txt: &'a [u8]) -> LabeledLineIter<'n, 'a>
     ensures labels { result ≡ labels_of (group_name agent.now (file_lines txt.now)) (file_bodies txt.now) }
     ensures count { length result ≤ length txt.now }

@@ -1,13 +1,13 @@
-//! Reads a robots.txt file for a crawler: which URLs it may fetch, how long it has to wait between two
-//! requests, and which sitemaps the file lists. It is an independent rewrite of the Rust crate
-//! `texting_robots`, which follows Google's interpretation of the Robots Exclusion Protocol (RFC 9309).
-//! `docs/COMPATIBILITY.md` lists the differences.
+//! Reads a robots.txt file for a crawler: which URLs it may fetch, how long it has to wait between
+//! two requests, and which sitemaps the file lists. It is an independent rewrite of the Rust crate
+//! `texting_robots`, which follows Google's interpretation of the Robots Exclusion Protocol (RFC
+//! 9309). `docs/COMPATIBILITY.md` lists the differences.
 //!
-//! Start with [`Robot`]: `Robot::new` reads a file for a crawler, and `allowed` decides about a URL.
-//! [`Site`] reads a file once for many crawlers, and `Site::robot` makes the same robots.
-//! [`allowed_in_file`] reads a file and decides about one match target; its contract is the main theorem.
-//! [`get_robots_url`] returns the address of a site's file. [`parser`], [`minregex`] and [`view`] are the
-//! layers below.
+//! Start with [`Robot`]: `Robot::new` reads a file for a crawler, and `allowed` decides about a
+//! URL. [`Site`] reads a file once for many crawlers, and `Site::robot` makes the same robots.
+//! [`allowed_in_file`] reads a file and decides about one match target; its contract is the main
+//! theorem. [`get_robots_url`] returns the address of a site's file. [`parser`], [`minregex`] and
+//! [`view`] are the layers below.
 //!
 //! ```
 //! use std::alloc::Global;
@@ -25,8 +25,9 @@
 //! }
 //! ```
 //!
-//! A call that may allocate takes an allocator, except [`push_escaped_bytes`], which uses its string's.
-//! If an allocation fails, it returns an error, usually `Error::Memory`. Others are listed under 'Errors'.
+//! A call that may allocate takes an allocator, except [`push_escaped_bytes`], which uses its
+//! string's. If an allocation fails, it returns an error, usually `Error::Memory`. Others are
+//! listed under 'Errors'.
 #![tactic(auto)]
 
 pub mod address;

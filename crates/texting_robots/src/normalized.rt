@@ -11,9 +11,9 @@ ghost use Rattle.texting_robots.specs.Internal.Normalized.{IsPath, IsPort, IsSit
 
 use std::simd::prelude::*;
 
-/// One bit for each upper half of an ASCII byte. The tables below are sets of bytes that `url` leaves
-/// unchanged in a `part` of a URL. A table is indexed by the lower half of a byte, and has the bits of the
-/// upper halves with which the byte is in the set.
+/// One bit for each upper half of an ASCII byte. The tables below are sets of bytes that `url`
+/// leaves unchanged in a `part` of a URL. A table is indexed by the lower half of a byte, and has
+/// the bits of the upper halves with which the byte is in the set.
 const UPPER: &[u8; 16] = &[1, 2, 4, 8, 16, 32, 64, 128, 0, 0, 0, 0, 0, 0, 0, 0];
 
 const NAME: &[u8; 16] = &[

@@ -113,10 +113,11 @@ impl Robot {
         Ok(match_target(alloc, url)?)
     }
 
-    /// Whether the crawler may fetch a URL, or a path alone. Any other string is matched as described at
-    /// [`Robot::prepare_url`]. As tests show, it doesn't allocate for a path without bytes to escape, nor for
-    /// an `http` or `https` URL without a user that `url` would leave unchanged, but for a missing last
-    /// slash, and whose host is a name with a last label that begins with a letter.
+    /// Whether the crawler may fetch a URL, or a path alone. Any other string is matched as
+    /// described at [`Robot::prepare_url`]. As tests show, it doesn't allocate for a path without
+    /// bytes to escape, nor for an `http` or `https` URL without a user that `url` would leave
+    /// unchanged, but for a missing last slash, and whose host is a name with a last label that
+    /// begins with a letter.
     ///
     /// # Errors
     ///
@@ -215,8 +216,8 @@ impl Robot {
         self.rules.decision_within(view, None, budget)
     }
 
-    /// [`Robot::decision_within`] for a view of `text`. A rule with a pair of bytes after a `*` that
-    /// isn't in the text is usually passed over, as one look. Finding pairs isn't counted.
+    /// [`Robot::decision_within`] for a view of `text`. A rule with a pair of bytes after a `*`
+    /// that isn't in the text is usually passed over, as one look. Finding pairs isn't counted.
     ///
     /// # Errors
     ///

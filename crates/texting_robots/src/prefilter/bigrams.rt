@@ -40,6 +40,7 @@ impl BigramSet {
         self.bits == 0
     }
 
+    /// The union.
     pub(crate) fn and(self, other: BigramSet) -> Self
         ensures { result.bits ≡ bit_or self.bits other.bits }
     {
