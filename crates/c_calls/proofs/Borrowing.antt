@@ -167,7 +167,7 @@ heap 𝓛 g vs is = record {
   good = (heap_typed 𝓛 g vs is).1;
 }
 
--- ---- steps: the next argument is a local; a local; a reference in a local, taken again
+-- ---- Steps: the next argument is a local; a local; a reference in a local, taken again
 
 module _ {M : Type 1} {𝓤 : Ura M} {𝓛 : Logic 𝓤} {K : Type 0} {Γ : List (Item 𝓤)} {E : Env 𝓤 𝓛.H} {i : ℕ}
     {s : Share} where
@@ -185,7 +185,7 @@ module _ {M : Type 1} {𝓤 : Ura M} {𝓛 : Logic 𝓤} {K : Type 0} {Γ : List
       → Rv K 𝓛 Γ E (addr_of (local_place i (deref τ ∷ []))) (vptr b o)
   again t is = addr t (through t is (stop t))
 
--- ---- formulas
+-- ---- Formulas of such a function, from its entry to its exit.
 
 abbrev pub tokens : (n : ℕ) → Lfts n → Shares n → Fml
 tokens zero κs qs = ftrue

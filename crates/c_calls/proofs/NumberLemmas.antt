@@ -69,7 +69,7 @@ pub site_lines_fit : (site agent : List ℕ) (robot : RobotValue) → IsSiteOfSo
 site_lines_fit site agent robot (file, is) of =
     lines_fit robot (agent, file, subst (λ site. IsRobotWithoutSitemaps agent site robot) is of)
 
--- ---- the number encodes the decision
+-- ---- The number encodes the decision.
 
 line_says : (rules : List PlacedRule) (target : List ℕ) (allowed : Bool) (line : ℕ) → 0 < line
     → IsVerdict (unplaced rules) target allowed

@@ -33,7 +33,7 @@ abbrev pub kept_at : (R : RattleType) → Ptr → Option R.Denot → Fml
 kept_at R at None = ftrue
 kept_at R at (Some value) = owned_at R at value
 
--- the same, or nothing if the pointer is null
+-- ownership of this value, or of nothing if the pointer is null
 abbrev pub owned_or_null : (R : RattleType) → Ptr → R.Denot → Fml
 owned_or_null R at value = if_non_null at (owned_at R at value)
 

@@ -44,7 +44,7 @@ HasResults rules text numbers = IsUtf8 text × AllZip (IsResult rules) (items_in
 abbrev pub ArePutIn : (List ℤ → Type 0) → List ℤ → List ℤ → Type 0
 ArePutIn P old new = (numbers : List ℤ) × P numbers × IsPutIn old new numbers
 
--- ---- the results of many crawlers: a row for each crawler with a number for each URL
+-- ---- The results of many crawlers: a row for each crawler with a number for each URL
 
 -- the number in the row of a crawler for which the site is rejected
 abbrev pub no_result : ℤ

@@ -33,12 +33,12 @@ abbrev pub line_after : Error → ℕ → ℕ
 line_after (Overlong line) old = line
 line_after error old = old
 
--- the same, with the caller's variable for a line
+-- `HasError`, with the caller's variable for a line
 abbrev pub HasErrorAt : (Error → Type 0) → ℤ → ℕ → ℕ → Type 0
 HasErrorAt Why status old new = ((status ≡ pos 0) × (new ≡ old))
     ⊎ ((error : Error) × Why error × (status ≡ status_of error) × (new ≡ line_after error old))
 
--- ---- the cause of each error, by task: texts are checked first, then the room for results, then an
+-- ---- The cause of each error, by task: texts are checked first, then the room for results, then an
 -- allocation can fail
 
 -- the number, counted from 1, of the first line with a rule for the crawler that is too long

@@ -10,6 +10,7 @@ use crate::urls::{result_for, results_of};
 use std::alloc::Global;
 use texting_robots::Robot;
 
+/// Whether the places don't decrease, and none is after the limit.
 fn ascend(ends: &[usize], limit: usize) -> bool
     ensures { MatchBool result (Ascend 0 ends.now limit) (¬ Ascend 0 ends.now limit) }
 {
@@ -23,6 +24,7 @@ fn ascend(ends: &[usize], limit: usize) -> bool
     true
 }
 
+/// Whether each URL, up to its place in `ends`, is UTF-8.
 fn are_utf8(text: &[u8], ends: &[usize]) -> bool
     requires { Ascend 0 ends.now (length text.now) }
     ensures { MatchBool result (All IsUtf8 (pieces text.now 0 ends.now)) (¬ All IsUtf8 (pieces text.now 0 ends.now)) }
@@ -37,6 +39,7 @@ fn are_utf8(text: &[u8], ends: &[usize]) -> bool
     true
 }
 
+/// The result for each URL, up to its place in `ends`.
 fn numbers_at(alloc: Global, robot: &Robot, text: &[u8], ends: &[usize]) -> Result<Vec<i64>, Error>
     requires robot { IsRobotOfSomeFile robot.now }
     requires ends { Ascend 0 ends.now (length text.now) }
@@ -55,6 +58,7 @@ fn numbers_at(alloc: Global, robot: &Robot, text: &[u8], ends: &[usize]) -> Resu
     Ok(numbers)
 }
 
+/// The results that [`query_many`] writes, or the first error.
 fn results_in(
     alloc: Global,
     robot: &Robot,
@@ -84,7 +88,7 @@ fn results_in(
     Ok(numbers)
 }
 
-/// Each URL ends at one of these places, or else LF separates them, and the places don't matter.
+/// Writes a result for each URL. They end at these places if `are_ended`, else LF separates them.
 pub fn query_many(
     alloc: Global,
     robot: &Robot,

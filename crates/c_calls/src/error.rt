@@ -6,7 +6,7 @@ use texting_robots::RobotError;
 pub enum Error {
     /// The crawler's name or a URL isn't UTF-8.
     NotUtf8,
-    /// Or a URL is too long for the crate `url`.
+    /// An allocation failed, or a URL is too long for the crate `url`.
     Memory,
     BufferTooSmall,
     NoDelay,
@@ -24,6 +24,7 @@ impl Error {
     ghost use Rattle.std.specs.Prelude.{◌≡◌};
     ghost use Rattle.c_calls.specs.Status.{line_after, status_of};
 
+    /// What the C function returns.
     pub fn status(&self) -> i32
         ensures { result ≡ status_of self.now }
     {
@@ -39,7 +40,7 @@ impl Error {
         }
     }
 
-    /// For a rule that is too long, its line is written first.
+    /// The status; the line of a rule that is too long is written.
     pub fn status_at(&self, line: &mut usize) -> i32
         ensures status { result ≡ status_of self.now }
         ensures line { line.new ≡ line_after self.now line.old }

@@ -1,7 +1,6 @@
-//! What a file means for a crawler.
+//! What a file means for a crawler, and bytes as strings.
 ghost use Rattle.std.specs.Prelude.{◌≡◌, IfErr, IfOk, IsUtf8};
-ghost use Rattle.c_calls.specs.File.{IsRobotFor, bytes_read};
-ghost use Rattle.c_calls.specs.Status.{IsWhyNoRobot};
+ghost use Rattle.c_calls.specs.{File.IsRobotFor, File.bytes_read, Status.IsWhyNoRobot};
 
 use crate::error::Error;
 use std::alloc::Global;
@@ -28,7 +27,7 @@ pub(crate) fn robot_of(alloc: Global, agent: &[u8], file: &[u8]) -> Result<Robot
             robot.sitemaps = Vec::new(alloc);
             Ok(robot)
         }
-        // the robot of a site is rejected with the line
+        // a site also tells the line of the rule that is too long
         Err(LibraryError::InvalidRule) => {
             let site = Site::new(alloc, file)?;
             Ok(site.robot_without_sitemaps(alloc, agent)?)

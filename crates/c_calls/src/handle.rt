@@ -1,7 +1,6 @@
 //! A robot that C keeps between calls.
 ghost use Rattle.std.specs.Prelude.{◌≡◌, ◌≢◌, ◌<◌, Some, None, IfErr, IfOk, pos};
-ghost use Rattle.c_calls.specs.File.{GivesRobot, IsRobotFor, bytes_read};
-ghost use Rattle.c_calls.specs.Number.{IsNumber};
+ghost use Rattle.c_calls.specs.{File.GivesRobot, File.IsRobotFor, File.bytes_read, Number.IsNumber};
 ghost use Rattle.c_calls.specs.Status.{HasErrorAt, IsWhyNoRobot, status_of};
 
 use crate::error::Error;
@@ -10,6 +9,7 @@ use crate::kept::{Handle, Kept};
 use std::alloc::Global;
 use texting_robots::Robot;
 
+/// Frees the robot.
 pub fn close(robot: Handle<Robot>) {
     drop(robot.into_box());
 }
@@ -17,7 +17,7 @@ pub fn close(robot: Handle<Robot>) {
 /// Compiles only for a type whose values can be sent to other threads and shared between them.
 pub(crate) fn for_any_thread<T: Send + Sync>(_: &T) {}
 
-/// For what threads of C may do, see `robots.h`.
+/// A robot for any thread: `robots.h` says what threads of C may do.
 fn open(alloc: Global, agent: &[u8], file: &[u8]) -> Result<Box<Robot>, Error>
     ensures ok { IfOk result (λ robot. IsRobotFor agent.now (bytes_read file.now) robot.value) }
     ensures error { IfErr result (IsWhyNoRobot agent.now (bytes_read file.now)) }
@@ -27,7 +27,8 @@ fn open(alloc: Global, agent: &[u8], file: &[u8]) -> Result<Box<Robot>, Error>
     Ok(robot)
 }
 
-/// If that fails, the pointer is `at`, and the line of a rule that is too long is written.
+/// Opens a robot for C. If that fails, the pointer is `at`, and the line of a rule that is too long
+/// is written.
 pub fn opened(
     alloc: Global,
     agent: &[u8],

@@ -1,10 +1,9 @@
-//! The results of many crawlers for many URLs.
-ghost use Rattle.std.specs.Prelude.{◌≡◌, ◌≢◌, ◌<◌, ◌≤◌, ◌*◌, IfErr, IfOk, IfSome, IsUtf8, MatchBool, codes, length, map, pos};
-ghost use Rattle.std.specs.Prelude.{string_bytes};
+//! The results of many crawlers for many URLs, row by row.
+ghost use Rattle.std.specs.Prelude.{◌≡◌, ◌≢◌, ◌<◌, ◌≤◌, ◌*◌, IfErr, IfOk, IfSome, IsUtf8, MatchBool, codes};
+ghost use Rattle.std.specs.Prelude.{length, map, pos, string_bytes};
 ghost use Rattle.std.specs.List.{AllZip};
-ghost use Rattle.c_calls.specs.File.{IsSiteOfSomeFile};
+ghost use Rattle.c_calls.specs.{File.IsSiteOfSomeFile, Status.HasError, Status.IsWhyNoMatrix};
 ghost use Rattle.c_calls.specs.Results.{ArePutIn, AreRows, HasMatrix, IsResultOn, IsRow, LinesFit, items_in};
-ghost use Rattle.c_calls.specs.Status.{HasError, IsWhyNoMatrix};
 ghost use Rattle.texting_robots.specs.Callers.{prepared};
 
 use crate::error::Error;
@@ -16,6 +15,7 @@ use texting_robots::{Robot, RobotError, Site, match_target};
 /// The number in the row of a crawler for which the file is rejected.
 pub const NO_RESULT: i64 = i64::MIN;
 
+/// The match targets of URLs that LF separates.
 fn targets_of(alloc: Global, urls: &str) -> Result<Vec<String>, AllocError>
     ensures { IfOk result (λ targets. map string_bytes targets.items ≡ map prepared (items_in urls.now)) }
 {
@@ -26,6 +26,7 @@ fn targets_of(alloc: Global, urls: &str) -> Result<Vec<String>, AllocError>
     Ok(targets)
 }
 
+/// The result of a crawler's robot on each match target.
 fn results_on(alloc: Global, robot: &Robot, targets: &[String]) -> Result<Vec<i64>, AllocError>
     requires { LinesFit robot.now.rules }
     ensures { IfOk result (λ row. AllZip (IsResultOn robot.now.rules) (map string_bytes targets.now) row.items) }
@@ -37,6 +38,7 @@ fn results_on(alloc: Global, robot: &Robot, targets: &[String]) -> Result<Vec<i6
     Ok(row)
 }
 
+/// The crawler's results, or `NO_RESULT` for each target if the file is rejected for it.
 fn row_of(
     alloc: Global,
     site: &Site,
@@ -98,6 +100,7 @@ fn rows_of(
     Ok(numbers)
 }
 
+/// The rows of the crawlers for the URLs, both separated by LF.
 fn matrix(alloc: Global, site: &Site, agents: &str, urls: &str) -> Result<Vec<i64>, AllocError>
     requires { IsSiteOfSomeFile site.now }
     ensures rows { IfOk result (λ numbers. AreRows site.now (map prepared (items_in urls.now)) (items_in agents.now) numbers.items) }
@@ -108,6 +111,7 @@ fn matrix(alloc: Global, site: &Site, agents: &str, urls: &str) -> Result<Vec<i6
     Ok(numbers)
 }
 
+/// Whether there is room for all results.
 fn fits(agents: &str, urls: &str, capacity: usize) -> bool
     ensures { MatchBool result (length (items_in agents.now) * length (items_in urls.now) ≤ capacity)
         (capacity < length (items_in agents.now) * length (items_in urls.now)) }
@@ -118,6 +122,7 @@ fn fits(agents: &str, urls: &str, capacity: usize) -> bool
     }
 }
 
+/// Both as strings, if they are UTF-8 and there is room for their results.
 fn texts_of<'a>(
     agents: &'a [u8],
     urls: &'a [u8],
@@ -136,6 +141,7 @@ fn texts_of<'a>(
     Ok((agents, urls))
 }
 
+/// The results that [`matrix_by`] writes, or the first error.
 fn matrix_in(
     alloc: Global,
     site: &Site,
@@ -153,6 +159,7 @@ fn matrix_in(
     Ok(numbers)
 }
 
+/// Writes the results of each crawler for each URL, and returns the status.
 pub fn matrix_by(alloc: Global, site: &Site, agents: &[u8], urls: &[u8], out: &mut [i64]) -> i32
     requires { IsSiteOfSomeFile site.now }
     ensures written { result ≡ pos 0 → ArePutIn (HasMatrix site.now agents.now urls.now) out.old out.new }

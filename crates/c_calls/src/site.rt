@@ -13,10 +13,12 @@ use crate::texts::{put, texts_in};
 use std::alloc::{AllocError, Global};
 use texting_robots::{Robot, Site};
 
+/// Frees the site.
 pub fn close(site: Handle<Site>) {
     drop(site.into_box());
 }
 
+/// A site for any thread.
 fn open(alloc: Global, file: &[u8]) -> Result<Box<Site>, Error>
     ensures ok { IfOk result (λ site. site.value ≡ bytes_read file.now) }
     ensures error { IfErr result IsWhyNoSite }
@@ -26,7 +28,7 @@ fn open(alloc: Global, file: &[u8]) -> Result<Box<Site>, Error>
     Ok(site)
 }
 
-/// If that fails, the pointer is `at`.
+/// Opens a site for C. If that fails, the pointer is `at`.
 pub fn opened(alloc: Global, file: &[u8], at: *mut Site) -> Kept<Site>
     ensures opened { result.status ≡ pos 0 → result.value ≡ Some (bytes_read file.now) }
     ensures kept { result.status ≢ pos 0 → result.at ≡ at }
@@ -38,6 +40,7 @@ pub fn opened(alloc: Global, file: &[u8], at: *mut Site) -> Kept<Site>
     }
 }
 
+/// The crawler's robot, without sitemaps.
 fn robot(alloc: Global, site: &Site, agent: &[u8]) -> Result<Box<Robot>, Error>
     ensures ok { IfOk result (λ robot. IsRobotFor agent.now site.now robot.value) }
     ensures error { IfErr result (IsWhyNoRobot agent.now site.now) }
@@ -47,7 +50,8 @@ fn robot(alloc: Global, site: &Site, agent: &[u8]) -> Result<Box<Robot>, Error>
     Ok(Box::new(alloc, robot)?)
 }
 
-/// If that fails, the pointer is `at`, and the line of a rule that is too long is written.
+/// Opens a crawler's robot for C. If that fails, the pointer is `at`, and the line of a rule that
+/// is too long is written.
 pub fn robot_opened(
     alloc: Global,
     site: &Site,
@@ -65,6 +69,7 @@ pub fn robot_opened(
     }
 }
 
+/// What [`number`] writes, or the error.
 fn number_in(site: &Site, which: usize, agent: &[u8]) -> Result<u64, Error>
     ensures ok { IfOk result (IsSiteNumber site.now which agent.now) }
     ensures error { IfErr result (IsWhyNoSiteNumber site.now which agent.now) }

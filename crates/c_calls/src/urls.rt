@@ -1,4 +1,4 @@
-//! The results for URLs.
+//! The results for URLs, as numbers.
 ghost use Rattle.std.specs.Prelude.{◌≡◌, ◌≢◌, ◌<◌, ◌≤◌, ◌==◌, ◌^◌, IfErr, IfOk, IfSome, IsUtf8, count_by, length, pos, string_bytes};
 ghost use Rattle.std.specs.List.{AllZip};
 ghost use Rattle.c_calls.specs.File.{GivesRobot, IsRobotOfSomeFile, bytes_read};
@@ -30,6 +30,7 @@ pub(crate) fn number_on(robot: &Robot, target: &str) -> i64
     number_of(robot.decide_prepared(target))
 }
 
+/// The result for a URL that is UTF-8.
 fn number_for(alloc: Global, robot: &Robot, url: &str) -> Result<i64, AllocError>
     requires { LinesFit robot.now.rules }
     ensures { IfOk result (IsResult robot.now.rules url.now) }
@@ -50,6 +51,7 @@ pub(crate) fn result_for(alloc: Global, robot: &Robot, url: &[u8]) -> Result<i64
     }
 }
 
+/// The result for a URL, unless that may take more looks than the budget.
 fn result_within(alloc: Global, robot: &Robot, url: &[u8], budget: u64) -> Result<i64, Error>
     requires { IsRobotOfSomeFile robot.now }
     ensures ok { IfOk result (HasResult robot.now.rules url.now) }
@@ -63,6 +65,7 @@ fn result_within(alloc: Global, robot: &Robot, url: &[u8], budget: u64) -> Resul
     }
 }
 
+/// The results for URLs that LF separates.
 fn results_for(alloc: Global, robot: &Robot, urls: &str) -> Result<Vec<i64>, AllocError>
     requires { IsRobotOfSomeFile robot.now }
     ensures results { IfOk result (λ numbers. AllZip (IsResult robot.now.rules) (items_in urls.now) numbers.items) }
@@ -88,6 +91,7 @@ pub(crate) fn count_items(text: &str) -> usize
     count_feeds(text.as_bytes()) + 1
 }
 
+/// The URLs, if they are UTF-8 and there is room for their results.
 fn urls_of<'a>(urls: &'a [u8], capacity: usize) -> Result<&'a str, Error>
     ensures ok { IfOk result (λ text. (text.now ≡ urls.now) × IsUtf8 urls.now × (length (items_in urls.now) ≤ capacity)) }
     ensures error { IfErr result (IsWhyNoResults urls.now capacity) }
@@ -99,6 +103,7 @@ fn urls_of<'a>(urls: &'a [u8], capacity: usize) -> Result<&'a str, Error>
     Ok(text)
 }
 
+/// The results for URLs that LF separates, by a file for a crawler.
 pub fn decide(
     alloc: Global,
     agent: &[u8],
@@ -134,6 +139,7 @@ pub(crate) fn results_of(
     Ok(numbers)
 }
 
+/// Writes the result for a URL, and returns the status.
 pub fn query(alloc: Global, robot: &Robot, url: &[u8], out: &mut i64) -> i32
     requires { IsRobotOfSomeFile robot.now }
     ensures written { result ≡ pos 0 → HasResult robot.now.rules url.now out.new }
@@ -149,6 +155,7 @@ pub fn query(alloc: Global, robot: &Robot, url: &[u8], out: &mut i64) -> i32
     }
 }
 
+/// Writes what [`query`] does, unless that may take more looks than the budget.
 pub fn query_within(alloc: Global, robot: &Robot, url: &[u8], budget: u64, out: &mut i64) -> i32
     requires { IsRobotOfSomeFile robot.now }
     ensures written { result ≡ pos 0 → HasResult robot.now.rules url.now out.new }

@@ -11,12 +11,10 @@ ghost use base.Fml.{Lft, Share, flft};
 ghost use Rattle.c_calls.specs.Batch.{AreResults, IsWhyNone};
 ghost use Rattle.c_calls.specs.File.{GivesRobot, IsRobotFor, IsRobotOfSomeFile, bytes_read};
 ghost use Rattle.c_calls.specs.Kept.{Robots, lends, opens, owned_or_null};
-ghost use Rattle.c_calls.specs.Number.{IsNumber};
-ghost use Rattle.c_calls.specs.Response.{SaysMeaning};
+ghost use Rattle.c_calls.specs.{Number.IsNumber, Response.SaysMeaning, Text.IsTooLong, Text.IsWritten};
 ghost use Rattle.c_calls.specs.Results.{ArePutIn, HasResult, HasResults, is_allowed, line_named, no_result};
 ghost use Rattle.c_calls.specs.Status.{HasError, HasErrorAt, IsAddress, IsWhyNoAddress, IsWhyNoResult};
 ghost use Rattle.c_calls.specs.Status.{IsWhyNoRobot, IsWhyNotWithin, IsWhyUndecided, status_of};
-ghost use Rattle.c_calls.specs.Text.{IsTooLong, IsWritten};
 ghost use Rattle.texting_robots.specs.Callers.{RobotValue};
 
 mod site;

@@ -13,7 +13,7 @@ kind_of (SitemapLine value) = Sitemap
 kind_of (CrawlDelay delay) = Delay
 kind_of _ = Other
 
--- independent of where the bytes of its line are stored
+-- a row by value, wherever the bytes of its line are
 pub record RowValue : Type 0 where
   pub number : ℕ
   pub kind : Kind
@@ -22,7 +22,7 @@ pub record RowValue : Type 0 where
 abbrev pub row_value : Row → RowValue
 row_value row = record { number = row.number; kind = row.kind; line = by_value row.line }
 
--- numbered from n
+-- the rows of these lines, numbered from n
 abbrev pub rows_from : ℕ → List LineValue → List RowValue
 rows_from n [] = []
 rows_from n (line ∷ lines) =

@@ -68,6 +68,7 @@ fn forget_oldest(robots: &mut IndexMap<String, Robot>)
     robots.shift_remove_index(0);
 }
 
+/// Removes the oldest robot if the cache is full and has none for the address.
 fn evict_one(robots: &mut IndexMap<String, Robot>, address: &str)
     requires { index_map_len robots.old ≤ most_robots }
     ensures room { index_map_len robots.new + (if is_some (get_by_text robots.new address.now) then 0 else 1) ≤ most_robots }
@@ -98,9 +99,9 @@ fn add(
     Ok(())
 }
 
-/// The robots of at most [`MAX_ROBOTS`] sites for one crawler, whose product token is passed to each call. A new site
-/// replaces the oldest one if the cache is full. A robot for a site that has one replaces it, and doesn't change the
-/// site's age.
+/// The robots of at most [`MAX_ROBOTS`] sites for one crawler, whose product token each call gets.
+/// If it is full, a new site replaces the oldest one. A new robot of a site replaces its old one,
+/// at the same age.
 #[derive(Drop)]
 pub struct Cache {
     pub robots: IndexMap<String, Robot>,

@@ -25,6 +25,7 @@ pub struct Plan<'a> {
     pub wait: u64,
 }
 
+/// The URLs that the robot allows, in order.
 fn allowed_of<'a>(alloc: Global, robot: &Robot, urls: &[&'a str]) -> Result<Vec<&'a str>, Error>
     ensures urls { IfOk result (λ allowed. AreAllowed (unplaced robot.now.rules)
         (map (λ url. url.now) urls.now) (map (λ url. url.now) allowed.items)) }

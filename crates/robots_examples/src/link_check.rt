@@ -1,6 +1,5 @@
 //! A link checker: how many of a page's links a crawler may not fetch.
-ghost use Rattle.std.specs.Prelude.{◌≡◌, map, sum_by};
-ghost use Rattle.std.specs.List.{AllZip};
+ghost use Rattle.std.specs.{Prelude.◌≡◌, Prelude.map, Prelude.sum_by, List.AllZip};
 ghost use Rattle.robots_examples.specs.LinkCheck.{AreDenied};
 ghost use Rattle.texting_robots.specs.Callers.{LooksForRules, seen_of, unplaced};
 
@@ -15,7 +14,7 @@ pub struct Denied {
     pub looks: u64,
 }
 
-/// Each view is over the match target of a link. It doesn't allocate.
+/// How many links are denied; each view has the match target of one. It doesn't allocate.
 pub fn count_denied(robot: &Robot, links: &mut [View<'_>]) -> Denied
     ensures count { AreDenied (unplaced robot.now.rules) (map (λ link. link.text) links.old) result.count }
     ensures views { AllZip (LooksForRules robot.now.rules) links.old links.new }

@@ -28,8 +28,8 @@ use std::io::ErrorKind;
 use std::{env, fs, io};
 use texting_robots::{Error, Robot};
 
-/// A string that is neither a URL nor a path is matched too. As it doesn't start with a slash, usually no
-/// rule matches it, and the result is "allow".
+/// Prints `allow` or `deny`, and the URL. A string that is neither a URL nor a path is matched too;
+/// as usually no rule matches it, it is allowed.
 fn print_verdict(rt: &HostRuntime, robot: &Robot, url: &str) -> io::Result<()> {
     match robot.decide(rt.alloc(), url) {
         Ok(decision) if decision.allowed => println!(rt; "allow {url}"),

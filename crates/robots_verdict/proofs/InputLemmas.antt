@@ -1,13 +1,12 @@
 -- Inputs: how they are split line by line.
-use Rattle.std.proofs.Common.{◌≡◌, ◌≢◌, ℕ, zero, suc, ◌+◌, ◌<◌, ◌==◌, true, false, List, [], ◌∷◌}
-use Rattle.std.proofs.Common.{◌++◌, ◌∙◌, Option, Some, None, Bor, IfErr, Result, Ok, Err, length, map, refl}
-use Rattle.std.proofs.Common.{◌&&◌, Bool, arith, append_assoc, drop, if◌then◌else◌, slice_index_or, take}
-use Rattle.std.specs.{Io.BufRead.strip_last, List.list_all, Str.is_utf8, Option.IsSomeAnd}
-use Rattle.std.specs.{Option.option_map, Result.IsErrAnd}
+use Rattle.std.proofs.Common.{◌≡◌, ◌≢◌, ℕ, zero, suc, ◌+◌, ◌<◌, ◌==◌, true, false, List, [], ◌∷◌, ◌++◌, ◌∙◌}
+use Rattle.std.proofs.Common.{Option, Some, None, Bor, IfErr, Result, Ok, Err, length, map, refl, ◌&&◌, Bool}
+use Rattle.std.proofs.Common.{arith, append_assoc, drop, if◌then◌else◌, slice_index_or, take}
+use Rattle.std.specs.{Io.BufRead.strip_last, List.list_all, Str.is_utf8, Result.IsErrAnd}
+use Rattle.std.specs.Option.{IsSomeAnd, option_map}
 use Rattle.std.proofs.lemmas.{Bool.ne_eqb, List.append-nil, List.drop_more}
-use Rattle.safe_output.specs.{Lines.lf}
-use Rattle.robots_verdict.specs.declared.fault.Fault.{Fault}
-use Rattle.robots_verdict.specs.declared.fault.Fault.TheVariants.{HeaderNotUtf8, Memory}
+use Rattle.safe_output.specs.Lines.{lf}
+use Rattle.robots_verdict.specs.declared.fault.Fault.{Fault, TheVariants.HeaderNotUtf8, TheVariants.Memory}
 use Rattle.robots_verdict.specs.Input.{Input, cr, input_of, line_from, split, urls_from, with_url}
 use Rattle.robots_verdict.specs.Internal.{IsFirstLf, IsOneLine}
 

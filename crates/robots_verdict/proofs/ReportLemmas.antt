@@ -1,29 +1,19 @@
 -- How a report is built, and that an input has at most one.
-use Rattle.std.proofs.Common.{arith}
-use Rattle.std.proofs.Common.{◌≡◌, ◌≢◌, ℕ, Bool, true, false, List, [], ◌∷◌, ◌++◌, Option, Some, None}
-use Rattle.std.proofs.Common.{IfErr, IfSome, MatchBool, Result, Ok, Err, ap, inl, inr, map, refl, subst, sym}
-use Rattle.std.proofs.Common.{◌∙◌}
+use Rattle.std.proofs.Common.{arith, ◌≡◌, ◌≢◌, ℕ, Bool, true, false, List, [], ◌∷◌, ◌++◌, Option, Some, None}
+use Rattle.std.proofs.Common.{IfSome, MatchBool, Result, Ok, Err, ap, inl, inr, map, refl, subst, sym, ◌∙◌}
 use Rattle.std.proofs.lemmas.Bool.{cases_Bool, false≢true}
-use Rattle.std.specs.{Result.IsErrAnd}
-use Rattle.texting_robots.specs.Callers.{IsMemoryErrorOr, IsRobotOf, RobotValue, delay_for, lines_read}
-use Rattle.texting_robots.specs.Callers.{placed_rules, rules_for, sitemaps_in}
-use Rattle.texting_robots.specs.declared.error.Error.{Error}
-use Rattle.texting_robots.specs.declared.error.Error.TheVariants as error
+use Rattle.texting_robots.specs.Callers.{IsRobotOf, RobotValue, delay_for, lines_read, placed_rules}
+use Rattle.texting_robots.specs.Callers.{rules_for, sitemaps_in}
 use Rattle.texting_robots.proofs.Shared.{Either, any_overlong_decides, delay_is_computed}
 use Rattle.texting_robots.proofs.Shared.{sitemaps_are_computed, answers_computed, lines_are_read}
 use Rattle.texting_robots.proofs.Shared.{read_rejected, rejection_is_computed}
-use Rattle.safe_output.specs.{declared.streams.ReadError.ReadError}
-use Rattle.robots_verdict.specs.{declared.fault.Fault.Fault, Fault.fault_of, Fault.fault_of_read}
-use Rattle.robots_verdict.specs.declared.fault.Fault.TheVariants.{HeaderNotUtf8, InvalidRule, Memory, Read}
-use Rattle.robots_verdict.specs.declared.fault.Fault.TheVariants.{NoEmptyLine}
-use Rattle.robots_verdict.specs.Input.{Input, are_utf8, split}
+use Rattle.robots_verdict.specs.{declared.fault.Fault.Fault, Input.Input, Input.are_utf8, Input.split}
+use Rattle.robots_verdict.specs.declared.fault.Fault.TheVariants.{HeaderNotUtf8, InvalidRule, NoEmptyLine}
 use Rattle.robots_verdict.specs.Report.{AddsVerdicts, IsRejected, IsReport, IsReportOn, IsReportText}
-use Rattle.robots_verdict.specs.Report.{IsReportOnUtf8}
-use Rattle.robots_verdict.specs.Report.{delay_line, sitemap_line}
-use Rattle.safe_output.specs.{Lines.ended}
+use Rattle.robots_verdict.specs.Report.{IsReportOnUtf8, delay_line, sitemap_line}
+use Rattle.safe_output.specs.Lines.{ended}
 use Rattle.safe_output.proofs.SanitizeLemmas.{ended-append, lines_added}
 use Rattle.robots_verdict.proofs.VerdictsLemmas.{lines_like, lines_once, some_lines}
-use Rattle.safe_output.specs.declared.streams.ReadError.TheVariants as reading
 
 pub text_made : (input : Input) (one two text : List ℕ) (robot : RobotValue)
     → IsRobotOf input.agent (lines_read input.file) robot → one ≡ ended (delay_line robot.delay ∷ [])

@@ -1,16 +1,14 @@
 -- Verdict lines: how they are appended one by one, that the URLs determine them, and that rules which decide
 -- alike have the same lines.
-use Rattle.std.proofs.Common.{arith}
-use Rattle.std.proofs.Common.{◌≡◌, ℕ, ◌+◌, ◌<◌, List, [], ◌∷◌, ◌++◌, length, map, take, append_assoc, refl}
-use Rattle.std.proofs.Common.{slice_index_or}
-use Rattle.std.specs.{List.AllZip}
+use Rattle.std.proofs.Common.{arith, ◌≡◌, ℕ, ◌+◌, ◌<◌, List, [], ◌∷◌, ◌++◌, length, map, take, append_assoc}
+use Rattle.std.proofs.Common.{refl, slice_index_or}
+use Rattle.std.specs.List.{AllZip}
 use Rattle.std.proofs.lemmas.List.{append-nil, map-append, take_more, Elements.AllZip-push}
 use Rattle.texting_robots.specs.Callers.{AnswerAlike, PlacedRule, prepared}
 use Rattle.texting_robots.specs.{Decision.IsDecisionOn, declared.decision.Decision.Decision}
 use Rattle.texting_robots.proofs.Shared.{each_text_answered}
-use Rattle.safe_output.specs.{Lines.ended}
+use Rattle.safe_output.{specs.Lines.ended, proofs.SanitizeLemmas.lines_added}
 use Rattle.robots_verdict.specs.Report.{AddsVerdict, AddsVerdicts, IsVerdictLine, verdict_front}
-use Rattle.safe_output.proofs.{SanitizeLemmas.lines_added}
 
 module _ (rules : List PlacedRule) where
   pub adds_nothing : (text : List ℕ) → AddsVerdicts rules [] text text

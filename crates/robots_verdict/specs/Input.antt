@@ -1,9 +1,8 @@
 -- The parts of an input.
 use Rattle.std.specs.Prelude.{ℕ, ◌==◌, ◌&&◌, Bool, List, [], ◌∷◌, ◌++◌, Option, Some, None, length}
-use Rattle.std.specs.Prelude.{option_map}
-use Rattle.std.specs.Prelude.{if◌then◌else◌}
+use Rattle.std.specs.Prelude.{option_map, if◌then◌else◌}
 use Rattle.std.specs.{List.list_all, Io.BufRead.strip_last, Str.is_utf8}
-use Rattle.safe_output.specs.{Lines.lf}
+use Rattle.safe_output.specs.Lines.{lf}
 
 abbrev pub cr : ℕ
 cr = 13

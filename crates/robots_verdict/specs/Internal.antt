@@ -1,4 +1,4 @@
--- Where the code cuts an input, and a header by value.
+-- Where the code cuts an input, and the parts of a header by value.
 use Rattle.std.specs.Prelude.{◌≡◌, ◌≢◌, ℕ, ◌<◌, List, length, map, slice_index}
 use Rattle.std.specs.List.{AllByRecursion as Each}
 use Rattle.safe_output.specs.{Lines.lf}

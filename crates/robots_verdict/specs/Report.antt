@@ -5,8 +5,7 @@ use Rattle.std.specs.{List.AllZip, Io.KnownBytes.Appends}
 use Rattle.texting_robots.specs.Callers.{PlacedRule, prepared, IsFileRejected, delay_for, file_limit}
 use Rattle.texting_robots.specs.Callers.{lines_read, placed_rules, sitemaps_in}
 use Rattle.texting_robots.specs.{Decision.IsDecisionOn, declared.decision.Decision.Decision}
-use Rattle.safe_output.specs.{Lines.ended}
-use Rattle.safe_output.specs.{Streams.AppendsBeginning}
+use Rattle.safe_output.specs.{Lines.ended, Streams.AppendsBeginning}
 use Rattle.robots_verdict.specs.{Input.Input, Input.are_utf8, Input.split, declared.fault.Fault.Fault}
 use Rattle.robots_verdict.specs.declared.fault.Fault.TheVariants.{HeaderNotUtf8, InvalidRule, NoEmptyLine}
 

@@ -1,4 +1,4 @@
-//! The errors that end a run.
+//! The errors that end a run, with their messages and exit statuses.
 use safe_output::streams::{ReadError, WriteError};
 use std::alloc::{AllocError, AllocFailed};
 use texting_robots::Error;
@@ -6,7 +6,7 @@ use texting_robots::Error;
 /// The error that ended a run.
 #[derive(Drop)]
 pub enum Fault {
-    /// A read failed, or the input didn't end within the maximum number of reads.
+    /// A read failed, or the input needed too many.
     Read,
     /// A write or a flush failed, or a write accepted no bytes.
     Write,

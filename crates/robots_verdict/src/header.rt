@@ -1,4 +1,4 @@
-//! The header of an input: the crawler's name and the URLs.
+//! The parts of an input: its header, which is the crawler's name and the URLs, and the file.
 ghost use Rattle.std.specs.Prelude.{◌≡◌, ◌≢◌, ◌<◌, [], Err, IfErr, IfOk, IfSome, MatchOption, Some, false, length, map, true};
 ghost use Rattle.std.specs.{Io.BufRead.strip_last, List.list_all, Option.IsSomeAnd, Option.option_map, Str.is_utf8};
 ghost use Rattle.robots_verdict.specs.Input.{are_utf8, cr, line_from, split};
@@ -7,6 +7,7 @@ ghost use Rattle.robots_verdict.specs.{Internal.IsFirstLf, Internal.IsOneLine, I
 use crate::fault::Fault;
 use std::alloc::Global;
 
+/// An input whose header is UTF-8.
 #[derive(Drop)]
 pub struct Header<'a> {
     pub agent: &'a str,
@@ -14,7 +15,7 @@ pub struct Header<'a> {
     pub file: &'a [u8],
 }
 
-/// Before the header is known to be UTF-8.
+/// An input whose header needn't be UTF-8.
 #[derive(Drop)]
 struct RawInput<'a> {
     agent: &'a [u8],
@@ -37,6 +38,7 @@ fn find_lf(input: &[u8]) -> Option<usize>
     input.iter().position(|byte| *byte == b'\n')
 }
 
+/// The first line without its LF or CR LF, and what follows. `None` if no LF is left.
 fn first_line<'a>(input: &'a [u8]) -> Option<(&'a [u8], &'a [u8])>
     ensures line { option_map (λ found. (found.0.now, found.1.now)) result ≡ line_from [] input.now }
     ensures shorter { IfSome result (λ found. length found.1.now < length input.now) }
@@ -100,7 +102,7 @@ fn texts_of<'a>(alloc: Global, urls: &[&'a [u8]]) -> Result<Vec<&'a str>, Fault>
     Ok(texts)
 }
 
-/// If both errors apply, the error is `NoEmptyLine`. Only URLs need allocations.
+/// The parts of an input. If both errors apply, it is `NoEmptyLine`. Only URLs need allocations.
 pub(crate) fn read_header<'a>(alloc: Global, input: &'a [u8]) -> Result<Header<'a>, Fault>
     ensures input { IfOk result (λ header. split input.now ≡ Some (value_of header)) }
     ensures texts { IfOk result (λ header. are_utf8 (value_of header) ≡ true) }

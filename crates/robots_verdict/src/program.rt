@@ -16,10 +16,9 @@ use std::io::{Read, Write};
 ///
 /// # Errors
 ///
-/// `Fault::Read` if a read failed or too many would be needed, `Fault::Write` if a write or a flush failed or
-/// a write accepted no bytes, and `Fault::Memory` if an allocation failed or a URL is too long for `url`. Of
-/// these, the contract states only that an empty input doesn't lead to `Fault::Memory`. The other errors are
-/// those of the input.
+/// `Fault::Read` if a read failed or too many would be needed, `Fault::Write` if a write or a flush
+/// failed or a write accepted no bytes, and `Fault::Memory` if an allocation failed or a URL is too
+/// long for `url`. The other errors are those of the input.
 pub fn run<R: Read, W: Write>(alloc: Global, reader: &mut R, writer: &mut W) -> Result<(), Fault>
     ensures ok { OnOk result (IfSome (R.remaining reader.old) (AppendsReport (W.contents writer.old) (W.contents writer.new))) }
     ensures no_empty_line { IsErrOf result Fault.NoEmptyLine

@@ -1,8 +1,7 @@
 //! The report on an input.
 ghost use Rattle.std.specs.Prelude.{◌≡◌, ◌≢◌, ◌++◌, ◌∷◌, [], Err, IfErr, IfOk, OnOk, Ok, map, string_bytes};
 ghost use Rattle.safe_output.specs.Lines.{ended};
-ghost use Rattle.robots_verdict.specs.Report.{AddsVerdict, AddsVerdicts};
-ghost use Rattle.robots_verdict.specs.Report.{IsReport, delay_line, sitemap_line};
+ghost use Rattle.robots_verdict.specs.Report.{AddsVerdict, AddsVerdicts, IsReport, delay_line, sitemap_line};
 
 use crate::fault::Fault;
 use crate::header::read_header;
@@ -32,6 +31,7 @@ fn push_sitemaps(text: &mut String, sitemaps: &[String]) -> Result<(), AllocErro
     Ok(())
 }
 
+/// Appends the line for a URL.
 fn push_verdict(alloc: Global, text: &mut String, robot: &Robot, url: &str) -> Result<(), Error>
     ensures ok { OnOk result (AddsVerdict robot.now.rules url.now (string_bytes text.old) (string_bytes text.new)) }
     ensures memory { IfErr result (λ error. error ≡ Error.Memory) }

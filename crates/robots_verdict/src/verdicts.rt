@@ -9,9 +9,9 @@ use texting_robots::robot::Decision;
 use texting_robots::view::View;
 use texting_robots::{Error, Robot};
 
-/// The robot's decision on a URL, by counted byte comparisons, within the bound that [`Robot::decision`]
-/// states. There is no prefilter, so this is usually slower than [`Robot::decide`] for a file with many
-/// rules.
+/// The robot's decision on a URL, by counted byte comparisons, within the bound of
+/// [`Robot::decision`]. There is no prefilter, so [`Robot::decide`] is usually faster for a file
+/// with many rules.
 pub(crate) fn counted_decision_on(
     alloc: Global,
     robot: &Robot,
@@ -24,6 +24,7 @@ pub(crate) fn counted_decision_on(
     Ok(robot.decision(&mut View::new(&prepared)))
 }
 
+/// The word and a space.
 fn verdict_word(allowed: bool) -> &'static str
     ensures { result.now ≡ verdict_word allowed }
 {

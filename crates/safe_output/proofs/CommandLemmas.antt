@@ -1,7 +1,6 @@
 -- Sanitized texts don't contain the start of a command.
-use Rattle.std.specs.Prelude.{nat_eq}
+use Rattle.std.specs.{Prelude.nat_eq, List.list_all, Str.chars, Str.encode_utf8_all}
 use Rattle.std.proofs.Common.{◌≡◌, ℕ, ◌==◌, Bool, true, false, List, [], ◌∷◌, arith, flat_map, inl, inr, refl}
-use Rattle.std.specs.{List.list_all, Str.chars, Str.encode_utf8_all}
 use Rattle.std.proofs.lemmas.Bool.{and_parts, cases_Bool, not-true, Decides.nat_tests}
 use Rattle.safe_output.specs.Sanitize.{has_command, is_other, safe_in, sanitized_in, without_commands}
 use Rattle.safe_output.specs.Sanitize.{without_hash}

@@ -1,18 +1,15 @@
 -- A page that is written piece by piece: each piece keeps it safe, and is read as the tags that were written.
 use Rattle.std.specs.Prelude.{◌&&◌, ◌||◌, not, if◌then◌else◌}
-use Rattle.std.specs.{Borrow.Bor, List.list_all}
+use Rattle.std.{specs.Borrow.Bor, specs.List.list_all, proofs.lemmas.Slice.Eq.bytes_eq-Decides}
 use Rattle.std.proofs.Common.{[], ◌++◌, ◌==◌, ◌∙◌, ◌∷◌, ◌≡◌, ap, append-nil, append_assoc, arith, Bool, codes}
 use Rattle.std.proofs.Common.{false, flat_map, List, refl, reverse, subst, sym, true, ℕ}
-use Rattle.std.proofs.lemmas.{Bool.and_parts, Bool.not-true, List.map-append, List.reverse-append}
-use Rattle.std.proofs.lemmas.Bool.Decides.{nat_tests}
-use Rattle.std.proofs.lemmas.List.Folds.{list_all-append}
-use Rattle.std.proofs.lemmas.Slice.Eq.{bytes_eq-Decides}
+use Rattle.std.proofs.lemmas.Bool.{and_parts, not-true, Decides.nat_tests}
+use Rattle.std.proofs.lemmas.List.{map-append, reverse-append, Folds.list_all-append}
 use Rattle.safe_output.specs.Sanitize.{has_command, is_printable_byte, IsPrintable, IsPrintableIn, sanitized}
 use Rattle.safe_output.specs.Sanitize.{without_commands}
-use Rattle.safe_output.specs.Html.{attribute_bytes, end_bytes, escaped, escaped_byte, is_among, is_letter}
-use Rattle.safe_output.specs.Html.{is_name, is_name_byte, is_plain, is_style, is_title, is_unchanged}
-use Rattle.safe_output.specs.Html.{other_names, shown_attribute, style_bytes, tag_bytes, title_bytes}
-use Rattle.safe_output.specs.Html.{void_names}
+use Rattle.safe_output.specs.Html.{attribute_bytes, escaped_byte, is_name_byte, is_unchanged, shown_attribute}
+use Rattle.safe_output.specs.Html.{end_bytes, is_letter, other_names, style_bytes, title_bytes, void_names}
+use Rattle.safe_output.specs.Html.{escaped, is_among, is_name, is_plain, is_style, is_title, tag_bytes}
 use Rattle.safe_output.specs.Page.{all_closed, all_ended, are_names, begun, closed, ended, is_css}
 use Rattle.safe_output.specs.Page.{is_no_bracket, is_safe_byte, is_tag, is_void, IsOpen, IsPage, IsSafe}
 use Rattle.safe_output.specs.Page.{names_in, names_of, so_far, with_text, with_void}

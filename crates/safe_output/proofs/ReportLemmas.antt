@@ -1,10 +1,8 @@
 -- What is written to a report keeps it safe.
-use Rattle.std.specs.Prelude.{nat_eq, nat_lt}
+use Rattle.std.specs.{Prelude.nat_eq, Prelude.nat_lt, Str.IsCharBoundary, Str.IsUtf8, Str.chars}
 use Rattle.std.proofs.Common.{◌≡◌, ◌∙◌, ℕ, Bool, true, false, List, [], ◌∷◌, ◌++◌, append-nil, append_assoc}
-use Rattle.std.proofs.Common.{ap}
-use Rattle.std.proofs.Common.{ap₂, arith, drop, inl, inr, refl, subst, sym, take}
+use Rattle.std.proofs.Common.{ap, ap₂, arith, drop, inl, inr, refl, subst, sym, take}
 use Rattle.std.specs.{Char.encode_utf8, Char.is_whitespace, List.AllByRecursion as Each, List.list_all}
-use Rattle.std.specs.Str.{IsCharBoundary, IsUtf8, chars}
 use Rattle.std.proofs.lemmas.Bool.{and_parts, Decides.nat_tests}
 use Rattle.std.proofs.lemmas.List.{Concat.flat_map-append, Folds.list_all-append, take-append-drop}
 use Rattle.std.proofs.lemmas.Str.{IsUtf8-drop, IsUtf8-take, chars-append}

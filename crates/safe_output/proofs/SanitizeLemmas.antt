@@ -2,13 +2,12 @@
 use Rattle.std.proofs.Common.{◌≡◌, ℕ, ◌≤◌, List, [], ◌∷◌, ◌++◌, sym, ap, ◌∙◌, append_assoc, arith, drop, take}
 use Rattle.std.proofs.Common.{length, zero, suc, ◌<◌, ◌/◌, ◌%◌, ◌==◌, nat_lt, Bool, true, false, Option, Some}
 use Rattle.std.proofs.Common.{None, codes, flat_map, get_or, inl, inr, length-append, refl, subst}
-use Rattle.std.specs.{Io.StartsWith, Bool.IsTrue, Char.IsScalar, Char.encode_utf8, Str.chars, Str.IsAscii}
-use Rattle.std.specs.{Str.all_scalars, Str.encode_utf8_all, List.AllByRecursion as Each, List.list_all}
-use Rattle.std.specs.Fmt.{digit_glyph}
+use Rattle.std.specs.{Io.StartsWith, Bool.IsTrue, Fmt.digit_glyph, Char.IsScalar, Char.encode_utf8}
+use Rattle.std.specs.Str.{chars, IsAscii, all_scalars, encode_utf8_all}
+use Rattle.std.{specs.List.AllByRecursion as Each, specs.List.list_all, proofs.Math.Seq.drop-append_seam}
 use Rattle.std.proofs.lemmas.List.{Concat.flat_map-append, Folds.list_all-append, Sums.list_all-from_AllPass}
 use Rattle.std.proofs.lemmas.List.{length-take, take-append-drop, take-append-le, append-nil, get_or_default}
 use Rattle.safe_output.specs.Lines.{ended, lf}
-use Rattle.std.proofs.Math.{Seq.drop-append_seam}
 use Rattle.std.proofs.lemmas.Bool.{and_parts, cases_Bool, cases_lt, cond_both, Decides.nat_tests}
 use Rattle.std.proofs.lemmas.Str.{IsUtf8-append, IsUtf8-from_ascii, IsUtf8-nil, chars-IsAscii, chars-append}
 use Rattle.std.proofs.lemmas.Str.{chars-encodes, chars-nil, encodes-chars, len_utf8_bounds, inside_one}

@@ -1,8 +1,7 @@
 use Rattle.c_calls.proofs.Borrowing.{ℕ, refl, [], ◌∷◌, ◌$◌, ◌∵◌, ! }
 use Rattle.c_calls.proofs.Borrowing as m
-use Rattle.c_calls.proofs.urls.query.Met.{met}
+use Rattle.c_calls.{proofs.urls.query.Met.met, specs.Kept.Robots, specs.File.IsRobotOfSomeFile}
 use Rattle.robots_c.proofs.robots_query.Statement.{statement}
-use Rattle.c_calls.specs.{Kept.Robots, File.IsRobotOfSomeFile}
 use Rattle.c_calls.specs.contracts.urls.query as callee
 use Rattle.robots_c.specs.contracts.robots_query as self
 use Rattle.robots_c.proofs.robots_query.Code as code

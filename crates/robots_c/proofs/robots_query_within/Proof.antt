@@ -1,7 +1,6 @@
 use Rattle.c_calls.proofs.Borrowing.{ℕ, [], ◌∷◌, refl, ◌$◌, ◌∵◌, ! }
 use Rattle.c_calls.proofs.Borrowing as m
-use Rattle.c_calls.specs.Kept.{Robots}
-use Rattle.c_calls.specs.File.{IsRobotOfSomeFile}
+use Rattle.c_calls.specs.{Kept.Robots, File.IsRobotOfSomeFile}
 use Rattle.c_calls.specs.contracts.urls.query_within as callee
 use Rattle.c_calls.proofs.urls.query_within.Met.{met}
 use Rattle.robots_c.proofs.robots_query_within.Statement.{statement}

@@ -1,7 +1,6 @@
 use Rattle.c_calls.proofs.Borrowing.{ℕ, [], ◌∷◌, refl, ◌$◌, ◌∵◌, ! }
 use Rattle.c_calls.proofs.Borrowing as m
-use Rattle.c_calls.specs.Kept.{Robots}
-use Rattle.c_calls.specs.File.{IsRobotOfSomeFile}
+use Rattle.c_calls.specs.{Kept.Robots, File.IsRobotOfSomeFile}
 use Rattle.c_calls.specs.contracts.batch.query_many as callee
 use Rattle.c_calls.proofs.batch.query_many.Met.{met}
 use Rattle.robots_c.proofs.robots_results.Statement.{statement}

@@ -1,7 +1,6 @@
 use Rattle.c_calls.proofs.Borrowing.{ℕ, [], ◌∷◌, refl, ◌$◌, ◌∵◌, ! }
 use Rattle.c_calls.proofs.Borrowing as m
-use Rattle.c_calls.specs.Kept.{Sites}
-use Rattle.c_calls.specs.File.{IsSiteOfSomeFile}
+use Rattle.c_calls.specs.{Kept.Sites, File.IsSiteOfSomeFile}
 use Rattle.c_calls.specs.contracts.matrix.matrix_by as callee
 use Rattle.c_calls.proofs.matrix.matrix_by.Met.{met}
 use Rattle.robots_c.proofs.site.robots_site_matrix.Statement.{statement}

@@ -2,9 +2,7 @@ use Rattle.c_calls.proofs.Borrowing.{◌≡◌, [], ◌∷◌, refl, ‵, ◌⊛
 use Rattle.c_calls.proofs.Borrowing as m
 use Rattle.c_calls.proofs.Keeping.{id⊢, ℤ, ◌≢◌}
 use Rattle.c_calls.proofs.Keeping as d
-use Rattle.c_calls.specs.File.{bytes_read}
-use Rattle.c_calls.specs.Kept.{Sites}
-use Rattle.c_calls.specs.Status.{HasError, IsWhyNoSite}
+use Rattle.c_calls.specs.{File.bytes_read, Kept.Sites, Status.HasError, Status.IsWhyNoSite}
 use Rattle.c_calls.specs.contracts.site.opened as callee
 use Rattle.c_calls.proofs.site.opened.Met.{met}
 use Rattle.robots_c.proofs.site.robots_site_open.Statement.{statement}

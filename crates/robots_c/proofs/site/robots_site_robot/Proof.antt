@@ -2,9 +2,8 @@ use Rattle.c_calls.proofs.Borrowing.{◌≡◌, ℕ, [], ◌∷◌, refl, ◌$�
 use Rattle.c_calls.proofs.Borrowing as m
 use Rattle.c_calls.proofs.Keeping.{id⊢, ℤ, ◌≢◌}
 use Rattle.c_calls.proofs.Keeping as d
-use Rattle.c_calls.specs.File.{IsRobotFor}
+use Rattle.c_calls.specs.{File.IsRobotFor, Status.HasErrorAt, Status.IsWhyNoRobot}
 use Rattle.c_calls.specs.Kept.{Robots, Sites, opens}
-use Rattle.c_calls.specs.Status.{HasErrorAt, IsWhyNoRobot}
 use Rattle.c_calls.specs.contracts.site.robot_opened as callee
 use Rattle.c_calls.proofs.site.robot_opened.Met.{met}
 use Rattle.robots_c.proofs.site.robots_site_robot.Statement.{statement}

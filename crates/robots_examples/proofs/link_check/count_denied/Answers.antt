@@ -1,8 +1,8 @@
 use Rattle.std.proofs.Common.{◌≡◌, ◌+◌, ◌<◌, ℕ, Bool, List, [], arith, drop, if◌then◌else◌, length, map, refl}
 use Rattle.std.proofs.Common.{slice_index_or, slice_set, subst, sum_by, take}
 use Rattle.std.proofs.lemmas.List.{drop-set-lt, drop_all, drop_more, take_more, take_more_set}
-use Rattle.std.proofs.{lemmas.List.Sums.sum_by_push, lemmas.Slice.Zip.all_zipped_more}
-use Rattle.robots_examples.specs.{LinkCheck.AreDenied}
+use Rattle.std.proofs.lemmas.{List.Sums.sum_by_push, Slice.Zip.all_zipped_more}
+use Rattle.robots_examples.specs.LinkCheck.{AreDenied}
 use Rattle.texting_robots.specs.Callers.{IsVerdict, Rule, ViewValue, unplaced}
 use Rattle.robots_examples.proofs.link_check.count_denied.Goals.{then-not-allowed_view, else-not-allowed_view}
 use Rattle.robots_examples.proofs.link_check.count_denied.Goals as goal

@@ -1,6 +1,5 @@
 use Rattle.std.proofs.Common.{rules, take}
-use Rattle.texting_robots.specs.Callers.{file_limit}
-use Rattle.texting_robots.proofs.Shared.{not_rejected}
+use Rattle.texting_robots.{specs.Callers.file_limit, proofs.Shared.not_rejected}
 use Rattle.robots_examples.proofs.cache.Cache.put.Goals as goal
 
 pub returns-clause-entries : goal.returns-clause-entries
