@@ -11,7 +11,7 @@ abbrev pub pieces : List ℕ → ℕ → List ℕ → List (List ℕ)
 pieces text start [] = []
 pieces text start (end ∷ ends) = take (end - start) (drop start text) ∷ pieces text end ends
 
--- no place is below the one before it, the first not below `least`, and none is above the limit
+-- no place is below the one before it (the first: `least`), or above the limit
 abbrev pub Ascend : ℕ → List ℕ → ℕ → Type 0
 Ascend least [] limit = Unit {0}
 Ascend least (end ∷ ends) limit = (least ≤ end) × (end ≤ limit) × Ascend end ends limit

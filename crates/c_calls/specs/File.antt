@@ -22,7 +22,6 @@ abbrev pub IsRobotOfSomeFile : RobotValue → Type 0
 IsRobotOfSomeFile robot =
     (agent : List ℕ) × (file : List ℕ) × IsRobotWithoutSitemaps agent (bytes_read file) robot
 
--- the crawler's name is UTF-8, and this is its delay
 abbrev pub HasDelay : List ℕ → List ℕ → Option ℕ → Type 0
 HasDelay agent site delay = IsUtf8 agent × HasLines site (λ lines. IsDelayFor agent lines delay)
 

@@ -21,7 +21,6 @@ Sites = Site-type.the_row
 abbrev pub heap : Global
 heap = record { memory = record { seal = tt } }
 
--- the right to free a block of the heap
 abbrev pub frees : Ty → Ptr → Fml
 frees = ghosts.dealloc_token heap
 

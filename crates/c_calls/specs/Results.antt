@@ -32,11 +32,9 @@ pub record IsResultOn (rules : List PlacedRule) (target : List ℕ) (number : �
 abbrev pub IsResult : List PlacedRule → List ℕ → ℤ → Type 0
 IsResult rules url number = IsResultOn rules (prepared url) number
 
--- the result for a URL that is UTF-8
 abbrev pub HasResult : List PlacedRule → List ℕ → ℤ → Type 0
 HasResult rules url number = IsUtf8 url × IsResult rules url number
 
--- the results for the URLs in a text that is UTF-8
 abbrev pub HasResults : List PlacedRule → List ℕ → List ℤ → Type 0
 HasResults rules text numbers = IsUtf8 text × AllZip (IsResult rules) (items_in text) numbers
 

@@ -38,21 +38,18 @@ abbrev pub HasErrorAt : (Error → Type 0) → ℤ → ℕ → ℕ → Type 0
 HasErrorAt Why status old new = ((status ≡ pos 0) × (new ≡ old))
     ⊎ ((error : Error) × Why error × (status ≡ status_of error) × (new ≡ line_after error old))
 
--- ---- The cause of each error, by task: texts are checked first, then the room for results, then an
--- allocation can fail
+-- ---- The cause of each error, by task: texts come first, then room for results, then allocations.
 
 -- the number, counted from 1, of the first line with a rule for the crawler that is too long
 abbrev pub IsOverlongLine : List ℕ → List ℕ → ℕ → Type 0
 IsOverlongLine agent site line = IsFirstOverlong (placed_rules agent (file_lines site)) line
 
--- making a crawler's robot from a site
 abbrev pub IsWhyNoRobot : List ℕ → List ℕ → Error → Type 0
 IsWhyNoRobot agent site NotUtf8 = ¬ IsUtf8 agent
 IsWhyNoRobot agent site Memory = IsUtf8 agent
 IsWhyNoRobot agent site (Overlong line) = IsUtf8 agent × IsOverlongLine agent site line
 IsWhyNoRobot agent site _ = ⊥
 
--- making a site
 abbrev pub IsWhyNoSite : Error → Type 0
 IsWhyNoSite error = error ≡ Memory
 
@@ -94,11 +91,9 @@ IsWhyNotWithin rules url budget TooCostly =
     IsUtf8 url × (budget < cost_of rules (length (prepared url)))
 IsWhyNotWithin rules url budget _ = ⊥
 
--- the robots.txt address for the site of a URL that is UTF-8
 abbrev pub IsAddress : List ℕ → List ℕ → Type 0
 IsAddress url text = IsUtf8 url × (robots_address url ≡ Ok text)
 
--- the robots.txt address
 abbrev pub IsWhyNoAddress : List ℕ → Error → Type 0
 IsWhyNoAddress url NotUtf8 = ¬ IsUtf8 url
 IsWhyNoAddress url Memory = IsUtf8 url

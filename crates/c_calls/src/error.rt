@@ -12,7 +12,7 @@ pub enum Error {
     NoDelay,
     /// The URL has no robots.txt address.
     NoAddress,
-    /// The file is rejected for the crawler, as the rule in this line is too long.
+    /// The file is rejected: the crawler's rule in this line is too long.
     Overlong(usize),
     /// The places where URLs end decrease, or one is after the end of the text.
     InvalidEnds,
@@ -24,7 +24,6 @@ impl Error {
     ghost use Rattle.std.specs.Prelude.{◌≡◌};
     ghost use Rattle.c_calls.specs.Status.{line_after, status_of};
 
-    /// What the C function returns.
     pub fn status(&self) -> i32
         ensures { result ≡ status_of self.now }
     {
@@ -40,7 +39,7 @@ impl Error {
         }
     }
 
-    /// The status; the line of a rule that is too long is written.
+    /// Writes the line of a rule that is too long.
     pub fn status_at(&self, line: &mut usize) -> i32
         ensures status { result ≡ status_of self.now }
         ensures line { line.new ≡ line_after self.now line.old }

@@ -9,7 +9,6 @@ use crate::kept::{Handle, Kept};
 use std::alloc::Global;
 use texting_robots::Robot;
 
-/// Frees the robot.
 pub fn close(robot: Handle<Robot>) {
     drop(robot.into_box());
 }
@@ -47,9 +46,8 @@ pub fn opened(
     }
 }
 
-/// Writes a number: for 0 what a query within a budget costs at most for a match target of this length, for 1
-/// how many bytes of memory the robot takes with this handle, and else its delay in microseconds. It doesn't
-/// allocate.
+/// Writes a number: for 0 what a query within a budget costs at most for a match target of this
+/// length, for 1 how many bytes of memory the robot takes, and else its delay in microseconds.
 pub fn number(robot: &Robot, which: usize, length: usize, out: &mut u64) -> i32
     ensures written { result ≡ pos 0 → IsNumber robot.now which length out.new }
     ensures kept { result ≢ pos 0 → out.new ≡ out.old }

@@ -1,5 +1,5 @@
-//! What the functions of `robots.h` do, for `robots_c`, which exports them: a static library is built from
-//! exports alone, so that whoever builds it proves no more than these.
+//! What the functions of `robots.h` do, for `robots_c`, which exports them. So whoever builds that
+//! static library proves its exports alone.
 #![tactic(auto)]
 
 pub mod batch;

@@ -1,4 +1,4 @@
-//! The results of many crawlers for many URLs, row by row.
+//! The results of many crawlers for many URLs.
 ghost use Rattle.std.specs.Prelude.{◌≡◌, ◌≢◌, ◌<◌, ◌≤◌, ◌*◌, IfErr, IfOk, IfSome, IsUtf8, MatchBool, codes};
 ghost use Rattle.std.specs.Prelude.{length, map, pos, string_bytes};
 ghost use Rattle.std.specs.List.{AllZip};
@@ -15,7 +15,6 @@ use texting_robots::{Robot, RobotError, Site, match_target};
 /// The number in the row of a crawler for which the file is rejected.
 pub const NO_RESULT: i64 = i64::MIN;
 
-/// The match targets of URLs that LF separates.
 fn targets_of(alloc: Global, urls: &str) -> Result<Vec<String>, AllocError>
     ensures { IfOk result (λ targets. map string_bytes targets.items ≡ map prepared (items_in urls.now)) }
 {
@@ -111,7 +110,6 @@ fn matrix(alloc: Global, site: &Site, agents: &str, urls: &str) -> Result<Vec<i6
     Ok(numbers)
 }
 
-/// Whether there is room for all results.
 fn fits(agents: &str, urls: &str, capacity: usize) -> bool
     ensures { MatchBool result (length (items_in agents.now) * length (items_in urls.now) ≤ capacity)
         (capacity < length (items_in agents.now) * length (items_in urls.now)) }
@@ -122,7 +120,7 @@ fn fits(agents: &str, urls: &str, capacity: usize) -> bool
     }
 }
 
-/// Both as strings, if they are UTF-8 and there is room for their results.
+/// Both as strings, if they are UTF-8 and their results fit.
 fn texts_of<'a>(
     agents: &'a [u8],
     urls: &'a [u8],

@@ -15,7 +15,7 @@ fn number_of(meaning: Meaning) -> i32
     }
 }
 
-/// The number of what the response means. A status that none has, such as 0, means no answer.
+/// The number of what a response means. A status that none has, such as 0, means no answer.
 pub fn meaning(status: u32, redirects: u32, has_location: bool, is_complete: bool) -> i32
     ensures { SaysMeaning status redirects has_location is_complete result }
 {

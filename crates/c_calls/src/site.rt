@@ -13,12 +13,10 @@ use crate::texts::{put, texts_in};
 use std::alloc::{AllocError, Global};
 use texting_robots::{Robot, Site};
 
-/// Frees the site.
 pub fn close(site: Handle<Site>) {
     drop(site.into_box());
 }
 
-/// A site for any thread.
 fn open(alloc: Global, file: &[u8]) -> Result<Box<Site>, Error>
     ensures ok { IfOk result (λ site. site.value ≡ bytes_read file.now) }
     ensures error { IfErr result IsWhyNoSite }
@@ -87,9 +85,9 @@ fn number_in(site: &Site, which: usize, agent: &[u8]) -> Result<u64, Error>
     }
 }
 
-/// Writes a number: for 0 how many bytes of memory the site takes with this handle, for 1 whether a user-agent
-/// line names the crawler, as 1 or 0, and else the crawler's delay in microseconds. Rules that are too long
-/// don't matter, and it doesn't allocate.
+/// Writes a number: for 0 how many bytes of memory the site takes, for 1 whether a user-agent line
+/// names the crawler, as 1 or 0, and else its delay in microseconds. Rules that are too long don't
+/// matter.
 pub fn number(site: &Site, which: usize, agent: &[u8], out: &mut u64) -> i32
     ensures written { result ≡ pos 0 → IsSiteNumber site.now which agent.now out.new }
     ensures kept { result ≢ pos 0 → out.new ≡ out.old }

@@ -11,7 +11,6 @@ use std::alloc::{AllocError, Global};
 use texting_robots::{Site, get_robots_url};
 use url::ParseError;
 
-/// The texts, each followed by LF.
 fn lines_of(alloc: Global, texts: &[&str]) -> Result<String, AllocError>
     ensures { IfOk result (λ lines. string_bytes lines ≡ ended (map (λ text. text.now) texts.now)) }
 {
@@ -33,7 +32,6 @@ pub(crate) fn texts_in(alloc: Global, site: &Site, are_agents: bool) -> Result<S
     lines_of(alloc, &sitemaps)
 }
 
-/// The address of robots.txt for the site of a URL.
 pub fn address(alloc: Global, url: &[u8]) -> Result<String, Error>
     ensures ok { IfOk result (λ text. IsAddress url.now (string_bytes text)) }
     ensures error { IfErr result (IsWhyNoAddress url.now) }

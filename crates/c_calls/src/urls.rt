@@ -91,7 +91,7 @@ pub(crate) fn count_items(text: &str) -> usize
     count_feeds(text.as_bytes()) + 1
 }
 
-/// The URLs, if they are UTF-8 and there is room for their results.
+/// The URLs, if they are UTF-8 and their results fit.
 fn urls_of<'a>(urls: &'a [u8], capacity: usize) -> Result<&'a str, Error>
     ensures ok { IfOk result (λ text. (text.now ≡ urls.now) × IsUtf8 urls.now × (length (items_in urls.now) ≤ capacity)) }
     ensures error { IfErr result (IsWhyNoResults urls.now capacity) }

@@ -1,6 +1,6 @@
-//! Callers of the library `texting_robots`: a polite crawler, a link checker, a site audit, a cache of robots, and a
-//! single query of one file. Each has a contract that follows from the library's contracts and those of the crates that
-//! it uses. The program decides by a robots.txt file whether a crawler may fetch URLs:
+//! Callers of the library `texting_robots`: a polite crawler, a link checker, a site audit, a cache
+//! of robots, and a single query of a file. The contract of each follows from those of the crates
+//! that it uses. The program decides by a robots.txt file whether a crawler may fetch URLs:
 //! `robots_examples AGENT FILE URL..`
 //!
 //! Proving a caller (`single_query` needs no proof file):

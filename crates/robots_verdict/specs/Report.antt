@@ -53,7 +53,6 @@ pub record IsReportText (input : Input) (text : List ℕ) : Type 0 where
   pub whole : text ≡ ended (delay_line (delay_for input.agent (lines_read input.file))
       ∷ (map sitemap_line (sitemaps_in (lines_read input.file)) ++ verdict_lines))
 
--- some rule for the crawler is too long
 abbrev pub IsRejected : Input → Type 0
 IsRejected input = IsFileRejected input.agent (take file_limit input.file)
 
@@ -63,7 +62,6 @@ IsReportOnUtf8 input report =
     (IsRejected input × (report ≡ Err InvalidRule))
     ⊎ ((¬ IsRejected input) × (text : List ℕ) × IsReportText input text × (report ≡ Ok text))
 
--- the report on an input with these parts, or its error
 abbrev pub IsReportOn : Option Input → Result (List ℕ) Fault → Type 0
 IsReportOn None report = report ≡ Err NoEmptyLine
 IsReportOn (Some input) report =

@@ -1,9 +1,9 @@
-//! The program for scripts: it reads a crawler's name, some URLs and a robots.txt file from standard input, and prints
-//! which of the URLs the crawler may fetch.
+//! The program for scripts: it prints which URLs a crawler may fetch, by a robots.txt file.
 //!
-//! The input is a line with the crawler's name, a line for each URL, an empty line, and then the bytes of the
-//! file. The output has a line with the delay in microseconds, a line for each sitemap, and a line for each
-//! URL: `allow` or `deny`, the number of the line that decides or `-` if none does, and the URL.
+//! Standard input is a line with the crawler's name, a line for each URL, an empty line, and then
+//! the bytes of the file. The output has a line with the delay in microseconds, a line for each
+//! sitemap, and a line for each URL: `allow` or `deny`, the number of the line that decides or `-`
+//! if none does, and the URL.
 #![tactic(auto)]
 
 mod ending;

@@ -10,7 +10,6 @@ is_letter byte = is_in_range 97 122 byte
 abbrev pub is_name_byte : ℕ → Bool
 is_name_byte byte = is_letter byte || is_in_range 48 57 byte || byte == 45
 
--- a lower-case letter, then lower-case letters, digits and `-`
 abbrev pub is_name : List ℕ → Bool
 is_name [] = false
 is_name (byte ∷ bytes) = is_letter byte && list_all is_name_byte bytes

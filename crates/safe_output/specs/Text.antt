@@ -47,7 +47,6 @@ pub record IsReport (text : List ℕ) : Type 0 where
   pub each : Each IsPlainLine lines
   pub text_is : text ≡ ended lines
 
--- bold red, yellow or cyan
 abbrev pub color_of : Level → List ℕ
 color_of Error = 27 ∷ codes "[1;31m"
 color_of Warning = 27 ∷ codes "[1;33m"

@@ -5,8 +5,8 @@ ghost use Rattle.safe_output.specs.{Sanitize.IsPrintable, Text.IsColored, Text.I
 use crate::level::{Level, shown_word};
 use std::alloc::{AllocError, Global};
 
-/// Appends all up to the end of the word at `at`, that in color, and returns the rest.
-/// If the word isn't there, appends nothing and returns all.
+/// Appends all up to the word at `at` and that in color, and returns the rest. If the word isn't
+/// there, it appends nothing.
 #[tactic(auto, using(crate::proofs::ReportLemmas::word_colored))]
 fn push_colored<'a>(
     shown: &mut String,

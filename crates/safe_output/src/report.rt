@@ -92,7 +92,7 @@ fn without_utf8_bom<'a>(line: &'a [u8]) -> &'a [u8]
     line.strip_prefix(b"\xEF\xBB\xBF").unwrap_or(line)
 }
 
-/// Whether it isn't a command that begins with `::`, after white space or a byte order mark.
+/// Whether it isn't a command with `::`, after a byte order mark and white space.
 fn begins_plainly(line: &[u8]) -> bool
     ensures { result ≡ begins_plainly line.now }
 {

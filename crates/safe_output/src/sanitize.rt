@@ -17,7 +17,7 @@ fn turns_text(char: char) -> bool
     matches!(char, '\u{61C}' | '\u{200E}'..='\u{200F}' | '\u{202A}'..='\u{202E}' | '\u{2066}'..='\u{2069}')
 }
 
-/// Whether it is safe to display. With `has_lines` the text may have several lines, so LF is.
+/// Whether it is safe to display, as is LF if the text may have several lines.
 fn is_printable(char: char, has_lines: bool) -> bool
     ensures { result ≡ is_printable has_lines char }
 {

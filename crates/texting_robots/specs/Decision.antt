@@ -37,7 +37,6 @@ IsDecidingLine rules text (Some line) =
     (text ≢ robots_file) × (placed : PlacedRule) × IsDecidingRule rules text placed
     × (placed.line ≡ line)
 
--- how many of the rules are at least as long as this one
 abbrev pub as_long_as : PlacedRule → List PlacedRule → ℕ
 as_long_as placed rules =
     count_by (λ (other : PlacedRule). nat_le (length placed.rule.0) (length other.rule.0)) rules

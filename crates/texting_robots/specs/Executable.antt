@@ -19,7 +19,6 @@ parsed text = lines_of (without_bom text)
 abbrev pub file_lines : List ℕ → List LineValue
 file_lines text = parsed (map nul_as_lf text)
 
--- the contents of these lines, without their terminators
 abbrev pub file_bodies : List ℕ → List (List ℕ)
 file_bodies text = bodies_of (without_bom (map nul_as_lf text))
 

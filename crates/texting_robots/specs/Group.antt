@@ -15,7 +15,6 @@ is_member (Disallow value) = true
 is_member (CrawlDelay delay) = true
 is_member _ = false
 
--- a user-agent line whose value, in lowercase, is this name
 abbrev pub is_agent_named : List ℕ → LineValue → Bool
 is_agent_named name (UserAgent value) = bytes_eq (str_to_ascii_lowercase value) name
 is_agent_named name _ = false

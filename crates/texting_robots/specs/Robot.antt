@@ -29,7 +29,6 @@ IsRobotWithoutSitemaps agent file robot =
     (robot.sitemaps ≡ []) × (sitemaps : List (List ℕ))
     × IsRobotOfFile agent file (record { delay = robot.delay; sitemaps = sitemaps; rules = robot.rules })
 
--- some line of this file holds an overlong rule for the crawler
 abbrev pub IsFileRejected : List ℕ → List ℕ → Type 0
 IsFileRejected agent file = HasLines file (IsRejected agent)
 

@@ -49,7 +49,7 @@ fn holds_escaped_among(bytes: &[u8]) -> bool
     holds
 }
 
-/// The `N` bytes are tested at once.
+/// Tests the `N` bytes at once.
 #[inline(always)]
 fn lanes_hold_escaped<const N: usize>(bytes: &[u8]) -> bool
     requires { (length bytes.now ≡ N) × (N ≤ 64) }

@@ -34,7 +34,7 @@ pub struct LabeledLine<'a> {
     pub body: &'a [u8],
 }
 
-/// An iterator over the labeled lines of a file. It doesn't allocate.
+/// An iterator over the labeled lines of a file.
 #[derive(Drop)]
 pub struct LabeledLineIter<'n, 'a> {
     name: &'n [u8],
@@ -104,7 +104,7 @@ impl<'n, 'a> Iterator for LabeledLineIter<'n, 'a> {
 }
 
 /// The lines of the file `txt`, each with its number and its membership for the crawler with the product token `agent`.
-/// It doesn't allocate, and there are no more lines than bytes.
+/// There are no more lines than bytes.
 ///
 /// All bytes are read, while a robot reads the first [`FILE_LIMIT`](crate::robot::FILE_LIMIT). To
 /// compare these lines with a robot's rules or decisions, pass the same bytes.
@@ -124,7 +124,7 @@ pub fn labeled_lines<'n, 'a>(agent: &'n str, txt: &'a [u8]) -> LabeledLineIter<'
 }
 
 /// Whether a user-agent line of the file `txt` names the crawler with the product token `agent`, ASCII
-/// letters in any case. It doesn't allocate. All bytes are read, as by [`labeled_lines`].
+/// letters in any case. All bytes are read, as by [`labeled_lines`].
 pub fn is_named(agent: &str, txt: &[u8]) -> bool
     ensures { result ≡ is_named agent.now (file_lines txt.now) }
 {

@@ -199,7 +199,7 @@ pub fn each_file_has_its_sitemaps()
         → AreSitemapsOf lines sitemaps ↔ sitemaps ≡ sitemaps_in lines }
 {}
 
-/// Worked examples, each a theorem. `specs/Examples.antt` shows by them what the specification means.
+/// Worked examples, each a theorem, which `specs/Examples.antt` states.
 pub fn examples_of_lines()
     ensures line_ends { example.line_ends }
     ensures lf_before_cr { example.lf_before_cr }

@@ -25,9 +25,8 @@
 //! }
 //! ```
 //!
-//! A call that may allocate takes an allocator, except [`push_escaped_bytes`], which uses its
-//! string's. If an allocation fails, it returns an error, usually `Error::Memory`. Others are
-//! listed under 'Errors'.
+//! Only a call that takes an allocator may allocate, and [`push_escaped_bytes`], by its string's.
+//! If that fails, it returns an error, usually `Error::Memory`. Others are listed under 'Errors'.
 #![tactic(auto)]
 
 pub mod address;

@@ -86,7 +86,7 @@ impl MinRegex {
     }
 
     /// Whether the pattern matches from the start of the view's text, not necessarily up to its end. It
-    /// doesn't allocate, and takes at most 2 × (length of the text) looks.
+    /// takes at most 2 × (length of the text) looks.
     pub fn matches_view(&self, view: &mut View<'_>) -> bool
         ensures answer { IsTrue result ↔ Matches self.now view.old.text }
         ensures looks { LooksAtMost view.old view.new (2 * length view.old.text) }
@@ -105,8 +105,7 @@ impl MinRegex {
         )
     }
 
-    /// Whether the pattern matches from the start of the text, not necessarily up to its end. It doesn't
-    /// allocate.
+    /// Whether the pattern matches from the start of the text, not necessarily up to its end.
     pub fn is_match(&self, text: &str) -> bool
         ensures { IsTrue result ↔ Matches self.now text.now }
     {
@@ -115,7 +114,7 @@ impl MinRegex {
     }
 
     /// Whether `pattern` matches from the start of the text, with `$` as an ordinary byte. `self`
-    /// isn't used. It doesn't allocate.
+    /// isn't used.
     pub fn match_stars(&self, pattern: &[u8], text: &[u8]) -> bool
         ensures { IsTrue result ↔ MatchesStars pattern.now text.now }
     {

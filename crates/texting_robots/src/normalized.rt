@@ -12,8 +12,8 @@ ghost use Rattle.texting_robots.specs.Internal.Normalized.{IsPath, IsPort, IsSit
 use std::simd::prelude::*;
 
 /// One bit for each upper half of an ASCII byte. The tables below are sets of bytes that `url`
-/// leaves unchanged in a `part` of a URL. A table is indexed by the lower half of a byte, and has
-/// the bits of the upper halves with which the byte is in the set.
+/// leaves unchanged in a `part` of a URL: a byte is in the set if the table has, at the byte's
+/// lower half, the bit of its upper half.
 const UPPER: &[u8; 16] = &[1, 2, 4, 8, 16, 32, 64, 128, 0, 0, 0, 0, 0, 0, 0, 0];
 
 const NAME: &[u8; 16] = &[
@@ -89,7 +89,6 @@ fn after<'a>(part: &[u8; 16], text: &'a [u8]) -> &'a [u8]
     &rest[front_len(part, rest)..]
 }
 
-/// The leading bytes in the set, and what follows them.
 fn split<'a>(part: &[u8; 16], text: &'a [u8]) -> (&'a [u8], &'a [u8])
     ensures front { result.0.now ≡ kept_prefix part.now text.now }
     ensures rest { result.1.now ≡ after part.now text.now }

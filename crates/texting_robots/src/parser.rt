@@ -140,7 +140,6 @@ impl<'a> LazyLine<'a> {
         }
     }
 
-    /// Parses the line.
     #[tactic(auto, using(crate::proofs::LineLemmas::line_read, crate::proofs::LineLemmas::line_without_tail, crate::proofs::LineLemmas::line_without_kind))]
     #[inline(always)]
     pub(crate) fn read(&self) -> Line<'a>
@@ -168,7 +167,7 @@ pub(crate) fn split_line<'a>(text: &'a [u8], nul_ends: bool) -> (&'a [u8], &'a [
     (body, after_end(after, nul_ends))
 }
 
-/// An iterator over the contents of a file's lines. It doesn't allocate.
+/// An iterator over the contents of a file's lines.
 #[derive(Drop)]
 pub struct BodyIter<'a> {
     rest: &'a [u8],
@@ -260,7 +259,7 @@ impl<'a> Iterator for LazyLines<'a> {
     }
 }
 
-/// An iterator over the lines of a text. It doesn't allocate.
+/// An iterator over the lines of a text.
 #[derive(Drop)]
 pub struct LineIter<'a> {
     lazy: LazyLines<'a>,
@@ -297,8 +296,7 @@ pub(crate) fn without_bom<'a>(text: &'a [u8]) -> &'a [u8]
     text.strip_prefix(b"\xBF").unwrap_or(text)
 }
 
-/// The lines of a text, in order. NUL isn't a line terminator here, unlike in [`file_lines`]. It doesn't
-/// allocate.
+/// The lines of a text, in order. NUL isn't a line terminator here, unlike in [`file_lines`].
 #[tactic(auto, using(crate::proofs::LineLemmas::lines_are, crate::proofs::LineLemmas::lines_range))]
 pub fn lines<'a>(input: &'a [u8]) -> LineIter<'a>
     ensures value { result ≡ parsed input.now }
@@ -317,7 +315,7 @@ pub fn lines<'a>(input: &'a [u8]) -> LineIter<'a>
 }
 
 /// The contents of the lines of [`file_lines`], including field names and comments. They are slices of
-/// `input`, and contain no CR, LF or NUL. It doesn't allocate.
+/// `input`, and contain no CR, LF or NUL.
 #[tactic(auto, using(crate::proofs::LineLemmas::file_bodies_are, crate::proofs::LineLemmas::lines_of_file_bodies))]
 pub fn file_bodies<'a>(input: &'a [u8]) -> BodyIter<'a>
     ensures value { result ≡ file_bodies input.now }
@@ -340,7 +338,7 @@ pub(crate) fn lazy_file_lines<'a>(input: &'a [u8]) -> LazyLines<'a>
     }
 }
 
-/// The lines of a file, in order. NUL is read as LF. It doesn't allocate, and there are no more lines than bytes.
+/// The lines of a file, in order. NUL is read as LF. There are no more lines than bytes.
 pub fn file_lines<'a>(input: &'a [u8]) -> LineIter<'a>
     ensures value { result ≡ file_lines input.now }
     ensures lines { AreFileLinesOf result input.now }

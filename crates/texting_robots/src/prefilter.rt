@@ -67,7 +67,7 @@ fn are_apart(masks: &[u64], from: usize, text: u64) -> bool
 }
 
 /// The start of the first block of eight with a mask that is a subset of the text's bigrams, or the index
-/// from which fewer than eight are left. It isn't inlined, so that calls with few rules don't pay for it.
+/// from which fewer than eight are left. Not inlined, so that few rules don't pay for it.
 #[inline(never)]
 pub(crate) fn first_near(masks: &[u64], from: usize, text: u64) -> usize
     ensures from { from ≤ result }

@@ -130,14 +130,14 @@ impl Robot {
         Ok(self.allowed_prepared(text.as_str()))
     }
 
-    /// Whether the crawler may fetch a URL that is already parsed. It doesn't allocate.
+    /// Whether the crawler may fetch a URL that is already parsed.
     pub fn allowed_url(&self, url: &Url) -> bool
         ensures { IsVerdict (unplaced self.now.rules) (target_of url.now) result }
     {
         self.allowed_prepared(target(url))
     }
 
-    /// Whether the crawler may fetch the URL with this match target. It doesn't allocate.
+    /// Whether the crawler may fetch the URL with this match target.
     pub fn allowed_prepared(&self, text: &str) -> bool
         ensures { IsVerdict (unplaced self.now.rules) text.now result }
     {
@@ -160,7 +160,7 @@ impl Robot {
     }
 
     /// Whether the crawler may fetch the URL with this match target, and the line that decides. No
-    /// comparisons are counted. It doesn't allocate.
+    /// comparisons are counted.
     pub fn decide_prepared(&self, text: &str) -> Decision
         ensures verdict { IsVerdict (unplaced self.now.rules) text.now result.allowed }
         ensures line { IsDecidingLine self.now.rules text.now result.line }
@@ -168,8 +168,8 @@ impl Robot {
         self.rules.decide(text.as_bytes())
     }
 
-    /// Whether the crawler may fetch the URL whose match target is the text of the view. It doesn't allocate.
-    /// For each rule it takes at most 2 × (length of the text) looks; a look is one call of [`View::same`].
+    /// Whether the crawler may fetch the URL whose match target is the text of the view. For each
+    /// rule it takes at most 2 × (length of the text) looks; a look is one call of [`View::same`].
     /// If a rule matches, only rules count that are at least as long as the longest matching one.
     pub fn allowed_view(&self, view: &mut View<'_>) -> bool
         ensures verdict { IsVerdict (unplaced self.now.rules) view.old.text result }
@@ -179,8 +179,7 @@ impl Robot {
         self.decision(view).allowed
     }
 
-    /// The verdict of [`Robot::allowed_view`], with its bound on looks, and the deciding line. It
-    /// doesn't allocate.
+    /// The verdict of [`Robot::allowed_view`], with its bound on looks, and the deciding line.
     pub fn decision(&self, view: &mut View<'_>) -> Decision
         ensures verdict { IsVerdict (unplaced self.now.rules) view.old.text result.allowed }
         ensures line { IsDecidingLine self.now.rules view.old.text result.line }
@@ -198,7 +197,7 @@ impl Robot {
     }
 
     /// The result of [`Robot::decision`], unless that may take more looks than the budget, by which each rule
-    /// that is tried counts as a look, too. It doesn't allocate. Use it for files that may be hostile.
+    /// that is tried counts as a look, too. Use it for files that may be hostile.
     ///
     /// # Errors
     ///
@@ -218,10 +217,6 @@ impl Robot {
 
     /// [`Robot::decision_within`] for a view of `text`. A rule with a pair of bytes after a `*`
     /// that isn't in the text is usually passed over, as one look. Finding pairs isn't counted.
-    ///
-    /// # Errors
-    ///
-    /// As for [`Robot::decision_within`].
     pub fn decision_of_target(
         &self,
         text: &str,

@@ -187,7 +187,7 @@ impl Site {
         Ok(agents)
     }
 
-    /// The members that apply to the crawler, in file order. It doesn't allocate.
+    /// The members that apply to the crawler, in file order.
     pub fn own_lines<'s, 'n>(&'s self, agent: &'n str) -> OwnLines<'s, 'n>
         ensures rules { filter_map rule_of result ≡ placed_rules agent.now (file_lines self.now) }
         ensures delays { filter_map delay_of result ≡ captured_delays agent.now (file_lines self.now) }
@@ -195,7 +195,7 @@ impl Site {
         OwnLines::new(&self.text, &self.lines, &self.names, self.group_name(agent))
     }
 
-    /// The rules that apply to the crawler, in file order. It doesn't allocate.
+    /// The rules that apply to the crawler, in file order.
     pub fn rules<'s, 'n>(&'s self, agent: &'n str) -> SiteRules<'s, 'n>
         ensures { result ≡ placed_rules agent.now (file_lines self.now) }
     {
@@ -268,7 +268,7 @@ impl Site {
     }
 
     /// How many microseconds the crawler with the product token `agent` has to wait between two requests, if
-    /// the file specifies that. It is also returned if a rule is too long. It doesn't allocate.
+    /// the file specifies that. It is also returned if a rule is too long.
     pub fn delay(&self, agent: &str) -> Option<u64>
         ensures { HasLines self.now (λ lines. IsDelayFor agent.now lines result) }
     {

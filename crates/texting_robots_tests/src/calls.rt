@@ -1,4 +1,5 @@
-//! Calls that allocate. They check the result, and that a robot, a pattern or a view is unchanged after a failure.
+//! Calls that allocate, which check the result, and that a robot, a pattern or a view is unchanged
+//! after a failure.
 use crate::flush::reports_flushes;
 use safe_output::write::{push_attribute, push_close, push_open};
 use std::alloc::Global;
@@ -52,6 +53,7 @@ pub(crate) const CALLS: &[(&str, Call)] = &[
     ("write_out of which the flush fails", Call::Flush),
 ];
 
+/// Makes the call. The result is whether its result is right.
 pub(crate) fn answer(alloc: Global, call: &Call) -> Result<bool, Error> {
     match call {
         Call::ParseLines => parses_page(alloc),
@@ -69,6 +71,7 @@ pub(crate) fn answer(alloc: Global, call: &Call) -> Result<bool, Error> {
 
 const URL: &str = "http://www.example.com/a/b?c=d&e=f#fragment";
 
+/// Whether this is the match target of the URL.
 fn prepares(alloc: Global, url: &str, want: &str) -> Result<bool, Error> {
     Ok(Robot::prepare_url(alloc, url)?.as_str() == want)
 }
@@ -98,7 +101,7 @@ fn asks_pattern(alloc: Global, call: &Call) -> Result<bool, Error> {
     }
 }
 
-/// The pattern is unchanged if no clone can be made.
+/// Whether the clone, and the pattern even without a clone, is right.
 fn clones_pattern(alloc: Global, pattern: &MinRegex) -> Result<bool, Error> {
     let copy = pattern.clone(alloc);
     if !is_right_pattern(pattern) {
@@ -113,6 +116,7 @@ const FILE: &[u8] =
     b"User-Agent: FerrisCrawler\nAllow: /ocean\nDisallow: /rust\nDisallow: /forest*.py\nCrawl-Delay: 10\n\
     User-Agent: *\nDisallow: /\nSitemap: https://www.example.com/site.xml\n";
 
+/// Whether the robot has the right answers for the call.
 fn asks_robot(alloc: Global, robot: &Robot, call: &Call) -> Result<bool, Error> {
     match call {
         Call::Allowed => queries_urls(alloc, robot, VERDICTS),
@@ -159,6 +163,7 @@ fn queries_urls(alloc: Global, robot: &Robot, texts: &[(&str, bool)]) -> Result<
     answer
 }
 
+/// Parses a URL. For `VerdictOnUrl` the robot has to deny it.
 fn queries_parsed(alloc: Global, robot: &Robot, call: &Call) -> Result<bool, Error> {
     match Url::parse(alloc, "https://www.rust-lang.org/rust") {
         Ok(url) => Ok(matches!(call, Call::RobotAndUrl) || !robot.allowed_url(&url)),
@@ -196,6 +201,7 @@ fn is_right_pattern(pattern: &MinRegex) -> bool {
         && pattern.partial_cmp(pattern) == Some(Ordering::Equal)
 }
 
+/// Whether each way to query the robot gives this decision.
 fn decides(robot: &Robot, text: &str, allowed: bool, line: Option<usize>) -> bool {
     let want = Decision { allowed, line };
     let mut view = View::new(text);

@@ -26,7 +26,7 @@ const FAULTS: &[(ErrorKind, WriteError)] = &[
     (ErrorKind::WriteZero, WriteError::Write),
 ];
 
-/// What it was passed before stays.
+/// Whether `write_out` reports a flush that fails, after all was written.
 pub(crate) fn reports_flushes(alloc: Global) -> Result<bool, Error> {
     let mut right = true;
     for (kind, fault) in FAULTS {

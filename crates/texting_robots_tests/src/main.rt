@@ -1,13 +1,13 @@
-//! Calls of public functions that neither another program nor the C library calls, and of inputs that neither can
-//! have: the others have golden cases (`tests/golden`) and tests in C (`tests/host.c`). The crate has no test
-//! functions, since a program that has some is proved a second time with them.
+//! Calls of public functions that neither another program nor the C library calls, or not with
+//! these inputs: others have golden cases (`tests/golden`) and tests in C (`tests/host.c`). There
+//! are no test functions, since a program with some is proved twice.
 //!
-//! The program makes the calls of a table, and prints for each whether its result is right.
-//! `tests/test_allocation_failures.py` makes the allocations fail; then a call that allocates can also print
-//! `out of memory`. A name on standard input chooses one call.
+//! The program makes the calls of a table, or the one that standard input names, and prints whether
+//! the result is right. `tests/test_allocation_failures.py` makes allocations fail; then it can
+//! also print `out of memory`.
 //!
-//! `texting_robots_tests CALLS FILE NUMBER WORD TEXT..` prints what other calls return for each text, or, if there
-//! is none, for that of the file: inputs and results are data of `tests/test_calls.py`.
+//! `texting_robots_tests CALLS FILE NUMBER WORD TEXT..` prints what other calls return for each
+//! text, or without one for that of the file: inputs and results are data of `tests/test_calls.py`.
 #![tactic(auto)]
 
 mod calls;
@@ -22,7 +22,7 @@ use std::process::ExitCode;
 use std::{env, fs, str};
 use texting_robots::Error;
 
-/// The result is whether the outcome of the call is an acceptable one.
+/// Prints the outcome of the call. The result is whether it is acceptable.
 fn makes_call(rt: &HostRuntime, name: &str, call: &Call) -> bool {
     let (word, may_be) = match answer(rt.alloc(), call) {
         Ok(true) => ("right", true),
@@ -44,7 +44,7 @@ fn makes_calls(rt: &HostRuntime, line: &[u8]) -> bool {
     well
 }
 
-/// Prints an error too.
+/// Prints what the calls of this name return for the text, or their error.
 fn shows_text(rt: &HostRuntime, name: &str, given: &Given<'_>, text: &str) -> bool {
     match shows(rt, name, given, text) {
         Ok(shown) => shown,
@@ -52,7 +52,7 @@ fn shows_text(rt: &HostRuntime, name: &str, given: &Given<'_>, text: &str) -> bo
     }
 }
 
-/// Without a text, the file is the text.
+/// Prints for each text; without one, the file is the text.
 fn shows_texts(rt: &HostRuntime, name: &str, given: &Given<'_>, texts: &[String]) -> bool {
     if texts.is_empty() {
         return match str::from_utf8(given.file) {
@@ -67,7 +67,7 @@ fn shows_texts(rt: &HostRuntime, name: &str, given: &Given<'_>, texts: &[String]
     well
 }
 
-/// By the words on the command line. Without them it makes all calls of the table.
+/// Obeys the command line; without words it makes all calls of the table.
 fn obeys(rt: &HostRuntime, words: &[String]) -> bool {
     let [_, name, path, number, word, texts @ ..] = words else {
         return makes_calls(rt, b"");
@@ -85,6 +85,7 @@ fn obeys(rt: &HostRuntime, words: &[String]) -> bool {
     }
 }
 
+/// By the line on standard input or, without one, by the command line.
 fn is_well(rt: &HostRuntime) -> bool {
     let mut buffer = [0; 80];
     match rt.stdin().read(&mut buffer) {

@@ -1,4 +1,4 @@
-//! Prints what calls return. `tests/test_calls.py` has the inputs and what has to be printed.
+//! Prints what calls return. `tests/test_calls.py` has inputs and outputs.
 use crate::example::visit;
 use robots_rules::compare::compare_sites;
 use texting_robots::labels::{is_named, labeled_lines};
@@ -88,13 +88,13 @@ fn shows_query(rt: &HostRuntime, given: &Given<'_>, text: &str) -> Result<bool, 
     Ok(println!(rt; "{allowed} {}", view.seen()).is_ok())
 }
 
-/// By a robot of the first bytes of a file.
+/// [`shows_robot`], by the first bytes of a file.
 fn shows_by_robot(rt: &HostRuntime, given: &Given<'_>, text: &str) -> Result<bool, Error> {
     let robot = Robot::with_limit(rt.alloc(), given.word, given.file, given.number)?;
     shows_robot(rt, &robot, text)
 }
 
-/// By a site of the first bytes of a file.
+/// [`shows_robot`], by a site of the first bytes of a file.
 fn shows_by_site(rt: &HostRuntime, given: &Given<'_>, text: &str) -> Result<bool, Error> {
     let site = Site::with_limit(rt.alloc(), given.file, given.number)?;
     match site.robot(rt.alloc(), given.word) {
@@ -119,6 +119,7 @@ fn shows_robot(rt: &HostRuntime, robot: &Robot, text: &str) -> Result<bool, Erro
     Ok(well && shows_target(rt, robot, text) && shows_target(rt, robot, &target))
 }
 
+/// The robot's answers on a match target, and their looks.
 fn shows_target(rt: &HostRuntime, robot: &Robot, text: &str) -> bool {
     let (mut view, mut other) = (View::new(text), View::new(text));
     let answers = [robot.allowed_prepared(text), robot.allowed_view(&mut view)];

@@ -32,7 +32,6 @@ abbrev pub body_len : List ℕ → ℕ
 body_len [] = 0
 body_len (byte ∷ text) = if byte == lf then 0 else (if byte == cr then 0 else suc (body_len text))
 
--- the length of the leading line terminator
 abbrev pub end_len : List ℕ → ℕ
 end_len [] = 0
 end_len (byte ∷ text) = if byte == lf then 1 else (if byte == cr then suc (end_len text) else 0)

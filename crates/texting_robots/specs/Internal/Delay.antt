@@ -34,7 +34,6 @@ exponent_of [] = Some []
 exponent_of (b ∷ text) =
     if ((b == byte "e") || (b == byte "E")) && is_numeral (without_leading_sign text) then Some text else None
 
--- the number that the text denotes
 abbrev pub number_with : List ℕ → List ℕ → Option (List ℕ) → Option Decimal
 number_with whole fraction exponent =
     if nat_lt 0 (length (whole ++ fraction))

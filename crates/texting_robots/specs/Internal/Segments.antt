@@ -95,7 +95,6 @@ pub record IsSpan {X : Type 0} (xs : List X) (span : Span) : Type 0 where
 abbrev pub part_of : {X : Type 0} → List X → Span → List X
 part_of xs span = slice_range xs span.start span.end
 
--- a default, for positions without a segment
 abbrev pub no_segment : Segment
 no_segment = record { span = record { start = 0; end = 0 }; table = 0 }
 

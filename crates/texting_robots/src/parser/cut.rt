@@ -11,7 +11,6 @@ use std::simd::prelude::*;
 /// How many bytes are compared at once if fewer than `LANES` are left.
 const HALF: usize = 16;
 
-/// The index of the first byte that ends a line.
 fn first_end(text: &[u8], nul_ends: bool) -> Option<usize>
     ensures { let len = body_len (read_as nul_ends text.now) in MatchOption result (len ≡ length text.now)
         (λ end. (len ≡ end) × (end < length text.now)) }
@@ -75,7 +74,6 @@ pub(crate) fn body_len(text: &[u8], nul_ends: bool) -> usize
     text.len() - rest.len() + short_body_len(rest, nul_ends)
 }
 
-/// LF, or NUL if that is read as LF.
 fn feeds(byte: u8, nul_ends: bool) -> bool
     ensures { result ≡ is_feed nul_ends byte }
 {

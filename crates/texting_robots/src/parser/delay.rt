@@ -179,7 +179,7 @@ fn is_infinite(text: &[u8]) -> bool
 /// Parses a delay in seconds. The result is in microseconds, rounded down, and at most `u64::MAX`.
 ///
 /// The text isn't trimmed. It has to be a decimal number, possibly with an exponent, or `inf` or `infinity`.
-/// For anything else, and for a delay below zero, the result is `None`. It doesn't allocate.
+/// For anything else, and for a delay below zero, the result is `None`.
 #[tactic(auto, using(crate::proofs::DelayLemmas::is_delay))]
 pub fn read_delay(text: &[u8]) -> Option<u64>
     ensures { IsDelay text.now result }

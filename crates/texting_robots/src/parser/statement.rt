@@ -21,8 +21,7 @@ pub enum Kind {
     CrawlDelay,
 }
 
-/// The accepted field names of a directive, ASCII letters in any case. The first is the usual one. It doesn't
-/// allocate.
+/// The accepted field names of a directive, ASCII letters in any case. The first is the usual one.
 pub fn field_names(kind: Kind) -> &'static [&'static str]
     ensures { map (λ name. str_to_ascii_lowercase name.now) result.now ≡ field_names kind }
 {
@@ -159,7 +158,6 @@ fn after_usual<'a>(kind: Kind, text: &'a [u8]) -> Option<&'a [u8]>
     }
 }
 
-/// The tail after any field name of this kind.
 #[inline(never)]
 fn tail_by_field_names<'a>(kind: Kind, text: &'a [u8]) -> Option<&'a [u8]>
     ensures { MatchOption result (tail_as kind text.now ≡ None) (λ tail. tail_as kind text.now ≡ Some tail.now) }

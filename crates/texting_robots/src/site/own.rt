@@ -19,7 +19,7 @@ pub(crate) struct Position {
     pub(crate) at: usize,
 }
 
-/// An iterator over the members that apply to a crawler, in file order. It doesn't allocate.
+/// An iterator over the members that apply to a crawler, in file order.
 ///
 /// It goes from one user-agent line with the group name to the next, and returns the members of its group.
 #[derive(Drop)]
@@ -46,7 +46,6 @@ impl<'s, 'n> Model for OwnLines<'s, 'n> {
         (map (tag_at s.text.now) s.lines.now) };
 }
 
-/// The line with this index, if it is in the group.
 fn line_of_group<'t>(
     text: &'t [u8],
     lines: &[KeptLine],

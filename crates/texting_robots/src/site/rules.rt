@@ -11,7 +11,7 @@ use crate::site::own::OwnLines;
 use std::alloc::{AllocError, Global};
 use std::marker::Model;
 
-/// A rule of a crawler: an Allow or a Disallow whose value is UTF-8.
+/// An Allow or a Disallow whose value is UTF-8.
 #[derive(Drop)]
 pub struct SiteRule<'s> {
     /// Verbatim, except that the value of an empty Disallow, which is an Allow, is `/`.
@@ -44,7 +44,7 @@ impl<'s> SiteRule<'s> {
     }
 }
 
-/// An iterator over the rules that apply to a crawler, in file order. It doesn't allocate.
+/// An iterator over the rules that apply to a crawler, in file order.
 #[derive(Drop)]
 pub struct SiteRules<'s, 'n> {
     pub(super) lines: OwnLines<'s, 'n>,
@@ -59,7 +59,6 @@ impl<'s, 'n> Model for SiteRules<'s, 'n> {
     ghost view = { λ s. filter_map rule_of s.lines };
 }
 
-/// The rule of a value, if that is UTF-8.
 fn rule_with<'s>(value: &'s [u8], is_allow: bool, line: usize) -> Option<SiteRule<'s>>
     ensures { result ≡ placed line (rule_with value.now is_allow) }
 {
