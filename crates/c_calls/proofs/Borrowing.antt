@@ -185,7 +185,7 @@ module _ {M : Type 1} {𝓤 : Ura M} {𝓛 : Logic 𝓤} {K : Type 0} {Γ : List
       → Rv K 𝓛 Γ E (addr_of (local_place i (deref τ ∷ []))) (vptr b o)
   again t is = addr t (through t is (stop t))
 
--- ---- Formulas of such a function, from its entry to its exit.
+-- ---- Formulas.
 
 abbrev pub tokens : (n : ℕ) → Lfts n → Shares n → Fml
 tokens zero κs qs = ftrue

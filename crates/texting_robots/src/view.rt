@@ -1,5 +1,5 @@
 //! A text that can only be compared byte by byte, by counted looks, or as a whole with `/robots.txt`.
-ghost use Rattle.std.specs.Prelude.{◌≡◌, ℕ, ◌+◌, ◌<◌, ◌↔◌, IsTrue, length, slice_index, []};
+ghost use Rattle.std.specs.Prelude.{◌≡◌, ◌+◌, ◌<◌, ◌↔◌, IsTrue, length, slice_index, []};
 ghost use Rattle.texting_robots.specs.{Verdict.robots_file, View.seen_of};
 
 mod looks;
@@ -16,7 +16,7 @@ pub struct View<'a> {
 }
 
 impl<'a> Model for View<'a> {
-    ghost use Rattle.std.specs.Prelude.{◌≡◌, ℕ, List};
+    ghost use Rattle.std.specs.Prelude.{◌≡◌};
     ghost use Rattle.texting_robots.specs.View.{ViewValue, seen_of};
 
     ghost Value = { ViewValue };

@@ -1,7 +1,7 @@
 //! Where a line ends.
 ghost use Rattle.std.specs.Prelude.{◌≡◌, ◌<◌, ◌≤◌, MatchOption, drop, if◌then◌else◌, length, take};
 ghost use Rattle.std.specs.List.{list_all};
-ghost use Rattle.texting_robots.specs.Cut.{cr, lf};
+ghost use Rattle.texting_robots.specs.Cut.{lf};
 ghost use Rattle.texting_robots.specs.Internal.Cut.{body_len, empty_lines, end_len, is_feed, read_as};
 
 use crate::lanes::{LANES, all_are, first_lane};
