@@ -25,7 +25,7 @@ fn targets_of(alloc: Global, urls: &str) -> Result<Vec<String>, AllocError>
     Ok(targets)
 }
 
-/// The result of a crawler's robot on each match target.
+/// A robot's result for each match target.
 fn results_on(alloc: Global, robot: &Robot, targets: &[String]) -> Result<Vec<i64>, AllocError>
     requires { LinesFit robot.now.rules }
     ensures { IfOk result (λ row. AllZip (IsResultOn robot.now.rules) (map string_bytes targets.now) row.items) }

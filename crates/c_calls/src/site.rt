@@ -86,8 +86,7 @@ fn number_in(site: &Site, which: usize, agent: &[u8]) -> Result<u64, Error>
 }
 
 /// Writes a number: for 0 how many bytes of memory the site takes, for 1 whether a user-agent line
-/// names the crawler, as 1 or 0, and else its delay in microseconds. Rules that are too long don't
-/// matter.
+/// names the crawler, as 1 or 0, and else its delay in microseconds, even if a rule is too long.
 pub fn number(site: &Site, which: usize, agent: &[u8], out: &mut u64) -> i32
     ensures written { result ≡ pos 0 → IsSiteNumber site.now which agent.now out.new }
     ensures kept { result ≢ pos 0 → out.new ≡ out.old }

@@ -160,7 +160,7 @@ pub unsafe extern "C" fn robots_results(
 
 /// Writes a number: for 0 what `robots_query_within` costs at most for a match target of this length, for 1
 /// how many bytes of memory the robot takes with this handle, of which only a bound is proved, and else its
-/// delay in microseconds. It doesn't allocate.
+/// delay in microseconds.
 #[unsafe(no_mangle)]
 pub unsafe extern "C" fn robots_number(
     robot: *const u8,

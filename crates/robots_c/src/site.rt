@@ -79,7 +79,7 @@ pub unsafe extern "C" fn robots_site_matrix(
 
 /// Writes one of a site's numbers: for 0 how many bytes of memory it takes with this handle, of which only a
 /// bound is proved, for 1 whether a user-agent line names the crawler, as 1 or 0, and else the crawler's delay
-/// in microseconds. It doesn't allocate.
+/// in microseconds.
 #[unsafe(no_mangle)]
 pub unsafe extern "C" fn robots_site_number(
     site: *const u8,

@@ -63,7 +63,7 @@ fn push_shown(bytes: &mut Vec<u8>, line: &mut String, text: &str) -> fmt::Result
     Ok(push_text(bytes, line.as_bytes())?)
 }
 
-/// Escapes in the values what is unsafe to display or would end them.
+/// Escapes in the values what is unsafe to display.
 fn push_attributes(
     bytes: &mut Vec<u8>,
     line: &mut String,

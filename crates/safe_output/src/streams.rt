@@ -18,7 +18,6 @@ pub enum ReadError {
     Folder,
     /// A read failed, or the input didn't end within 1,048,576 reads.
     Read,
-    /// An allocation failed.
     Memory,
 }
 

@@ -1,5 +1,4 @@
-//! Calls that allocate, which check the result, and that a robot, a pattern or a view is unchanged
-//! after a failure.
+//! Calls that allocate. Each checks its result, and that its object is unchanged after a failure.
 use crate::flush::reports_flushes;
 use safe_output::write::{push_attribute, push_close, push_open};
 use std::alloc::Global;
@@ -213,7 +212,7 @@ fn decides(robot: &Robot, text: &str, allowed: bool, line: Option<usize>) -> boo
         && !view.is_robots_file()
 }
 
-/// The delay, the sitemap and verdicts of the robot with the rules `/ocean`, `/rust` and `/forest*.py` in lines 2 to 4.
+/// Whether the robot has the delay, the sitemap and the verdicts of `FILE`.
 fn is_right_robot(robot: &Robot) -> bool {
     robot.delay == Some(10_000_000)
         && robot.sitemaps.first().map(String::as_str) == Some("https://www.example.com/site.xml")
