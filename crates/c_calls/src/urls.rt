@@ -1,4 +1,4 @@
-//! The results for URLs, as numbers.
+//! The results for URLs.
 ghost use Rattle.std.specs.Prelude.{◌≡◌, ◌≢◌, ◌<◌, ◌≤◌, ◌==◌, ◌^◌, IfErr, IfOk, IfSome, IsUtf8, count_by, length, pos};
 ghost use Rattle.std.specs.List.{AllZip};
 ghost use Rattle.c_calls.specs.File.{GivesRobot, IsRobotOfSomeFile, bytes_read};
