@@ -25,7 +25,7 @@
 //! }
 //! ```
 //!
-//! Only a call that takes an allocator may allocate, and [`push_escaped_bytes`], as its string does.
+//! Only calls that take an allocator may allocate, and [`push_escaped_bytes`], as its string does.
 //! If that fails, it returns an error, usually `Error::Memory`. Others are listed under 'Errors'.
 #![tactic(auto)]
 

@@ -215,8 +215,8 @@ impl Robot {
         self.rules.decision_within(view, None, budget)
     }
 
-    /// [`Robot::decision_within`] for a view of `text`. A rule with a pair of adjacent bytes after a `*`
-    /// that isn't in the text is usually passed over, as one look. Finding pairs isn't counted.
+    /// [`Robot::decision_within`] for a view of `text`. A rule with a pair of adjacent bytes after
+    /// a `*` that the text lacks is usually passed over, as one look. Finding pairs isn't counted.
     pub fn decision_of_target(
         &self,
         text: &str,
