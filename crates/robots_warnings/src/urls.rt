@@ -3,7 +3,7 @@ ghost use Rattle.std.specs.Prelude.{◌≡◌, ◌&&◌, IfOk, MatchOption, fals
 ghost use Rattle.std.specs.Str.{is_utf8};
 ghost use Rattle.robots_warnings.specs.Urls.{begins_as_url, begins_in_any_case, is_unparsable};
 
-use crate::file::first;
+use safe_output::bytes::first;
 use std::alloc::{AllocError, Global};
 use url::{ParseError, Url};
 

@@ -2,6 +2,7 @@
 //! reports of such lines, and HTML; with reading a complete input and writing a complete report.
 #![tactic(auto)]
 
+pub mod bytes;
 mod color;
 pub mod delay;
 pub mod html;

@@ -1,6 +1,6 @@
 use Rattle.std.proofs.{Common.arith, lemmas.Grind.common_steps}
-use Rattle.robots_warnings.proofs.{StepLemmas.somewhere_first}
-use Rattle.robots_warnings.proofs.rules.somewhere.Goals as goal
+use Rattle.safe_output.proofs.{BytesLemmas.somewhere_first}
+use Rattle.safe_output.proofs.bytes.somewhere.Goals as goal
 
 pub returns : goal.returns
 returns g c = λ p computes.
