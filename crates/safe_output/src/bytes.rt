@@ -72,7 +72,7 @@ pub fn first(count: usize, text: &[u8]) -> &[u8]
 }
 
 /// Without spaces and tabs at the start.
-pub fn trim_blanks_start<'a>(text: &'a [u8]) -> &'a [u8]
+pub fn trim_blanks_start(text: &[u8]) -> &[u8]
     ensures { result.now ≡ trim_blanks_start text.now }
 {
     let mut rest = text;
@@ -83,7 +83,7 @@ pub fn trim_blanks_start<'a>(text: &'a [u8]) -> &'a [u8]
 }
 
 /// Without spaces and tabs at the end.
-pub fn trim_blanks_end<'a>(text: &'a [u8]) -> &'a [u8]
+pub fn trim_blanks_end(text: &[u8]) -> &[u8]
     ensures { result.now ≡ trim_blanks_end text.now }
 {
     let mut rest = text;
@@ -94,7 +94,7 @@ pub fn trim_blanks_end<'a>(text: &'a [u8]) -> &'a [u8]
 }
 
 /// Without spaces and tabs at both ends.
-pub fn trim_blanks<'a>(text: &'a [u8]) -> &'a [u8]
+pub fn trim_blanks(text: &[u8]) -> &[u8]
     ensures { result.now ≡ trim_blanks text.now }
 {
     trim_blanks_end(trim_blanks_start(text))

@@ -1,10 +1,11 @@
 //! Sanitizes untrusted text: escapes invalid UTF-8, characters that are unsafe to display, and the start of commands.
 ghost use Rattle.std.specs.Prelude.{◌≡◌, ◌++◌, OnOk, encode_utf8_all, flat_map, string_bytes};
 ghost use Rattle.std.specs.{List.list_all, Str.chars, Io.StartsWith};
-ghost use Rattle.safe_output.specs.Sanitize.{has_command, is_printable, is_printable_byte, safe_chunk};
-ghost use Rattle.safe_output.specs.Sanitize.{safe_in, sanitized, sanitized_in, turns_text};
+ghost use Rattle.safe_output.specs.Sanitize.{begins_command, has_command, is_printable, is_printable_byte};
+ghost use Rattle.safe_output.specs.Sanitize.{safe_chunk, safe_in, sanitized, sanitized_in, turns_text};
 ghost use Rattle.safe_output.specs.Sanitize.{without_commands, without_hash};
 
+use crate::bytes::somewhere;
 use bstr::decode_utf8;
 use std::alloc::AllocError;
 use std::str::from_utf8;
@@ -78,17 +79,16 @@ pub(crate) fn push_chunks(
     Ok(())
 }
 
+fn begins_command(text: &[u8]) -> bool
+    ensures { result ≡ begins_command text.now }
+{
+    text.starts_with(b"##[")
+}
+
 pub(crate) fn has_command(text: &[u8]) -> bool
     ensures { result ≡ has_command text.now }
 {
-    let mut rest = text;
-    while let [_, later @ ..] = rest {
-        if rest.starts_with(b"##[") {
-            return true;
-        }
-        rest = later;
-    }
-    false
+    somewhere(text, begins_command)
 }
 
 fn push_without_hash(text: &mut String, char: char) -> Result<(), AllocError>
