@@ -14,8 +14,8 @@ use robots_warnings::crawlers::{is_wrong, meant};
 use robots_warnings::facts::without_utf8_bom;
 use robots_warnings::spellings::{Spelling, spelled};
 use robots_warnings::targets::has_dot_segment;
-use robots_warnings::urls::{as_text, is_absolute_url};
-use safe_output::bytes::{after_byte, before_byte, has};
+use robots_warnings::urls::is_absolute_url;
+use safe_output::bytes::{after_byte, as_text, before_byte, has};
 use std::alloc::{AllocError, Global};
 
 /// What has to be allowed or denied.

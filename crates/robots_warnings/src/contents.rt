@@ -3,9 +3,9 @@
 ghost use Rattle.std.specs.Prelude.{◌≡◌};
 ghost use Rattle.robots_warnings.specs.Contents.{comment_of, is_cut, is_cut_to_root, raw_value, tail_of};
 
-use crate::rules::{begins_oddly, is_utf8};
+use crate::rules::begins_oddly;
 use crate::site_patterns::is_whole_site;
-use safe_output::bytes::{after_byte, before_byte, has, place, trim_blanks};
+use safe_output::bytes::{after_byte, before_byte, has, is_utf8, place, trim_blanks};
 
 /// The tail, which is between the first colon and the comment, and the comment, which starts with `#` or is
 /// empty.

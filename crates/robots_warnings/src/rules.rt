@@ -1,19 +1,12 @@
 //! Conditions on the value of an Allow or a Disallow line.
 ghost use Rattle.std.specs.Prelude.{◌≡◌, true};
-ghost use Rattle.std.specs.Str.{is_utf8};
 ghost use Rattle.robots_warnings.specs.Rules.{begins_lone_percent, begins_oddly, has_dollar_inside};
 ghost use Rattle.robots_warnings.specs.{Rules.is_delimiter};
 
-use crate::urls::{as_text, begins_as_url};
+use crate::urls::begins_as_url;
 use safe_output::bytes::{
     after_byte, before_byte, from_first, has, hex_value, needs_no_escape, somewhere,
 };
-
-pub(crate) fn is_utf8(value: &[u8]) -> bool
-    ensures { result ≡ is_utf8 value.now }
-{
-    as_text(value).is_some()
-}
 
 pub(crate) fn begins_oddly(value: &[u8]) -> bool
     ensures { result ≡ begins_oddly value.now }

@@ -1,6 +1,8 @@
 //! Parts of a byte string, and bytes in it.
-ghost use Rattle.std.specs.Prelude.{◌≡◌, ◌<◌, ◌≤◌, ◌==◌, ℕ, Bool, List, length, take, true};
+ghost use Rattle.std.specs.Prelude.{◌≡◌, ◌<◌, ◌≤◌, ◌==◌, ℕ, Bool, List, MatchOption, false, length, take};
+ghost use Rattle.std.specs.Prelude.{true};
 ghost use Rattle.std.specs.{Char.digit_value, Char.is_ascii_hexdigit, Fn.FnReturnsAt, List.position_or_len};
+ghost use Rattle.std.specs.{Str.is_utf8};
 ghost use Rattle.safe_output.specs.Bytes.{after_byte, before_byte, from_first, has, needs_no_escape};
 ghost use Rattle.safe_output.specs.Bytes.{somewhere, trim_blanks, trim_blanks_end, trim_blanks_start};
 
@@ -56,6 +58,7 @@ pub fn from_first<'a, F: Fn(&[u8]) -> bool>(text: &'a [u8], test: F) -> &'a [u8]
 }
 
 /// Whether the test holds for the rest of the text from some byte on.
+#[tactic(auto, using(crate::proofs::BytesLemmas::somewhere_first))]
 pub fn somewhere<F: Fn(&[u8]) -> bool>(text: &[u8], test: F) -> bool
     requires { F.IsAlwaysCallable test }
     ensures { (p : List ℕ → Bool) → ((x : List ℕ) (r : Bool) → FnReturnsAt F.Fn test x r → r ≡ p x)
@@ -65,6 +68,7 @@ pub fn somewhere<F: Fn(&[u8]) -> bool>(text: &[u8], test: F) -> bool
 }
 
 /// At most so many bytes from the start.
+#[tactic(auto, using(std::proofs::lemmas::List::take_min))]
 pub fn first(count: usize, text: &[u8]) -> &[u8]
     ensures { result.now ≡ take count text.now }
 {
@@ -98,6 +102,24 @@ pub fn trim_blanks(text: &[u8]) -> &[u8]
     ensures { result.now ≡ trim_blanks text.now }
 {
     trim_blanks_end(trim_blanks_start(text))
+}
+
+/// The text, if it is UTF-8.
+pub fn as_text(value: &[u8]) -> Option<&str>
+    ensures { MatchOption result (is_utf8 value.now ≡ false)
+        (λ text. (is_utf8 value.now ≡ true) × (text.now ≡ value.now)) }
+{
+    match std::str::from_utf8(value) {
+        Ok(text) => Some(text),
+        Err(_) => None,
+    }
+}
+
+/// Whether it is UTF-8.
+pub fn is_utf8(value: &[u8]) -> bool
+    ensures { result ≡ is_utf8 value.now }
+{
+    as_text(value).is_some()
 }
 
 /// Whether the byte needs no escape anywhere in a URL.
