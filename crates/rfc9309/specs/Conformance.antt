@@ -10,7 +10,7 @@ use Rattle.texting_robots.specs.Callers.{Allow, CrawlDelay, Disallow, LineValue,
 use Rattle.texting_robots.specs.Callers.{agents_in, file_bodies, file_limit, file_lines, placed_rules}
 use Rattle.texting_robots.specs.{Internal.Statement.trimmed}
 use Rattle.rfc9309.specs.{Comparable.has_odd_escape, Matching.has_dollar}
-use Rattle.rfc9309.specs.HasForm.{has_form, value_in}
+use Rattle.rfc9309.specs.LineTest.{has_form, value_in}
 use Rattle.rfc9309.specs.LineForms.{Agent, Delay, Empty, Other, Rule, Sitemap}
 use Rattle.rfc9309.specs.declared.conformance.Above.{Above}
 use Rattle.rfc9309.specs.declared.conformance.Conformance.{Conformance}

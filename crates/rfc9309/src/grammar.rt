@@ -3,11 +3,11 @@ ghost use Rattle.std.specs.Prelude.{◌≡◌, ◌≤◌, ◌==◌, length, reve
 ghost use Rattle.std.specs.List.{list_all, list_any, position_or_len};
 ghost use Rattle.std.specs.Str.{is_utf8, str_eq_ignore_ascii_case};
 ghost use Rattle.rfc9309.specs.Conformance.{is_line_below};
-ghost use Rattle.rfc9309.specs.HasForm.{are_some, has_byte, has_form, is_blank, is_comment_byte, lower};
-ghost use Rattle.rfc9309.specs.HasForm.{is_comment_text, is_digit, is_identifier_byte, is_keyed};
-ghost use Rattle.rfc9309.specs.HasForm.{is_number, is_other_name, is_pattern, is_product_token};
-ghost use Rattle.rfc9309.specs.HasForm.{is_value_byte, is_value_text, stripped, text_after, text_before};
-ghost use Rattle.rfc9309.specs.HasForm.{text_from, value_in, trim_blanks_start};
+ghost use Rattle.rfc9309.specs.LineTest.{are_some, has_byte, has_form, is_blank, is_comment_byte, lower};
+ghost use Rattle.rfc9309.specs.LineTest.{is_comment_text, is_digit, is_identifier_byte, is_keyed};
+ghost use Rattle.rfc9309.specs.LineTest.{is_number, is_other_name, is_pattern, is_product_token};
+ghost use Rattle.rfc9309.specs.LineTest.{is_value_byte, is_value_text, stripped, text_after, text_before};
+ghost use Rattle.rfc9309.specs.LineTest.{text_from, value_in, trim_blanks_start};
 ghost use Rattle.rfc9309.specs.LineForms.{Agent, Delay, Empty, Other, Rule, Sitemap};
 
 /// The field names that are recognized.

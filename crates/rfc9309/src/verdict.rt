@@ -4,7 +4,7 @@ ghost use Rattle.std.specs.Prelude.{◌≡◌, ◌↔◌, ℕ, Bool, true, false
 ghost use Rattle.{std.specs.List.AllZip, std.specs.List.list_any, texting_robots.specs.Escape.is_escaped};
 ghost use Rattle.rfc9309.specs.Comparable.{AreComparable, IsPlainPath, is_normal};
 ghost use Rattle.rfc9309.specs.Matching.{IsMatch, IsRfcVerdict, Reading, all_stay, normal_uri, octets};
-ghost use Rattle.rfc9309.specs.StandardRobot.{IsReadAs, IsFileWith};
+ghost use Rattle.rfc9309.specs.{Rfc9309.IsFileWith, StandardRobot.IsReadAs};
 ghost use Rattle.texting_robots.specs.Callers.{IsRobotOfFile, IsVerdict, Matches, RobotValue, Rule, escaped};
 ghost use Rattle.texting_robots.specs.Callers.{file_limit, unplaced};
 ghost use Rattle.rfc9309.specs.Examples as example;
@@ -46,9 +46,9 @@ pub fn verdicts_agree()
     ensures robot { (stays : Reading) (count : List ℕ → ℕ) (agent file uri : List ℕ)
         (groups : List rfc.Group) (numbers : List (List ℕ)) (robot : RobotValue) (answer : Bool)
         → IsFileWith numbers groups (take file_limit file) → IsRobotOfFile agent (take file_limit file) robot
-        → AreComparable stays count (rfc.rules_for agent (rfc.merged groups)) uri
+        → AreComparable stays count (rfc.rules_for agent groups) uri
         → IsVerdict (unplaced robot.rules) uri answer
-        ↔ IsRfcVerdict stays count (rfc.rules_for agent (rfc.merged groups)) uri answer }
+        ↔ IsRfcVerdict stays count (rfc.rules_for agent groups) uri answer }
 {}
 
 /// The tables of the standard, and what isn't in normal form, and may be matched otherwise here.
