@@ -5,8 +5,8 @@
 --
 -- `IsRobotstxt` is exactly the standard's grammar, as it is printed there, and `IsRobotstxtByLines` states it
 -- as a list of lines. `IsFile` extends the latter by a leading byte order mark, a last line without a line
--- end, a pattern that begins with a star, and the lines that the standard leaves to implementers. Sitemaps and
--- the rules for a crawler follow.
+-- end, a pattern that begins with a star, and the lines that the standard leaves to implementers. At the end
+-- are the sitemaps of a file, and the rules for a crawler.
 use Rattle.std.specs.Prelude.{◌≡◌, ◌⊎◌, ℕ, ◌≤◌, Bool, true, false, List, [], ◌∷◌, ◌++◌, map, codes, bytes_eq}
 use Rattle.std.specs.Prelude.{filter, Contains, if◌then◌else◌}
 use Rattle.std.specs.{List.flat_map, List.list_any, List.AllByRecursion as Each, Char.to_ascii_lowercase}

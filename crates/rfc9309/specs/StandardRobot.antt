@@ -31,6 +31,7 @@ delay_among agent [] above = slice_get above 0
 delay_among agent (group ∷ groups) above =
     option_or (slice_get (delays_for agent (group ∷ groups)) 0) (last_or None above)
 
+-- the member is a delay of so many microseconds
 abbrev pub IsDelayOf : rfc.Member → ℕ → Type 0
 IsDelayOf (rfc.Delay number) micros = IsDelay number (Some micros)
 IsDelayOf _ micros = ⊥
