@@ -20,7 +20,7 @@ use Rattle.rfc9309.specs.Comparable.{AreComparable, IsPathOf, has_odd_escape}
 use Rattle.rfc9309.specs.Conformance.{allows_all, denies_all, first_denying, first_mixed}
 use Rattle.rfc9309.specs.Conformance.{first_mixed_for, first_split, front_of, is_all, is_apart}
 use Rattle.rfc9309.specs.Conformance.{is_odd_octet, is_plain_path, is_read_as_written, line_apart}
-use Rattle.rfc9309.specs.HasForm.{is_pattern, value_in}
+use Rattle.rfc9309.specs.LineTest.{is_pattern, value_in}
 use Rattle.rfc9309.specs.LineForms.{Form, HasForm, Agent, Delay, Empty, Other}
 use Rattle.rfc9309.specs.Matching.{IsRfcVerdict, all_stay, has_dollar, normal_from, normal_uri}
 use Rattle.rfc9309.specs.Matching.{octets}
@@ -29,7 +29,7 @@ use Rattle.rfc9309.proofs.DelayLemmas.{Fine, rules_unsplit, unsplit}
 use Rattle.rfc9309.proofs.{NormalLemmas.escaped_plain, PlainLemmas.plain_compared, ReadLemmas.lines_in}
 use Rattle.rfc9309.proofs.{RobotLemmas.rejected_as}
 use Rattle.rfc9309.proofs.{RobotLemmas.rules_read}
-use Rattle.rfc9309.proofs.FileLemmas.{FileRead, file_with, groups_written, has_delays}
+use Rattle.rfc9309.proofs.FileLemmas.{FileRead, file_with, groups_written}
 use Rattle.rfc9309.proofs.KeyedLemmas.{IsLineOf}
 use Rattle.rfc9309.proofs.LineFormLemmas.{bodies_bytes, file_has_forms}
 use Rattle.rfc9309.proofs.MemberLemmas.{delay_line, sitemap_line, token_line}
@@ -260,17 +260,17 @@ module _ (text : List ℕ) (near : line_apart text ≡ None) (groups : List rfc.
   reasons = grind (arith, both_none)
 
   abbrev numbers : List (List ℕ)
-  numbers = (has_delays text groups is).0
+  numbers = is.0
 
   abbrev read : FileRead numbers groups text
-  read = file_with text numbers groups (has_delays text groups is).1
+  read = file_with text numbers groups is.1
 
-  groups_are : (parts_in sources).groups ≡ rfc.merged groups
+  groups_are : (parts_in sources).groups ≡ groups
   groups_are =
       ap (λ (parts : Parts). parts.groups) (sym (raw_parts sources)) ∙ groups_written text numbers groups read
 
   abbrev members : List ℕ → List rfc.Member
-  members agent = rfc.rules_for agent (rfc.merged groups)
+  members agent = rfc.rules_for agent groups
 
   fine : (agent : List ℕ) (member : rfc.Member) → Contains (members agent) member → IsFineMember member
   fine agent member has =
@@ -278,7 +278,7 @@ module _ (text : List ℕ) (near : line_apart text ≡ None) (groups : List rfc.
       let all = sources_fine forms (file_bodies text) 1 (bodies_bytes (without_bom (map nul_as_lf text)))
       are.each reasons.0 in
       each_contains IsFineMember (members agent) member
-      (rules_fine agent (rfc.merged groups) (subst HaveFine groups_are (parts_fine sources all).1)) has
+      (rules_fine agent groups (subst HaveFine groups_are (parts_fine sources all).1)) has
 
   lines_same : lines_in sources ≡ lines
   lines_same = grind (arith, map-map, source_of)
@@ -355,7 +355,7 @@ module _ (text : List ℕ) (near : line_apart text ≡ None) (groups : List rfc.
         subst (λ rules. IsVerdict (unplaced robot.rules) uri answer
         ↔ IsRfcVerdict all_stay (octets all_stay) rules uri answer) (whole_groups agent)
         (robot_agrees all_stay (octets all_stay) agent text uri groups numbers robot answer
-        (has_delays text groups is).1 of comparable)
+        is.1 of comparable)
       where
         fine_path : (path : List ℕ) → IsPathOf (members agent) path → IsFine path
         fine_path path (inl has) = fine agent (rfc.Allow path) has

@@ -9,8 +9,8 @@ use Rattle.std.proofs.{lemmas.List.take_all}
 use Rattle.texting_robots.specs.Callers.{LineValue, PlacedRule}
 use Rattle.texting_robots.specs.{Escape.escaped, Escape.is_escaped}
 use Rattle.texting_robots.specs.Executable.{placed_in}
-use Rattle.rfc9309.specs.HasForm.{is_blank, kept_before, text_before, text_from, trim_blanks_start}
-use Rattle.rfc9309.specs.HasForm.{trim_blanks_end}
+use Rattle.rfc9309.specs.LineTest.{is_blank, kept_before, text_before, text_from, trim_blanks_start}
+use Rattle.rfc9309.specs.LineTest.{trim_blanks_end}
 use Rattle.rfc9309.specs.Conformance.{allows_all, first_mixed_for, is_all, is_open}
 
 module _ (stop : ℕ) where

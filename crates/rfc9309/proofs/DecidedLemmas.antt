@@ -10,7 +10,7 @@ use Rattle.texting_robots.specs.{Cut.IsBodyByte, Cut.lf, Executable.file_bodies,
 use Rattle.texting_robots.specs.{Line.without, Line.without_bom}
 use Rattle.texting_robots.specs.Callers.{IsFileRejected, IsRobotOfFile, IsVerdict, RobotValue, agents_in}
 use Rattle.texting_robots.specs.Callers.{file_limit, lines_read, placed_rules, unplaced}
-use Rattle.rfc9309.specs.HasForm.{has_form}
+use Rattle.rfc9309.specs.LineTest.{has_form}
 use Rattle.rfc9309.specs.LineForms.{AreRulesBelowAgents as AreFree}
 use Rattle.rfc9309.specs.LineForms.{Form, HasForm, Agent, Delay, Empty, Other, Rule, Sitemap}
 use Rattle.rfc9309.specs.Conformance.{by_lines, conformance_of, first_other, has_mark_or_none}

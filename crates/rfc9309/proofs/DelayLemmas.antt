@@ -10,7 +10,7 @@ use Rattle.texting_robots.specs.Line.{Allow, CrawlDelay, Disallow, UserAgent}
 use Rattle.rfc9309.specs.{Conformance.first_split}
 use Rattle.rfc9309.specs.Rfc9309.{Delay, Group, Member, has_token, is_rule, merged, put_before}
 use Rattle.rfc9309.specs.Rfc9309.{rules_for}
-use Rattle.rfc9309.specs.Rfc9309.{Item, above_groups, groups_of, is_no_delay, standard_groups}
+use Rattle.rfc9309.specs.Rfc9309.{Statement, above_groups, groups_of, is_no_delay, standard_groups}
 use Rattle.rfc9309.specs.Rfc9309.{standard_rules, without_delays}
 use Rattle.rfc9309.specs.Rfc9309 as rfc
 use Rattle.rfc9309.proofs.{GroupLemmas.has, GroupLemmas.is_named, GroupLemmas.theirs}
@@ -40,24 +40,16 @@ bare_put : (tokens : List (List ℕ)) (members : List Member) (groups : List Gro
     → bare (put_before tokens members groups) ≡ put_before tokens (filter is_rule members) (bare groups)
 bare_put tokens members groups = grind (arith, put_both)
 
-bare_merged : (groups : List Group) → bare (merged groups) ≡ bare groups
-bare_merged [] = refl
-bare_merged (group ∷ later) = grind (arith, bare_put, bare_merged later)
-
 -- ---- skipping the delays among the lines does the same
 
-no_delay_above : (items : List Item)
-    → above_groups (filter is_no_delay items) ≡ filter is_rule (above_groups items)
+no_delay_above : (statements : List Statement)
+    → above_groups (filter is_no_delay statements) ≡ filter is_rule (above_groups statements)
 no_delay_above [] = refl
-no_delay_above (item ∷ items) = grind (arith, no_delay_above items)
+no_delay_above (statement ∷ statements) = grind (arith, no_delay_above statements)
 
-bare_items : (items : List Item) → standard_groups items ≡ bare (groups_of items)
-bare_items [] = refl
-bare_items (item ∷ items) = grind (arith, bare_put, no_delay_above, bare_items items)
-
-pub standard_by_items : (agent : List ℕ) (groups : List Group) (items : List Item)
-    → merged groups ≡ groups_of items → standard_rules agent groups ≡ rules_for agent (standard_groups items)
-standard_by_items agent groups items h = grind (arith, bare_items, bare_merged)
+pub bare_statements : (statements : List Statement) → standard_groups statements ≡ bare (groups_of statements)
+bare_statements [] = refl
+bare_statements (statement ∷ statements) = grind (arith, bare_put, no_delay_above, bare_statements statements)
 
 -- ---- groups
 
@@ -111,18 +103,14 @@ module _ (name : List ℕ) where
       → filter is_rule (theirs name (bare groups)) ≡ filter is_rule (theirs name groups)
   rules_bare groups fine = held_rules (bare groups) ∙ sym fine ∙ sym (held_rules groups)
 
-all_bare : (agent : List ℕ) (groups : List Group) → ((name : List ℕ) → Fine name groups)
-    → rules_for agent groups ≡ rules_for agent (bare groups)
-all_bare agent groups fine =
+pub rules_unsplit : (agent : List ℕ) (groups : List Group) → ((name : List ℕ) → Fine name groups)
+    → rules_for agent groups ≡ standard_rules agent groups
+rules_unsplit agent groups fine =
     let name = str_to_ascii_lowercase agent in
     elim (cases_Bool (list_any (has_token agent) groups)) [
       | inl some ↦ rw (any_bare name groups, some) (sym (rules_bare name groups (fine name)))
       | inr none ↦ rw (any_bare name groups, none) (sym (rules_bare _ groups (fine _)))
     ]
-
-pub rules_unsplit : (agent : List ℕ) (groups : List Group) → ((name : List ℕ) → Fine name (merged groups))
-    → rules_for agent (merged groups) ≡ standard_rules agent groups
-rules_unsplit agent groups fine = grind (arith, all_bare, bare_merged)
 
 -- ---- lines: no rule is below user-agent lines with delays between them (`first_split`)
 

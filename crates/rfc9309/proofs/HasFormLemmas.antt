@@ -11,14 +11,14 @@ use Rattle.std.proofs.lemmas.Str.{IsUtf8-append, IsUtf8-encode, IsUtf8-nil, IsUt
 use Rattle.bstr.specs.Utf8.{code_of_2, code_of_3, code_of_4, continues, decoded, good, second}
 use Rattle.bstr.proofs.lemmas.PieceLemmas.{value-1, value-6, value-9, value-12}
 use Rattle.rfc9309.proofs.{SyntaxLemmas.many, SyntaxLemmas.passing, ValueLemmas.identifier_byte}
-use Rattle.rfc9309.specs.HasForm.{is_comment_byte, is_comment_text, is_value_byte, is_value_text, colon}
-use Rattle.rfc9309.specs.HasForm.{are_some, has_byte, has_form, hash, is_blank, is_digit, is_keyed}
-use Rattle.rfc9309.specs.HasForm.{is_identifier_byte, is_number, is_pattern, is_product_token, lower}
-use Rattle.rfc9309.specs.HasForm.{kept_before, name_in, stripped, text_after, text_before, text_from}
-use Rattle.rfc9309.specs.HasForm.{value_in, trim_blanks_start, trim_blanks_end}
+use Rattle.rfc9309.specs.LineTest.{is_comment_byte, is_comment_text, is_value_byte, is_value_text, colon}
+use Rattle.rfc9309.specs.LineTest.{are_some, has_byte, has_form, hash, is_blank, is_digit, is_keyed}
+use Rattle.rfc9309.specs.LineTest.{is_identifier_byte, is_number, is_pattern, is_product_token, lower}
+use Rattle.rfc9309.specs.LineTest.{kept_before, name_in, stripped, text_after, text_before, text_from}
+use Rattle.rfc9309.specs.LineTest.{value_in, trim_blanks_start, trim_blanks_end}
 use Rattle.bstr.proofs.{lemmas.SoundLemmas.SpellsChar-decoded}
 use Rattle.texting_robots.proofs.Shared.{each_append}
-use Rattle.rfc9309.specs.LineForms.{Form, IsLine, Empty, Agent, Rule, Delay, Sitemap, Other}
+use Rattle.rfc9309.specs.LineForms.{Form, IsFormOf, Empty, Agent, Rule, Delay, Sitemap, Other}
 use Rattle.rfc9309.specs.Rfc9309 as rfc
 use lib.Utf8.{scalar, scalars}
 
@@ -294,7 +294,7 @@ module _ (end : List ℕ) (nl : rfc.IsNl end) where
         | inr star ↦ inr (star, line)
       ]
 
-  pub form_passes : (form : Form) (body : List ℕ) → has_form form body ≡ true → IsLine form (body ++ end)
+  pub form_passes : (form : Form) (body : List ℕ) → has_form form body ≡ true → IsFormOf form (body ++ end)
   form_passes Empty body is =
       let (blanks, comment) = and_parts _ _ is in
       subst rfc.IsEol

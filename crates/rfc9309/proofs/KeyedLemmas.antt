@@ -16,11 +16,11 @@ use Rattle.rfc9309.proofs.ValueLemmas.{blank_no_letter, identifier_bounds, blank
 use Rattle.rfc9309.proofs.Sources.{IsRead, Source, is_not_raw, source_of, written}
 use Rattle.rfc9309.proofs.SyntaxLemmas.{each_weaker, many}
 use Rattle.rfc9309.proofs.ReadLemmas.{BeginsLow, IsBare}
-use Rattle.rfc9309.specs.HasForm.{colon, has_byte, hash, is_blank, is_comment_byte, is_comment_text}
-use Rattle.rfc9309.specs.HasForm.{is_value_byte, is_value_text, name_in, stripped, has_form}
-use Rattle.rfc9309.specs.HasForm.{text_after, text_before, text_from, trim_blanks_start, trim_blanks_end}
-use Rattle.rfc9309.specs.HasForm.{is_identifier_byte, is_keyed, is_number, is_pattern, is_product_token}
-use Rattle.rfc9309.specs.HasForm.{value_in}
+use Rattle.rfc9309.specs.LineTest.{colon, has_byte, hash, is_blank, is_comment_byte, is_comment_text}
+use Rattle.rfc9309.specs.LineTest.{is_value_byte, is_value_text, name_in, stripped, has_form}
+use Rattle.rfc9309.specs.LineTest.{text_after, text_before, text_from, trim_blanks_start, trim_blanks_end}
+use Rattle.rfc9309.specs.LineTest.{is_identifier_byte, is_keyed, is_number, is_pattern, is_product_token}
+use Rattle.rfc9309.specs.LineTest.{value_in}
 use Rattle.rfc9309.specs.LineForms.{Form, Agent, Delay, Rule, Sitemap}
 use Rattle.std.specs.{Str.IsUtf8}
 use Rattle.std.proofs.{lemmas.Bool.Decides.nat_tests, lemmas.Slice.Eq.bytes_eq-Decides}

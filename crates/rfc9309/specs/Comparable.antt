@@ -16,6 +16,7 @@ begins_odd_escape text =
     && ((is_ascii_lowercase high || is_ascii_lowercase low)
     || is_unreserved (digit_value high * 16 + digit_value low))
 
+-- some escape isn't in normal form
 abbrev pub has_odd_escape : List ℕ → Bool
 has_odd_escape [] = false
 has_odd_escape (b ∷ text) = begins_odd_escape (b ∷ text) || has_odd_escape text
@@ -38,7 +39,8 @@ pub record IsPlainPath (stays : Reading) (path : List ℕ) : Type 0 where
 abbrev pub IsPathOf : List rfc.Member → List ℕ → Type 0
 IsPathOf members path = Contains members (rfc.Allow path) ⊎ Contains members (rfc.Disallow path)
 
--- The rules and the URI are such that both verdicts agree.
+-- The rules and the URI are such that both verdicts agree, where `stays` says which reserved octets stay, and
+-- `count` gives the octets of a rule, by which one of several matches is chosen.
 -- - `normal`: the URI is in normal form;
 -- - `robots`: so is `/robots.txt`;
 -- - `trimmed`: no rule has white space to trim;

@@ -45,6 +45,7 @@ as_in_table in_query b = not (in_query && is_one_of (codes ":/") b)
 abbrev pub in_rule : Reading → Reading
 in_rule stays in_query b = b == byte "*" || (not (b == byte "$") && stays in_query b)
 
+-- which octets of a URI stay: not `*`, `$` and `#`
 abbrev pub in_uri : Reading → Reading
 in_uri stays in_query b = not (is_one_of (codes "*$#") b) && stays in_query b
 
@@ -60,6 +61,7 @@ is_kept stays in_query b =
 abbrev pub normal_octet : Reading → Bool → ℕ → List ℕ
 normal_octet stays in_query b = if is_kept stays in_query b then b ∷ [] else percent_encoded b
 
+-- three octets are a `%` with two hexadecimal digits
 abbrev pub is_escape : ℕ → ℕ → ℕ → Bool
 is_escape b high low = b == byte "%" && (is_ascii_hexdigit high && is_ascii_hexdigit low)
 
@@ -86,6 +88,7 @@ without_end [] = []
 without_end (b ∷ []) = if b == byte "$" then [] else b ∷ []
 without_end (b ∷ c ∷ path) = b ∷ without_end (c ∷ path)
 
+-- the path ends with `$`
 unfoldable pub is_ended : List ℕ → Bool
 is_ended [] = false
 is_ended (b ∷ []) = b == byte "$"
@@ -102,7 +105,7 @@ normal_path stays path = normal_from (in_rule stays) false (without_end path)
 abbrev pub normal_uri : Reading → List ℕ → List ℕ
 normal_uri stays uri = normal_from (in_uri stays) false uri
 
--- the first string, or the empty one; the others
+-- the first string, or the empty one if there is none
 abbrev pub first_of : List (List ℕ) → List ℕ
 first_of [] = []
 first_of (string ∷ strings) = string

@@ -1,5 +1,6 @@
 //! Whether a file is in the extended grammar, and whether verdicts on it, for paths and queries in normal
-//! form, are those of the standard, if reserved octets stay; if not, because of which line.
+//! form, are those of the standard, if reserved octets stay; if not, because of which line. The tests are
+//! explained in `specs/Conformance.antt` and `Comparable.antt`, where they have the same names.
 ghost use Rattle.std.specs.Prelude.{◌≡◌, ◌↔◌, ◌<◌, ◌≤◌, ◌==◌, ◌∷◌, ℕ, Bool, Contains, IfOk, List, codes, map};
 ghost use Rattle.std.specs.Prelude.{false, length, take, true};
 ghost use Rattle.texting_robots.specs.Callers.{IsFileRejected, IsRobotOfFile, IsVerdict, RobotValue, escaped};
@@ -63,6 +64,7 @@ pub enum Above {
     Split,
 }
 
+/// The number of the first line that isn't in the grammar.
 fn first_other(bodies: &[&[u8]]) -> Option<usize>
     ensures { result ≡ first_other false 1 (map (λ body. body.now) bodies.now) }
 {
@@ -89,6 +91,7 @@ fn has_nul(text: &[u8]) -> bool
     text.iter().any(|byte| *byte == 0)
 }
 
+/// All of the file is read, it has no NUL, and its byte order mark is complete.
 fn is_read_whole(file: &[u8]) -> bool
     ensures { result ≡ is_read_whole file.now }
 {
@@ -101,6 +104,7 @@ fn needs_no_escape(byte: u8) -> bool
     byte.is_ascii_alphanumeric() || matches!(byte, b'-' | b'.' | b'_' | b'~')
 }
 
+/// The text begins with an escape that isn't in normal form.
 fn begins_odd_escape(text: &[u8]) -> bool
     ensures { result ≡ begins_odd_escape text.now }
 {
@@ -139,6 +143,7 @@ fn has_odd_escape(path: &[u8]) -> bool
     false
 }
 
+/// Some octet is percent-encoded in the normal form, but not by this library.
 fn has_odd_octet(path: &[u8]) -> bool
     ensures { result ≡ list_any is_odd_octet path.now }
 {
@@ -152,6 +157,7 @@ fn has_dollar(text: &[u8]) -> bool
     text.iter().any(|byte| *byte == b'$')
 }
 
+/// The path without the `$` at its end, if it has one.
 fn front_of<'a>(path: &'a [u8]) -> &'a [u8]
     ensures { result.now ≡ front_of path.now }
 {
@@ -161,6 +167,7 @@ fn front_of<'a>(path: &'a [u8]) -> &'a [u8]
     }
 }
 
+/// This library compares the path as the standard does.
 fn is_plain_path(path: &[u8]) -> bool
     ensures { result ≡ is_plain_path path.now }
 {
@@ -168,12 +175,14 @@ fn is_plain_path(path: &[u8]) -> bool
     !has_odd_octet(front) && !has_odd_escape(front) && !has_dollar(front)
 }
 
+/// No white space is trimmed, and the rule isn't too long when escaped.
 fn is_read_as_written(path: &[u8]) -> bool
     ensures { result ≡ is_read_as_written path.now }
 {
     path.trim() == path && (!path.ends_with(b"$") || path.len() <= 1365)
 }
 
+/// A rule that may be compared otherwise here than by the standard.
 fn is_apart(body: &[u8]) -> bool
     ensures { result ≡ is_apart body.now }
 {
@@ -195,6 +204,7 @@ fn first_apart(bodies: &[&[u8]]) -> Option<usize>
     None
 }
 
+/// What is above the line after this one.
 fn next_above(above: Above, line: Line<'_>) -> Above
     ensures { result ≡ next_above above (by_value line.entry) }
 {
@@ -207,6 +217,7 @@ fn next_above(above: Above, line: Line<'_>) -> Above
     }
 }
 
+/// The number of the first rule below user-agent lines with delays between them.
 fn first_split(lines: &[Line<'_>]) -> Option<usize>
     ensures { result ≡ first_split Above.Rule 1 (map by_value lines.now) }
 {
@@ -220,6 +231,7 @@ fn first_split(lines: &[Line<'_>]) -> Option<usize>
     None
 }
 
+/// An Allow of everything, such as an empty Disallow.
 fn is_open(line: Line<'_>) -> bool
     ensures { result ≡ is_open (by_value line.entry) }
 {
@@ -240,6 +252,7 @@ fn is_any_open(lines: &[Line<'_>]) -> bool
     false
 }
 
+/// The pattern matches every path.
 #[tactic(auto, using(crate::proofs::ConformanceLemmas::all_escaped))]
 fn is_all(value: &str) -> bool
     ensures { result ≡ is_all (escaped value.now) }
@@ -247,6 +260,7 @@ fn is_all(value: &str) -> bool
     value == "/" || value == "*"
 }
 
+/// The line of the crawler's first Disallow of everything, if it has an Allow of everything too.
 fn first_mixed(site: &Site, agent: &str) -> Option<usize>
     ensures { result ≡ first_mixed (placed_rules agent.now (file_lines site.now)) }
 {
@@ -274,6 +288,7 @@ fn first_mixed_for(site: &Site, agents: &[&str]) -> Option<usize>
     None
 }
 
+/// That line for the first crawler that has one: `*`, then those that the file names.
 fn first_mixed_of(
     alloc: Global,
     site: &Site,
@@ -293,6 +308,7 @@ fn first_mixed_of(
     Ok(first_mixed_for(site, &site.agents(alloc)?))
 }
 
+/// The number of a line because of which a verdict may not be the standard's.
 #[tactic(auto, unfolding(crate::specs::Conformance::line_apart))]
 fn line_apart(alloc: Global, site: &Site, bodies: &[&[u8]]) -> Result<Option<usize>, AllocError>
     requires { map (λ body. body.now) bodies.now ≡ file_bodies site.now }
@@ -310,6 +326,7 @@ fn line_apart(alloc: Global, site: &Site, bodies: &[&[u8]]) -> Result<Option<usi
     first_mixed_of(alloc, site, &lines)
 }
 
+/// What a file is that `is_read_whole` holds of.
 fn by_lines(alloc: Global, site: &Site, bodies: &[&[u8]]) -> Result<Conformance, AllocError>
     requires { map (λ body. body.now) bodies.now ≡ file_bodies site.now }
     ensures { IfOk result (λ conformance. conformance
@@ -324,7 +341,7 @@ fn by_lines(alloc: Global, site: &Site, bodies: &[&[u8]]) -> Result<Conformance,
     }
 }
 
-/// What the file is; the site has been read from it.
+/// What the file is by RFC 9309; the site has been read from it.
 pub fn conformance_of(alloc: Global, file: &[u8], site: &Site) -> Result<Conformance, AllocError>
     requires { site.now ≡ take file_limit file.now }
     ensures { IfOk result (λ conformance. conformance ≡ conformance_of file.now) }

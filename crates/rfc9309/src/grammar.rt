@@ -1,16 +1,17 @@
 //! Whether a line is one of the extended grammar. The content of a line is its bytes without the terminator.
+//! The tests are explained in `specs/LineTest.antt`, where they have the same names.
 ghost use Rattle.std.specs.Prelude.{◌≡◌, ◌≤◌, ◌==◌, length, reverse};
 ghost use Rattle.std.specs.List.{list_all, list_any, position_or_len};
 ghost use Rattle.std.specs.Str.{is_utf8, str_eq_ignore_ascii_case};
 ghost use Rattle.rfc9309.specs.Conformance.{is_line_below};
-ghost use Rattle.rfc9309.specs.HasForm.{are_some, has_byte, has_form, is_blank, is_comment_byte, lower};
-ghost use Rattle.rfc9309.specs.HasForm.{is_comment_text, is_digit, is_identifier_byte, is_keyed};
-ghost use Rattle.rfc9309.specs.HasForm.{is_number, is_other_name, is_pattern, is_product_token};
-ghost use Rattle.rfc9309.specs.HasForm.{is_value_byte, is_value_text, stripped, text_after, text_before};
-ghost use Rattle.rfc9309.specs.HasForm.{text_from, value_in, trim_blanks_start};
+ghost use Rattle.rfc9309.specs.LineTest.{are_some, has_byte, has_form, is_blank, is_comment_byte, lower};
+ghost use Rattle.rfc9309.specs.LineTest.{is_comment_text, is_digit, is_identifier_byte, is_keyed};
+ghost use Rattle.rfc9309.specs.LineTest.{is_number, is_other_name, is_pattern, is_product_token};
+ghost use Rattle.rfc9309.specs.LineTest.{is_value_byte, is_value_text, stripped, text_after, text_before};
+ghost use Rattle.rfc9309.specs.LineTest.{text_from, value_in, trim_blanks_start};
 ghost use Rattle.rfc9309.specs.LineForms.{Agent, Delay, Empty, Other, Rule, Sitemap};
 
-/// The field names that are recognized.
+/// The field names that this library recognizes. Lines with others are ignored.
 const NAMES: &[&str] = &[
     "user-agent",
     "useragent",
@@ -27,6 +28,7 @@ const NAMES: &[&str] = &[
     "crawldelay",
 ];
 
+/// The index of the first `stop`, or the length of the text.
 fn place(stop: u8, text: &[u8]) -> usize
     ensures value { result ≡ position_or_len (λ b. b == stop) text.now }
     ensures within { result ≤ length text.now }
@@ -34,6 +36,7 @@ fn place(stop: u8, text: &[u8]) -> usize
     text.iter().take_while(|byte| !(**byte == stop)).count()
 }
 
+/// The bytes before the first `stop`, or all of them.
 #[tactic(auto, using(crate::proofs::ConformanceLemmas::before_place))]
 fn before<'a>(stop: u8, text: &'a [u8]) -> &'a [u8]
     ensures { result.now ≡ text_before stop text.now }
@@ -41,12 +44,14 @@ fn before<'a>(stop: u8, text: &'a [u8]) -> &'a [u8]
     &text[..place(stop, text)]
 }
 
+/// The first `stop` and the bytes after it, or nothing.
 fn from<'a>(stop: u8, text: &'a [u8]) -> &'a [u8]
     ensures { result.now ≡ text_from stop text.now }
 {
     &text[place(stop, text)..]
 }
 
+/// The bytes after the first `stop`, or nothing.
 fn after<'a>(stop: u8, text: &'a [u8]) -> &'a [u8]
     ensures { result.now ≡ text_after stop text.now }
 {
@@ -89,7 +94,7 @@ fn stripped<'a>(text: &'a [u8]) -> &'a [u8]
     trim_blanks_end(trim_blanks_start(text))
 }
 
-/// The value, between the colon and a comment.
+/// The value of a line, between the first colon and a comment, without spaces and tabs around it.
 pub(crate) fn value_in<'a>(body: &'a [u8]) -> &'a [u8]
     ensures { result.now ≡ value_in body.now }
 {
@@ -111,6 +116,7 @@ fn are_comment_bytes(text: &[u8]) -> bool
     text.iter().all(|byte| *byte >= b' ' || *byte == b'\t')
 }
 
+/// The text may come after the `#` of a comment.
 fn is_comment(text: &[u8]) -> bool
     ensures { result ≡ is_comment_text text.now }
 {
@@ -123,6 +129,7 @@ fn are_value_bytes(text: &[u8]) -> bool
     text.iter().all(|byte| *byte > b' ' && *byte != b'#')
 }
 
+/// UTF-8 without spaces, control characters other than DEL, and `#`.
 fn is_value(text: &[u8]) -> bool
     ensures { result ≡ is_value_text text.now }
 {
@@ -175,6 +182,7 @@ fn is_pattern(value: &[u8]) -> bool
     }
 }
 
+/// Digits, or digits around a point.
 fn is_number(value: &[u8]) -> bool
     ensures { result ≡ is_number value.now }
 {
@@ -190,12 +198,14 @@ fn is_any_of(names: &[&str], name: &[u8]) -> bool
         .any(|known| name.eq_ignore_ascii_case(known.as_bytes()))
 }
 
+/// An identifier that isn't a field name which this library recognizes.
 fn is_other_name(name: &[u8]) -> bool
     ensures { result ≡ is_other_name name.now }
 {
     is_identifier(name) && !is_any_of(NAMES, name)
 }
 
+/// The line's field name is `word`, in lower or upper case, and its comment, if it has one, is allowed.
 fn is_keyed(word: &str, body: &[u8]) -> bool
     requires { lower word.now ≡ word.now }
     ensures { result ≡ is_keyed word.now body.now }
@@ -241,7 +251,8 @@ fn is_other_line(body: &[u8]) -> bool
     has(b':', body) && is_other_name(stripped(before(b':', body))) && is_comment(after(b':', body))
 }
 
-/// A line other than a user-agent line; `below`: a user-agent line is above it.
+/// A line of the grammar other than a user-agent line; `below`: a user-agent line is above it, so it may be a
+/// rule.
 #[tactic(auto, unfolding(crate::specs::Conformance::is_line_below))]
 pub(crate) fn is_line_below(below: bool, body: &[u8]) -> bool
     ensures { result ≡ is_line_below below body.now }

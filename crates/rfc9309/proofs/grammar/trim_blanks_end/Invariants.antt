@@ -1,5 +1,5 @@
 use Rattle.std.proofs.Common.{◌≡◌, length, reverse}
-use Rattle.rfc9309.specs.HasForm.{trim_blanks_start}
+use Rattle.rfc9309.specs.LineTest.{trim_blanks_start}
 use Rattle.rfc9309.proofs.grammar.trim_blanks_end.Given as goal
 
 abbrev pub invariant-loop-rest : goal.invariant-loop-rest
