@@ -6,16 +6,17 @@ use Rattle.std.specs.{Char.encode_utf8, Str.IsUtf8, Str.encode_utf8_all, Str.is_
 use Rattle.std.proofs.lemmas.List.Folds.{list_all-append, list_any-from_Any}
 use Rattle.std.proofs.lemmas.Bool.{Decides.nat_tests, and_parts, cases_lt, le-ltb, lt-ltb, cases_Bool}
 use Rattle.std.proofs.lemmas.Bool.{eqb-true, not-true, or_cases}
-use Rattle.std.proofs.{lemmas.List.drop_all, Common.append_assoc, lemmas.Slice.Eq.bytes_eq-Decides}
+use Rattle.std.proofs.Common.{append_assoc, reverse}
+use Rattle.std.proofs.lemmas.{List.drop_all, List.reverse-append, List.reverse-reverse, Slice.Eq.bytes_eq-Decides}
 use Rattle.std.proofs.lemmas.Str.{IsUtf8-append, IsUtf8-encode, IsUtf8-nil, IsUtf8-from_is_utf8, encode_ascii}
 use Rattle.bstr.specs.Utf8.{code_of_2, code_of_3, code_of_4, continues, decoded, good, second}
 use Rattle.bstr.proofs.lemmas.PieceLemmas.{value-1, value-6, value-9, value-12}
 use Rattle.rfc9309.proofs.{SyntaxLemmas.many, SyntaxLemmas.passing, ValueLemmas.identifier_byte}
+use Rattle.safe_output.specs.Bytes.{has, is_blank, trim_blanks, trim_blanks_end, trim_blanks_start}
 use Rattle.rfc9309.specs.LineTest.{is_comment_byte, is_comment_text, is_value_byte, is_value_text, colon}
-use Rattle.rfc9309.specs.LineTest.{are_some, has_byte, has_form, hash, is_blank, is_digit, is_keyed}
-use Rattle.rfc9309.specs.LineTest.{is_identifier_byte, is_number, is_pattern, is_product_token, lower}
-use Rattle.rfc9309.specs.LineTest.{kept_before, name_in, stripped, text_after, text_before, text_from}
-use Rattle.rfc9309.specs.LineTest.{value_in, trim_blanks_start, trim_blanks_end}
+use Rattle.rfc9309.specs.LineTest.{are_some, has_form, hash, is_digit, is_keyed, is_identifier_byte}
+use Rattle.rfc9309.specs.LineTest.{is_number, is_pattern, is_product_token, lower, name_in, text_after}
+use Rattle.rfc9309.specs.LineTest.{text_before, text_from, value_in}
 use Rattle.bstr.proofs.{lemmas.SoundLemmas.SpellsChar-decoded}
 use Rattle.texting_robots.proofs.Shared.{each_append}
 use Rattle.rfc9309.specs.LineForms.{Form, IsFormOf, Empty, Agent, Rule, Delay, Sitemap, Other}
@@ -153,7 +154,7 @@ begins : (stop : ℕ) (text : List ℕ)
 begins stop [] = inl refl
 begins stop (b ∷ text) = grind (arith, nat_tests, begins stop text)
 
-found : (stop : ℕ) (text : List ℕ) → has_byte stop text ≡ true
+found : (stop : ℕ) (text : List ℕ) → has stop text ≡ true
     → text_from stop text ≡ stop ∷ text_after stop text
 found stop [] is = cc
 found stop (b ∷ text) is = grind (arith, nat_tests, found stop text)
@@ -164,17 +165,6 @@ blank b is = grind (arith, nat_tests)
 abbrev IsBefore : (kept text : List ℕ) → Type 0
 IsBefore kept text = (back : List ℕ) × Each rfc.IsWs back × (text ≡ kept ++ back)
 
-kept : (b : ℕ) (some text : List ℕ) → IsBefore some text → IsBefore (kept_before b some) (b ∷ text)
-kept b [] text (back, all, same) = elim (cases_Bool (is_blank b)) [
-  | inl white ↦ rw white (b ∷ text, (blank b white, subst (Each rfc.IsWs) (sym same) all), refl)
-  | inr solid ↦ rw solid (back, all, ap (λ t. b ∷ t) same)
-]
-kept b (c ∷ some) text (back, all, same) = (back, all, ap (λ t. b ∷ t) same)
-
-trailing : (text : List ℕ) → IsBefore (trim_blanks_end text) text
-trailing [] = ([], tt, refl)
-trailing (b ∷ text) = kept b (trim_blanks_end text) text (trailing text)
-
 pub leading : (text : List ℕ)
     → (front : List ℕ) × Each rfc.IsWs front × (text ≡ front ++ trim_blanks_start text)
 leading [] = ([], tt, refl)
@@ -184,10 +174,24 @@ leading (b ∷ text) = elim (cases_Bool (is_blank b)) [
   | inr solid ↦ rw solid (([], tt, refl))
 ]
 
+pub each_reversed : (P : ℕ → Type 0) (text : List ℕ) → Each P text → Each P (reverse text)
+each_reversed P [] all = all
+each_reversed P (b ∷ text) all =
+    subst (Each P) (sym (reverse-append (b ∷ []) text))
+    (each_append P (reverse text) (b ∷ []) (each_reversed P text all.1) (all.0, tt))
+
+trailing : (text : List ℕ) → IsBefore (trim_blanks_end text) text
+trailing text =
+    let (front, all, whole) = leading (reverse text) in (
+      reverse front,
+      each_reversed rfc.IsWs front all,
+      sym (reverse-reverse text) ∙ ap reverse whole ∙ reverse-append front (trim_blanks_start (reverse text)),
+    )
+
 record IsAround (text : List ℕ) : Type 0 where
   front : List ℕ
   back : List ℕ
-  whole : text ≡ front ++ (stripped text ++ back)
+  whole : text ≡ front ++ (trim_blanks text ++ back)
   front_blank : Each rfc.IsWs front
   back_blank : Each rfc.IsWs back
 
@@ -203,7 +207,7 @@ around text =
       back_blank = after;
     }
 
-named : (body : List ℕ) → has_byte colon body ≡ true → body ≡ (around (text_before colon body)).front
+named : (body : List ℕ) → has colon body ≡ true → body ≡ (around (text_before colon body)).front
     ++ (name_in body ++ ((around (text_before colon body)).back ++ colon ∷ text_after colon body))
 named body has = grind (arith, append_assoc, around, found, split)
 

@@ -3,6 +3,7 @@
 use Rattle.std.specs.Prelude.{ℕ, ◌==◌, ◌&&◌, ◌||◌, not, nat_le, nat_lt, Bool, true, false, List, [], ◌∷◌}
 use Rattle.std.specs.Prelude.{bytes_eq, codes, drop, if◌then◌else◌, map}
 use Rattle.std.specs.{Char.to_ascii_lowercase, List.list_all, List.list_any, Str.is_utf8}
+use Rattle.safe_output.specs.Bytes.{has, is_blank, trim_blanks}
 use Rattle.rfc9309.specs.LineForms.{Form, Empty, Agent, Rule, Delay, Sitemap, Other}
 use Rattle.rfc9309.specs.Rfc9309 as rfc
 
@@ -11,10 +12,6 @@ hash = 0x23
 
 abbrev pub colon : ℕ
 colon = 0x3A
-
--- a space or a tab
-abbrev pub is_blank : ℕ → Bool
-is_blank b = b == 0x20 || b == 0x09
 
 -- a tab, or not a control character of ASCII, apart from DEL
 abbrev pub is_comment_byte : ℕ → Bool
@@ -59,35 +56,13 @@ text_from stop (b ∷ text) = if b == stop then b ∷ text else text_from stop t
 abbrev pub text_after : ℕ → List ℕ → List ℕ
 text_after stop text = drop 1 (text_from stop text)
 
-abbrev pub has_byte : ℕ → List ℕ → Bool
-has_byte stop text = list_any (λ b. b == stop) text
-
--- without spaces and tabs at the start
-abbrev pub trim_blanks_start : List ℕ → List ℕ
-trim_blanks_start [] = []
-trim_blanks_start (b ∷ text) = if is_blank b then trim_blanks_start text else b ∷ text
-
--- a byte before text that is trimmed at its end; a blank before nothing is dropped, too
-abbrev pub kept_before : ℕ → List ℕ → List ℕ
-kept_before b [] = if is_blank b then [] else b ∷ []
-kept_before b (c ∷ text) = b ∷ c ∷ text
-
--- without spaces and tabs at the end
-abbrev pub trim_blanks_end : List ℕ → List ℕ
-trim_blanks_end [] = []
-trim_blanks_end (b ∷ text) = kept_before b (trim_blanks_end text)
-
--- without spaces and tabs at both ends
-abbrev pub stripped : List ℕ → List ℕ
-stripped text = trim_blanks_end (trim_blanks_start text)
-
 -- the field name, before the first colon
 abbrev pub name_in : List ℕ → List ℕ
-name_in body = stripped (text_before colon body)
+name_in body = trim_blanks (text_before colon body)
 
 -- the value, between the colon and a comment
 abbrev pub value_in : List ℕ → List ℕ
-value_in body = stripped (text_before hash (text_after colon body))
+value_in body = trim_blanks (text_before hash (text_after colon body))
 
 -- with ASCII letters in lower case
 abbrev pub lower : List ℕ → List ℕ
@@ -96,7 +71,7 @@ lower text = map to_ascii_lowercase text
 -- a colon after this field name, and only what is allowed in a comment, if there is one
 abbrev pub is_keyed : List ℕ → List ℕ → Bool
 is_keyed word body =
-    (has_byte colon body && bytes_eq (lower (name_in body)) word)
+    (has colon body && bytes_eq (lower (name_in body)) word)
     && is_comment_text (text_after hash (text_after colon body))
 
 -- an identifier, or `*`
@@ -112,7 +87,7 @@ is_pattern (b ∷ text) = (b == 0x2F || b == 0x2A) && is_value_text text
 abbrev pub is_number : List ℕ → Bool
 is_number value =
     are_some is_digit value
-    || (has_byte 0x2E value && (are_some is_digit (text_before 0x2E value)
+    || (has 0x2E value && (are_some is_digit (text_before 0x2E value)
     && are_some is_digit (text_after 0x2E value)))
 
 -- an identifier that isn't a field name which this library recognizes
@@ -128,4 +103,4 @@ has_form Rule body =
 has_form Delay body = is_keyed (codes "crawl-delay") body && is_number (value_in body)
 has_form Sitemap body = is_keyed (codes "sitemap") body && is_value_text (value_in body)
 has_form Other body =
-    (has_byte colon body && is_other_name (name_in body)) && is_comment_text (text_after colon body)
+    (has colon body && is_other_name (name_in body)) && is_comment_text (text_after colon body)

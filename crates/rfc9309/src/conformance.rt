@@ -1,16 +1,15 @@
 //! Whether a file is in the extended grammar, and whether verdicts on it, for paths and queries in normal
 //! form, are those of the standard, if reserved octets stay; if not, because of which line. The tests are
 //! explained in `specs/Conformance.antt` and `Comparable.antt`, where they have the same names.
-ghost use Rattle.std.specs.Prelude.{◌≡◌, ◌↔◌, ◌<◌, ◌≤◌, ◌==◌, ◌∷◌, ℕ, Bool, Contains, IfOk, List, codes, map};
-ghost use Rattle.std.specs.Prelude.{false, length, take, true};
+ghost use Rattle.std.specs.Prelude.{◌≡◌, ◌↔◌, ◌≤◌, ◌∷◌, ℕ, Bool, Contains, IfOk, List, codes, false, length};
+ghost use Rattle.std.specs.Prelude.{map, take, true};
 ghost use Rattle.texting_robots.specs.Callers.{IsFileRejected, IsRobotOfFile, IsVerdict, RobotValue, escaped};
 ghost use Rattle.texting_robots.specs.Callers.{agents_in, lines_read, unplaced, by_value, file_bodies};
 ghost use Rattle.texting_robots.specs.Callers.{file_limit, file_lines, placed_rules};
-ghost use Rattle.rfc9309.specs.Matching.{IsRfcVerdict, all_stay, normal_uri, octets, has_dollar};
-ghost use Rattle.rfc9309.specs.Matching.{is_unreserved};
+ghost use Rattle.rfc9309.specs.Matching.{IsRfcVerdict, all_stay, normal_uri, octets};
 ghost use Rattle.rfc9309.specs.Rfc9309.{standard_rules, Group, IsFile};
-ghost use Rattle.std.specs.{Char.digit_value, Char.is_ascii_hexdigit, List.list_any, List.position_from};
-ghost use Rattle.rfc9309.specs.Comparable.{begins_odd_escape, has_odd_escape};
+ghost use Rattle.std.specs.{List.list_any, List.position_from};
+ghost use Rattle.rfc9309.specs.Comparable.{begins_odd_escape};
 ghost use Rattle.rfc9309.specs.Conformance.{by_lines, conformance_of, first_mixed, first_mixed_for};
 ghost use Rattle.rfc9309.specs.Conformance.{first_other, front_of, line_apart, first_split, has_syntax};
 ghost use Rattle.rfc9309.specs.Conformance.{has_mark_or_none, has_verdicts, is_all, is_apart};
@@ -19,6 +18,7 @@ ghost use Rattle.rfc9309.specs.Conformance.{is_open, is_read_whole};
 
 use crate::grammar::{is_agent_line, is_line_below, is_rule_line, value_in};
 use bstr::ByteSlice;
+use safe_output::bytes::{has, hex_value, needs_no_escape, somewhere};
 use std::alloc::{AllocError, Global};
 use texting_robots::Site;
 use texting_robots::parser::{Line, file_bodies, file_lines};
@@ -85,23 +85,11 @@ fn has_mark_or_none(text: &[u8]) -> bool
     text.starts_with(b"\xEF\xBB\xBF") || !matches!(text, [0xEF | 0xBB | 0xBF, ..])
 }
 
-fn has_nul(text: &[u8]) -> bool
-    ensures { result ≡ list_any (λ b. b == 0) text.now }
-{
-    text.iter().any(|byte| *byte == 0)
-}
-
 /// All of the file is read, it has no NUL, and its byte order mark is complete.
 fn is_read_whole(file: &[u8]) -> bool
     ensures { result ≡ is_read_whole file.now }
 {
-    file.len() <= FILE_LIMIT && !has_nul(file) && has_mark_or_none(file)
-}
-
-fn needs_no_escape(byte: u8) -> bool
-    ensures { result ≡ is_unreserved byte }
-{
-    byte.is_ascii_alphanumeric() || matches!(byte, b'-' | b'.' | b'_' | b'~')
+    file.len() <= FILE_LIMIT && !has(0, file) && has_mark_or_none(file)
 }
 
 /// The text begins with an escape that isn't in normal form.
@@ -118,43 +106,12 @@ fn begins_odd_escape(text: &[u8]) -> bool
     }
 }
 
-fn hex_value(digit: u8) -> u8
-    requires { is_ascii_hexdigit digit ≡ true }
-    ensures value { result ≡ digit_value digit }
-    ensures bound { result < 16 }
-{
-    match digit {
-        b'0'..=b'9' => digit - b'0',
-        b'A'..=b'F' => digit - b'A' + 10,
-        _ => digit - b'a' + 10,
-    }
-}
-
-fn has_odd_escape(path: &[u8]) -> bool
-    ensures { result ≡ has_odd_escape path.now }
-{
-    let mut rest = path;
-    while let [_, later @ ..] = rest {
-        if begins_odd_escape(rest) {
-            return true;
-        }
-        rest = later;
-    }
-    false
-}
-
 /// Some octet is percent-encoded in the normal form, but not by this library.
 fn has_odd_octet(path: &[u8]) -> bool
     ensures { result ≡ list_any is_odd_octet path.now }
 {
     path.iter()
         .any(|byte| matches!(*byte, b'\\' | b'^' | b'{' | b'|' | b'}'))
-}
-
-fn has_dollar(text: &[u8]) -> bool
-    ensures { result ≡ has_dollar text.now }
-{
-    text.iter().any(|byte| *byte == b'$')
 }
 
 /// The path without the `$` at its end, if it has one.
@@ -172,7 +129,7 @@ fn is_plain_path(path: &[u8]) -> bool
     ensures { result ≡ is_plain_path path.now }
 {
     let front = front_of(path);
-    !has_odd_octet(front) && !has_odd_escape(front) && !has_dollar(front)
+    !has_odd_octet(front) && !somewhere(front, begins_odd_escape) && !has(b'$', front)
 }
 
 /// No white space is trimmed, and the rule isn't too long when escaped.

@@ -1,15 +1,16 @@
 //! Whether a line is one of the extended grammar. The content of a line is its bytes without the terminator.
 //! The tests are explained in `specs/LineTest.antt`, where they have the same names.
-ghost use Rattle.std.specs.Prelude.{◌≡◌, ◌≤◌, ◌==◌, length, reverse};
-ghost use Rattle.std.specs.List.{list_all, list_any, position_or_len};
-ghost use Rattle.std.specs.Str.{is_utf8, str_eq_ignore_ascii_case};
+ghost use Rattle.std.specs.Prelude.{◌≡◌};
+ghost use Rattle.std.specs.{List.list_all, List.list_any, Str.str_eq_ignore_ascii_case};
+ghost use Rattle.safe_output.specs.Bytes.{is_blank};
 ghost use Rattle.rfc9309.specs.Conformance.{is_line_below};
-ghost use Rattle.rfc9309.specs.LineTest.{are_some, has_byte, has_form, is_blank, is_comment_byte, lower};
-ghost use Rattle.rfc9309.specs.LineTest.{is_comment_text, is_digit, is_identifier_byte, is_keyed};
-ghost use Rattle.rfc9309.specs.LineTest.{is_number, is_other_name, is_pattern, is_product_token};
-ghost use Rattle.rfc9309.specs.LineTest.{is_value_byte, is_value_text, stripped, text_after, text_before};
-ghost use Rattle.rfc9309.specs.LineTest.{text_from, value_in, trim_blanks_start};
+ghost use Rattle.rfc9309.specs.LineTest.{are_some, has_form, is_comment_byte, is_comment_text, is_digit};
+ghost use Rattle.rfc9309.specs.LineTest.{is_identifier_byte, is_keyed, is_number, is_other_name, is_pattern};
+ghost use Rattle.rfc9309.specs.LineTest.{is_product_token, is_value_byte, is_value_text, lower, text_after};
+ghost use Rattle.rfc9309.specs.LineTest.{text_before, text_from, value_in};
 ghost use Rattle.rfc9309.specs.LineForms.{Agent, Delay, Empty, Other, Rule, Sitemap};
+
+use safe_output::bytes::{has, is_utf8, place, trim_blanks};
 
 /// The field names that this library recognizes. Lines with others are ignored.
 const NAMES: &[&str] = &[
@@ -27,14 +28,6 @@ const NAMES: &[&str] = &[
     "crawl-delay",
     "crawldelay",
 ];
-
-/// The index of the first `stop`, or the length of the text.
-fn place(stop: u8, text: &[u8]) -> usize
-    ensures value { result ≡ position_or_len (λ b. b == stop) text.now }
-    ensures within { result ≤ length text.now }
-{
-    text.iter().take_while(|byte| !(**byte == stop)).count()
-}
 
 /// The bytes before the first `stop`, or all of them.
 #[tactic(auto, using(crate::proofs::ConformanceLemmas::before_place))]
@@ -61,53 +54,11 @@ fn after<'a>(stop: u8, text: &'a [u8]) -> &'a [u8]
     }
 }
 
-fn has(stop: u8, text: &[u8]) -> bool
-    ensures { result ≡ has_byte stop text.now }
-{
-    text.iter().any(|byte| *byte == stop)
-}
-
-fn trim_blanks_start<'a>(text: &'a [u8]) -> &'a [u8]
-    ensures { result.now ≡ trim_blanks_start text.now }
-{
-    let mut rest = text;
-    while let [b' ' | b'\t', later @ ..] = rest {
-        rest = later;
-    }
-    rest
-}
-
-fn trim_blanks_end<'a>(text: &'a [u8]) -> &'a [u8]
-    ensures { result.now ≡ reverse (trim_blanks_start (reverse text.now)) }
-{
-    let mut rest = text;
-    while let [before @ .., b' ' | b'\t'] = rest {
-        rest = before;
-    }
-    rest
-}
-
-#[tactic(auto, using(crate::proofs::ConformanceLemmas::trailing_reversed))]
-fn stripped<'a>(text: &'a [u8]) -> &'a [u8]
-    ensures { result.now ≡ stripped text.now }
-{
-    trim_blanks_end(trim_blanks_start(text))
-}
-
 /// The value of a line, between the first colon and a comment, without spaces and tabs around it.
 pub(crate) fn value_in<'a>(body: &'a [u8]) -> &'a [u8]
     ensures { result.now ≡ value_in body.now }
 {
-    stripped(before(b'#', after(b':', body)))
-}
-
-fn is_utf8(text: &[u8]) -> bool
-    ensures { result ≡ is_utf8 text.now }
-{
-    match std::str::from_utf8(text) {
-        Ok(_) => true,
-        Err(_) => false,
-    }
+    trim_blanks(before(b'#', after(b':', body)))
 }
 
 fn are_comment_bytes(text: &[u8]) -> bool
@@ -211,7 +162,7 @@ fn is_keyed(word: &str, body: &[u8]) -> bool
     ensures { result ≡ is_keyed word.now body.now }
 {
     has(b':', body)
-        && stripped(before(b':', body)).eq_ignore_ascii_case(word.as_bytes())
+        && trim_blanks(before(b':', body)).eq_ignore_ascii_case(word.as_bytes())
         && is_comment(after(b'#', after(b':', body)))
 }
 
@@ -248,7 +199,9 @@ fn is_sitemap_line(body: &[u8]) -> bool
 fn is_other_line(body: &[u8]) -> bool
     ensures { result ≡ has_form Other body.now }
 {
-    has(b':', body) && is_other_name(stripped(before(b':', body))) && is_comment(after(b':', body))
+    has(b':', body)
+        && is_other_name(trim_blanks(before(b':', body)))
+        && is_comment(after(b':', body))
 }
 
 /// A line of the grammar other than a user-agent line; `below`: a user-agent line is above it, so it may be a

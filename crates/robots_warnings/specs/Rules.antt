@@ -1,8 +1,7 @@
 -- Conditions on the value of an Allow or a Disallow line.
-use Rattle.std.specs.Prelude.{[], ℕ, ◌+◌, ◌-◌, ◌*◌, ◌==◌, Bool, false, not, ◌||◌, ◌&&◌, List, ◌∷◌, codes}
-use Rattle.std.specs.Prelude.{if◌then◌else◌, slice_index}
-use Rattle.std.specs.List.{after_first, before_first, list_any}
-use Rattle.std.specs.{Char.is_ascii_alphanumeric, Char.is_ascii_hexdigit, Str.byte}
+use Rattle.std.specs.Prelude.{[], ℕ, ◌==◌, Bool, false, not, ◌||◌, ◌&&◌, List, ◌∷◌, codes, slice_index}
+use Rattle.safe_output.specs.Bytes.{after_byte, has}
+use Rattle.std.specs.{List.list_any, Char.is_ascii_hexdigit, Str.byte}
 
 -- not empty, and without a slash or a star at its start
 abbrev pub begins_oddly : List ℕ → Bool
