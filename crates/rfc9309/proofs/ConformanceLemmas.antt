@@ -1,33 +1,12 @@
 -- The tests of lines, as the code makes them.
 use Rattle.std.proofs.Common.{◌≡◌, ℕ, ◌+◌, ◌-◌, ◌==◌, Bool, true, false, List, [], ◌∷◌}
-use Rattle.std.proofs.Common.{None, arith, bytes_eq, drop, filter, length, refl, suc, take}
-use Rattle.std.specs.List.{cons_option, enumerate_from, filter_map, list_any, position_or_len}
-use Rattle.std.proofs.lemmas.{Bool.Decides.nat_tests, Bool.cases_Bool, Bool.or_parts, List.length-drop}
-use Rattle.std.proofs.{lemmas.List.take_all}
+use Rattle.std.proofs.Common.{None, arith, bytes_eq, filter, refl}
+use Rattle.std.specs.List.{cons_option, enumerate_from, filter_map, list_any}
+use Rattle.std.proofs.lemmas.{Bool.Decides.nat_tests, Bool.cases_Bool, Bool.or_parts}
 use Rattle.texting_robots.specs.Callers.{LineValue, PlacedRule}
 use Rattle.texting_robots.specs.{Escape.escaped, Escape.is_escaped}
 use Rattle.texting_robots.specs.Executable.{placed_in}
-use Rattle.rfc9309.specs.LineTest.{text_before, text_from}
 use Rattle.rfc9309.specs.Conformance.{allows_all, first_mixed_for, is_all, is_open}
-
-module _ (stop : ℕ) where
-  abbrev place : List ℕ → ℕ
-  place text = position_or_len (λ b. b == stop) text
-
-  next_place : (text : List ℕ) → 1 + place text ≡ suc (place text)
-  next_place text = omega arith
-
-  pub before_place : (text : List ℕ) → text_before stop text ≡ take (place text) text
-  before_place [] = refl
-  before_place (b ∷ text) = grind (arith, cases_Bool, next_place, before_place text)
-
-  pub from_place : (text : List ℕ) → text_from stop text ≡ drop (place text) text
-  from_place [] = refl
-  from_place (b ∷ text) = grind (arith, cases_Bool, next_place, from_place text)
-
-  pub from_whole : (text : List ℕ)
-      → take (length text - place text) (drop (place text) text) ≡ text_from stop text
-  from_whole text = grind (arith, from_place, length-drop, take_all)
 
 none_escaped : (text : List ℕ) → bytes_eq (escaped text) [] ≡ bytes_eq text []
 none_escaped [] = refl

@@ -12,14 +12,15 @@ use Rattle.texting_robots.specs.Statement.{IsBlank, IsStatement, field_names}
 use Rattle.texting_robots.specs.{Line.LineValue, Trim.IsTrimOf, declared.parser.statement.Kind.Kind}
 use Rattle.texting_robots.specs.{Internal.Statement.IsOptionalComment, Internal.Line.line_with}
 use Rattle.texting_robots.proofs.Shared.{each_append, blanks_skipped, same_trim, line_stated, statement_found}
-use Rattle.rfc9309.proofs.HasFormLemmas.{IsCharByte, IsCharText, char_text, each_reversed, blank}
+use Rattle.rfc9309.proofs.HasFormLemmas.{IsCharByte, IsCharText, char_text, each_reversed, blank, next_place}
 use Rattle.rfc9309.proofs.ValueLemmas.{blank_no_letter, identifier_bounds, blanks_after, identifier}
 use Rattle.rfc9309.proofs.Sources.{IsRead, Source, is_not_raw, source_of, written}
 use Rattle.rfc9309.proofs.SyntaxLemmas.{each_weaker, many}
 use Rattle.rfc9309.proofs.ReadLemmas.{BeginsLow, IsBare}
-use Rattle.safe_output.specs.Bytes.{has, is_blank, trim_blanks, trim_blanks_end, trim_blanks_start}
+use Rattle.safe_output.specs.Bytes.{after_byte, before_byte, from_byte, has, is_blank, trim_blanks}
+use Rattle.safe_output.specs.Bytes.{trim_blanks_end, trim_blanks_start}
 use Rattle.rfc9309.specs.LineTest.{colon, hash, is_comment_byte, is_comment_text, is_value_byte, is_value_text}
-use Rattle.rfc9309.specs.LineTest.{name_in, has_form, text_after, text_before, text_from, value_in}
+use Rattle.rfc9309.specs.LineTest.{name_in, has_form, value_in}
 use Rattle.rfc9309.specs.LineTest.{is_identifier_byte, is_keyed, is_number, is_pattern, is_product_token}
 use Rattle.rfc9309.specs.LineForms.{Form, Agent, Delay, Rule, Sitemap}
 use Rattle.std.specs.{Str.IsUtf8}
@@ -57,13 +58,13 @@ passes P test is [] all = refl
 passes P test is (b ∷ text) all = and_from _ _ (is b all.0) (passes P _ is text all.1)
 
 pub record ArePartsAt (stop : ℕ) (front rest text : List ℕ) : Type 0 where
-  pub before : text_before stop text ≡ front
-  pub from : text_from stop text ≡ rest
+  pub before : before_byte stop text ≡ front
+  pub from : from_byte stop text ≡ rest
 
 parts : (stop : ℕ) (front rest : List ℕ) → Each (λ b. b ≢ stop) front
     → ArePartsAt stop [] rest rest → ArePartsAt stop front rest (front ++ rest)
 parts stop [] rest all is = is
-parts stop (b ∷ front) rest all is = grind (arith, ne_eqb, parts stop front rest all.1 is)
+parts stop (b ∷ front) rest all is = grind (arith, ne_eqb, next_place, parts stop front rest all.1 is)
 
 pub parts_at : (stop : ℕ) (front rest : List ℕ) → Each (λ b. b ≢ stop) front
     → ArePartsAt stop front (stop ∷ rest) (front ++ stop ∷ rest)
@@ -127,7 +128,7 @@ name_letters (b ∷ key) (c ∷ word) e all = grind (arith, name_letter, name_le
 pub record IsNamed (key rest body : List ℕ) : Type 0 where
   pub has : has colon body ≡ true
   pub name : name_in body ≡ key
-  pub after : text_after colon body ≡ rest
+  pub after : after_byte colon body ≡ rest
   pub low : BeginsLow body
   pub bare : Each IsBare rest → Each IsBare body
 
@@ -276,7 +277,7 @@ module _ (kind : Kind) (value read text : List ℕ) (line : rfc.IsKeyed (word_of
   comment : IsRemark eol.comment
   comment = remark eol.comment eol.is_comment
 
-  at_hash : ArePartsAt hash region eol.comment (text_after colon body)
+  at_hash : ArePartsAt hash region eol.comment (after_byte colon body)
   at_hash = rw named_key.after (parts_comment _ _ no_hash comment.is)
 
   value_is : value_in body ≡ value

@@ -1,9 +1,9 @@
 -- The form of a line as a test of its content: a content that passes `has_form` has the form (`HasForm`); one
 -- with the form passes, unless it contains a line terminator.
 use Rattle.std.specs.Prelude.{ℕ, ◌==◌, ◌&&◌, ◌||◌, not, nat_le, nat_lt, Bool, true, false, List, [], ◌∷◌}
-use Rattle.std.specs.Prelude.{bytes_eq, codes, drop, if◌then◌else◌, map}
+use Rattle.std.specs.Prelude.{bytes_eq, codes, map}
 use Rattle.std.specs.{Char.to_ascii_lowercase, List.list_all, List.list_any, Str.is_utf8}
-use Rattle.safe_output.specs.Bytes.{has, is_blank, trim_blanks}
+use Rattle.safe_output.specs.Bytes.{after_byte, before_byte, has, is_blank, trim_blanks}
 use Rattle.rfc9309.specs.LineForms.{Form, Empty, Agent, Rule, Delay, Sitemap, Other}
 use Rattle.rfc9309.specs.Rfc9309 as rfc
 
@@ -42,27 +42,13 @@ abbrev pub are_some : (ℕ → Bool) → List ℕ → Bool
 are_some test [] = false
 are_some test (b ∷ text) = list_all test (b ∷ text)
 
--- the bytes before the first `stop`; all if there is none
-abbrev pub text_before : ℕ → List ℕ → List ℕ
-text_before stop [] = []
-text_before stop (b ∷ text) = if b == stop then [] else b ∷ text_before stop text
-
--- the first `stop` and the bytes after it; nothing if there is none
-abbrev pub text_from : ℕ → List ℕ → List ℕ
-text_from stop [] = []
-text_from stop (b ∷ text) = if b == stop then b ∷ text else text_from stop text
-
--- the bytes after the first `stop`; nothing if there is none
-abbrev pub text_after : ℕ → List ℕ → List ℕ
-text_after stop text = drop 1 (text_from stop text)
-
 -- the field name, before the first colon
 abbrev pub name_in : List ℕ → List ℕ
-name_in body = trim_blanks (text_before colon body)
+name_in body = trim_blanks (before_byte colon body)
 
 -- the value, between the colon and a comment
 abbrev pub value_in : List ℕ → List ℕ
-value_in body = trim_blanks (text_before hash (text_after colon body))
+value_in body = trim_blanks (before_byte hash (after_byte colon body))
 
 -- with ASCII letters in lower case
 abbrev pub lower : List ℕ → List ℕ
@@ -72,7 +58,7 @@ lower text = map to_ascii_lowercase text
 abbrev pub is_keyed : List ℕ → List ℕ → Bool
 is_keyed word body =
     (has colon body && bytes_eq (lower (name_in body)) word)
-    && is_comment_text (text_after hash (text_after colon body))
+    && is_comment_text (after_byte hash (after_byte colon body))
 
 -- an identifier, or `*`
 abbrev pub is_product_token : List ℕ → Bool
@@ -87,8 +73,8 @@ is_pattern (b ∷ text) = (b == 0x2F || b == 0x2A) && is_value_text text
 abbrev pub is_number : List ℕ → Bool
 is_number value =
     are_some is_digit value
-    || (has 0x2E value && (are_some is_digit (text_before 0x2E value)
-    && are_some is_digit (text_after 0x2E value)))
+    || (has 0x2E value && (are_some is_digit (before_byte 0x2E value)
+    && are_some is_digit (after_byte 0x2E value)))
 
 -- an identifier that isn't a field name which this library recognizes
 abbrev pub is_other_name : List ℕ → Bool
@@ -96,11 +82,11 @@ is_other_name name = are_some is_identifier_byte name && not (list_any (bytes_eq
 
 -- the test of each form
 abbrev pub has_form : Form → List ℕ → Bool
-has_form Empty body = list_all is_blank (text_before hash body) && is_comment_text (text_after hash body)
+has_form Empty body = list_all is_blank (before_byte hash body) && is_comment_text (after_byte hash body)
 has_form Agent body = is_keyed (codes "user-agent") body && is_product_token (value_in body)
 has_form Rule body =
     (is_keyed (codes "allow") body || is_keyed (codes "disallow") body) && is_pattern (value_in body)
 has_form Delay body = is_keyed (codes "crawl-delay") body && is_number (value_in body)
 has_form Sitemap body = is_keyed (codes "sitemap") body && is_value_text (value_in body)
 has_form Other body =
-    (has colon body && is_other_name (name_in body)) && is_comment_text (text_after colon body)
+    (has colon body && is_other_name (name_in body)) && is_comment_text (after_byte colon body)

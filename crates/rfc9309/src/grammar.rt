@@ -6,11 +6,10 @@ ghost use Rattle.safe_output.specs.Bytes.{is_blank};
 ghost use Rattle.rfc9309.specs.Conformance.{is_line_below};
 ghost use Rattle.rfc9309.specs.LineTest.{are_some, has_form, is_comment_byte, is_comment_text, is_digit};
 ghost use Rattle.rfc9309.specs.LineTest.{is_identifier_byte, is_keyed, is_number, is_other_name, is_pattern};
-ghost use Rattle.rfc9309.specs.LineTest.{is_product_token, is_value_byte, is_value_text, lower, text_after};
-ghost use Rattle.rfc9309.specs.LineTest.{text_before, text_from, value_in};
+ghost use Rattle.rfc9309.specs.LineTest.{is_product_token, is_value_byte, is_value_text, lower, value_in};
 ghost use Rattle.rfc9309.specs.LineForms.{Agent, Delay, Empty, Other, Rule, Sitemap};
 
-use safe_output::bytes::{has, is_utf8, place, trim_blanks};
+use safe_output::bytes::{after_byte, before_byte, has, is_utf8, trim_blanks};
 
 /// The field names that this library recognizes. Lines with others are ignored.
 const NAMES: &[&str] = &[
@@ -29,36 +28,11 @@ const NAMES: &[&str] = &[
     "crawldelay",
 ];
 
-/// The bytes before the first `stop`, or all of them.
-#[tactic(auto, using(crate::proofs::ConformanceLemmas::before_place))]
-fn before<'a>(stop: u8, text: &'a [u8]) -> &'a [u8]
-    ensures { result.now ≡ text_before stop text.now }
-{
-    &text[..place(stop, text)]
-}
-
-/// The first `stop` and the bytes after it, or nothing.
-fn from<'a>(stop: u8, text: &'a [u8]) -> &'a [u8]
-    ensures { result.now ≡ text_from stop text.now }
-{
-    &text[place(stop, text)..]
-}
-
-/// The bytes after the first `stop`, or nothing.
-fn after<'a>(stop: u8, text: &'a [u8]) -> &'a [u8]
-    ensures { result.now ≡ text_after stop text.now }
-{
-    match from(stop, text) {
-        [_, rest @ ..] => rest,
-        [] => &[],
-    }
-}
-
 /// The value of a line, between the first colon and a comment, without spaces and tabs around it.
 pub(crate) fn value_in<'a>(body: &'a [u8]) -> &'a [u8]
     ensures { result.now ≡ value_in body.now }
 {
-    trim_blanks(before(b'#', after(b':', body)))
+    trim_blanks(before_byte(b'#', after_byte(b':', body)))
 }
 
 fn are_comment_bytes(text: &[u8]) -> bool
@@ -138,7 +112,9 @@ fn is_number(value: &[u8]) -> bool
     ensures { result ≡ is_number value.now }
 {
     are_digits(value)
-        || (has(b'.', value) && are_digits(before(b'.', value)) && are_digits(after(b'.', value)))
+        || (has(b'.', value)
+            && are_digits(before_byte(b'.', value))
+            && are_digits(after_byte(b'.', value)))
 }
 
 fn is_any_of(names: &[&str], name: &[u8]) -> bool
@@ -162,14 +138,14 @@ fn is_keyed(word: &str, body: &[u8]) -> bool
     ensures { result ≡ is_keyed word.now body.now }
 {
     has(b':', body)
-        && trim_blanks(before(b':', body)).eq_ignore_ascii_case(word.as_bytes())
-        && is_comment(after(b'#', after(b':', body)))
+        && trim_blanks(before_byte(b':', body)).eq_ignore_ascii_case(word.as_bytes())
+        && is_comment(after_byte(b'#', after_byte(b':', body)))
 }
 
 fn is_empty_line(body: &[u8]) -> bool
     ensures { result ≡ has_form Empty body.now }
 {
-    are_blank(before(b'#', body)) && is_comment(after(b'#', body))
+    are_blank(before_byte(b'#', body)) && is_comment(after_byte(b'#', body))
 }
 
 pub(crate) fn is_agent_line(body: &[u8]) -> bool
@@ -200,8 +176,8 @@ fn is_other_line(body: &[u8]) -> bool
     ensures { result ≡ has_form Other body.now }
 {
     has(b':', body)
-        && is_other_name(trim_blanks(before(b':', body)))
-        && is_comment(after(b':', body))
+        && is_other_name(trim_blanks(before_byte(b':', body)))
+        && is_comment(after_byte(b':', body))
 }
 
 /// A line of the grammar other than a user-agent line; `below`: a user-agent line is above it, so it may be a

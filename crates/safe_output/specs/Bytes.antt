@@ -1,6 +1,6 @@
 -- Parts of a byte string, and bytes in it.
-use Rattle.std.specs.Prelude.{[], ℕ, ◌==◌, Bool, false, ◌||◌, List, ◌∷◌, codes, if◌then◌else◌, reverse}
-use Rattle.std.specs.{Char.is_ascii_alphanumeric, List.after_first, List.before_first, List.list_any}
+use Rattle.std.specs.Prelude.{[], ℕ, ◌==◌, Bool, false, ◌||◌, List, ◌∷◌, codes, drop, if◌then◌else◌, reverse}
+use Rattle.std.specs.{Char.is_ascii_alphanumeric, List.before_first, List.list_any, List.position_or_len}
 
 abbrev pub has : ℕ → List ℕ → Bool
 has b text = list_any (λ c. c == b) text
@@ -9,9 +9,13 @@ has b text = list_any (λ c. c == b) text
 abbrev pub before_byte : ℕ → List ℕ → List ℕ
 before_byte b text = before_first (λ c. c == b) text
 
+-- from the byte on; empty if it isn't in the text
+abbrev pub from_byte : ℕ → List ℕ → List ℕ
+from_byte b text = drop (position_or_len (λ c. c == b) text) text
+
 -- empty if the byte isn't in the text
 abbrev pub after_byte : ℕ → List ℕ → List ℕ
-after_byte b text = after_first (λ c. c == b) text
+after_byte b text = drop 1 (from_byte b text)
 
 abbrev pub somewhere : (List ℕ → Bool) → List ℕ → Bool
 somewhere test [] = false
