@@ -4,7 +4,7 @@ ghost use Rattle.std.specs.Prelude.{true};
 ghost use Rattle.std.specs.{Char.digit_value, Char.is_ascii_hexdigit, Fn.FnReturnsAt, List.position_or_len};
 ghost use Rattle.std.specs.{Str.is_utf8};
 ghost use Rattle.safe_output.specs.Bytes.{after_byte, before_byte, from_first, has, needs_no_escape};
-ghost use Rattle.safe_output.specs.Bytes.{somewhere, trim_blanks, trim_blanks_end, trim_blanks_start};
+ghost use Rattle.safe_output.specs.Bytes.{somewhere, trim_blanks, trim_blanks_start};
 
 use memchr::memchr;
 
@@ -86,22 +86,15 @@ pub fn trim_blanks_start(text: &[u8]) -> &[u8]
     rest
 }
 
-/// Without spaces and tabs at the end.
-pub fn trim_blanks_end(text: &[u8]) -> &[u8]
-    ensures { result.now ≡ trim_blanks_end text.now }
-{
-    let mut rest = text;
-    while let [before @ .., b' ' | b'\t'] = rest {
-        rest = before;
-    }
-    rest
-}
-
 /// Without spaces and tabs at both ends.
 pub fn trim_blanks(text: &[u8]) -> &[u8]
     ensures { result.now ≡ trim_blanks text.now }
 {
-    trim_blanks_end(trim_blanks_start(text))
+    let mut rest = trim_blanks_start(text);
+    while let [before @ .., b' ' | b'\t'] = rest {
+        rest = before;
+    }
+    rest
 }
 
 /// The text, if it is UTF-8.
