@@ -1,8 +1,7 @@
 //! Parts of a byte string, and bytes in it.
 ghost use Rattle.std.specs.Prelude.{◌≡◌, ◌<◌, ◌≤◌, ◌==◌, ℕ, Bool, List, MatchOption, false, length, take};
-ghost use Rattle.std.specs.Prelude.{true};
 ghost use Rattle.std.specs.{Char.digit_value, Char.is_ascii_hexdigit, Fn.FnReturnsAt, List.position_or_len};
-ghost use Rattle.std.specs.{Str.is_utf8};
+ghost use Rattle.std.specs.{Prelude.true, Str.is_utf8};
 ghost use Rattle.safe_output.specs.Bytes.{after_byte, before_byte, from_first, has, needs_no_escape};
 ghost use Rattle.safe_output.specs.Bytes.{somewhere, trim_blanks, trim_blanks_start};
 
