@@ -10,7 +10,7 @@ use Rattle.texting_robots.specs.Line.{Allow, CrawlDelay, Disallow, UserAgent}
 use Rattle.rfc9309.specs.{Conformance.first_split}
 use Rattle.rfc9309.specs.Rfc9309.{Delay, Group, Member, has_token, is_rule, merged, put_before}
 use Rattle.rfc9309.specs.Rfc9309.{rules_for}
-use Rattle.rfc9309.specs.Rfc9309.{Statement, above_groups, groups_of, is_no_delay, standard_groups}
+use Rattle.rfc9309.specs.Rfc9309.{Entry, above_groups, groups_of, is_no_delay, standard_groups}
 use Rattle.rfc9309.specs.Rfc9309.{standard_rules, without_delays}
 use Rattle.rfc9309.specs.Rfc9309 as rfc
 use Rattle.rfc9309.proofs.{GroupLemmas.has, GroupLemmas.is_named, GroupLemmas.theirs}
@@ -42,14 +42,14 @@ bare_put tokens members groups = grind (arith, put_both)
 
 -- ---- skipping the delays among the lines does the same
 
-no_delay_above : (statements : List Statement)
-    → above_groups (filter is_no_delay statements) ≡ filter is_rule (above_groups statements)
+no_delay_above : (entries : List Entry)
+    → above_groups (filter is_no_delay entries) ≡ filter is_rule (above_groups entries)
 no_delay_above [] = refl
-no_delay_above (statement ∷ statements) = grind (arith, no_delay_above statements)
+no_delay_above (entry ∷ entries) = grind (arith, no_delay_above entries)
 
-pub bare_statements : (statements : List Statement) → standard_groups statements ≡ bare (groups_of statements)
-bare_statements [] = refl
-bare_statements (statement ∷ statements) = grind (arith, bare_put, no_delay_above, bare_statements statements)
+pub bare_entries : (entries : List Entry) → standard_groups entries ≡ bare (groups_of entries)
+bare_entries [] = refl
+bare_entries (entry ∷ entries) = grind (arith, bare_put, no_delay_above, bare_entries entries)
 
 -- ---- groups
 

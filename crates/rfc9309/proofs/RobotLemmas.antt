@@ -12,7 +12,7 @@ use Rattle.rfc9309.proofs.GroupLemmas.{delay_written, rules_written}
 use Rattle.rfc9309.proofs.ReadLemmas.{file_same, file_sources, lines_in}
 use Rattle.rfc9309.proofs.FileLemmas.{FileRead, file_read, file_with, groups_written}
 use Rattle.rfc9309.proofs.FileLemmas.{sitemaps_are_read}
-use Rattle.rfc9309.proofs.StatementLemmas.{robotstxt_lines, wide_lines}
+use Rattle.rfc9309.proofs.EntryLemmas.{robotstxt_lines, wide_lines}
 use Rattle.rfc9309.proofs.{LineFormLemmas.forms_make_file, Sources.Parts}
 use Rattle.rfc9309.specs.StandardRobot.{IsDelayAs, IsRejectedAs, IsRobotAs, delay_among}
 use Rattle.rfc9309.specs.StandardRobot.{is_delay, IsReadAs}
@@ -33,8 +33,8 @@ robotstxt_is_file text groups is =
         is_bom = inl refl;
         is_nl = inl refl;
         is_content = subst (rfc.IsExtendedByLines [] (rfc.merged groups)) (sym (append-nil text)) (record {
-          statements = by_lines.statements;
-          are_lines = wide_lines by_lines.statements text by_lines.are_lines;
+          entries = by_lines.entries;
+          are_lines = wide_lines by_lines.entries text by_lines.are_lines;
           above = by_lines.none_above;
           written = by_lines.written;
         });

@@ -105,7 +105,7 @@ pub fn grammar_is_by_lines()
         → rfc.IsRobotstxtByLines (rfc.merged groups) text }
     ensures printed { (groups : List rfc.Group) (text : List ℕ) → rfc.IsRobotstxtByLines groups text
         → rfc.IsRobotstxt groups text }
-    ensures delays { (groups : List rfc.Group) (statements : List rfc.Statement)
-        → groups ≡ rfc.groups_of statements
-        → rfc.merged (rfc.without_delays groups) ≡ rfc.standard_groups statements }
+    ensures delays { (groups : List rfc.Group) (entries : List rfc.Entry)
+        → groups ≡ rfc.groups_of entries
+        → rfc.merged (rfc.without_delays groups) ≡ rfc.standard_groups entries }
 {}
