@@ -1,14 +1,13 @@
 -- The tests of lines, as the code makes them.
-use Rattle.std.proofs.Common.{◌≡◌, ℕ, ◌+◌, ◌-◌, ◌==◌, Bool, true, false, inl, inr, List, [], ◌∷◌}
-use Rattle.std.proofs.Common.{◌++◌, None, ap, arith, bytes_eq, drop, filter, length, refl, reverse}
-use Rattle.std.proofs.Common.{subst, suc, sym, take, ◌∙◌}
+use Rattle.std.proofs.Common.{◌≡◌, ℕ, ◌+◌, ◌-◌, ◌==◌, Bool, true, false, inl, inr, List, [], ◌∷◌, ◌++◌, None}
+use Rattle.std.proofs.Common.{ap, arith, bytes_eq, drop, filter, length, refl, reverse, subst, suc, sym, take}
+use Rattle.std.proofs.Common.{◌∙◌}
 use Rattle.std.specs.List.{cons_option, enumerate_from, filter_map, list_any, position_or_len}
-use Rattle.std.proofs.lemmas.{Bool.Decides.nat_tests, Bool.cases_Bool, Bool.or_parts, List.length-drop}
-use Rattle.std.proofs.lemmas.{List.reverse-append}
-use Rattle.std.proofs.{lemmas.List.take_all}
+use Rattle.std.proofs.lemmas.Bool.Decides.{nat_tests}
+use Rattle.std.proofs.lemmas.Bool.{cases_Bool, or_parts}
+use Rattle.std.proofs.lemmas.List.{length-drop, reverse-append, take_all}
 use Rattle.texting_robots.specs.Callers.{LineValue, PlacedRule}
-use Rattle.texting_robots.specs.{Escape.escaped, Escape.is_escaped}
-use Rattle.texting_robots.specs.Executable.{placed_in}
+use Rattle.texting_robots.specs.{Escape.escaped, Escape.is_escaped, Executable.placed_in}
 use Rattle.rfc9309.specs.LineTest.{is_blank, kept_before, text_before, text_from, trim_blanks_start}
 use Rattle.rfc9309.specs.LineTest.{trim_blanks_end}
 use Rattle.rfc9309.specs.Conformance.{allows_all, first_mixed_for, is_all, is_open}

@@ -1,5 +1,5 @@
 -- A file in the standard's grammar as it is printed is a list of its lines, and such lines are a file in it.
-use Rattle.std.proofs.Common.{◌≡◌, inl, inr, List, [], ◌∷◌, ◌++◌, ℕ, flat_map, sym, append-nil, arith}
+use Rattle.std.proofs.Common.{◌≡◌, inl, inr, List, [], ◌∷◌, ◌++◌, ℕ, flat_map, sym, append-nil}
 use Rattle.std.proofs.Common.{append_assoc, ap, refl, subst, ◌∙◌}
 use Rattle.std.specs.List.{AllByRecursion as Each}
 use Rattle.rfc9309.proofs.Sources.{Parts, group_put, groups_put, onto, parts_of, with_group}

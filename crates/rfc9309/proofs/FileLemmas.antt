@@ -1,18 +1,17 @@
 -- The lines of a file of the grammar are read as their entries, one by one.
-use Rattle.std.proofs.Common.{arith}
-use Rattle.std.proofs.Common.{◌≡◌, ◌≢◌, inl, inr, ℕ, List, [], ◌∷◌, ◌++◌, append_assoc, ap, map}
+use Rattle.std.proofs.Common.{arith, ◌≡◌, ◌≢◌, inl, inr, ℕ, List, [], ◌∷◌, ◌++◌, append_assoc, ap, map}
 use Rattle.std.proofs.Common.{filter, flat_map, refl, subst, sym, ◌∙◌}
 use Rattle.std.specs.List.{AllByRecursion as Each, AllZip}
 use Rattle.texting_robots.specs.Executable.{file_bodies, file_lines, sitemaps_in}
-use Rattle.texting_robots.specs.{Line.nul_as_lf, Line.without_bom, Internal.Cut.bodies_of, Trim.IsTrimOf}
-use Rattle.rfc9309.proofs.SyntaxLemmas.{each_front}
-use Rattle.rfc9309.proofs.ReadLemmas.{after_bom, file_sources, low_of_front, BeginsLow, IsBefore}
-use Rattle.rfc9309.proofs.ReadLemmas.{bare_no_nul, end_bytes, last_end_adds_none, line_before, file_same}
-use Rattle.rfc9309.proofs.ReadLemmas.{before_sources, low_append, sources_in, sources_of, lines_in}
-use Rattle.rfc9309.proofs.{EntryLemmas.entry_parts, OtherLemmas.empty_line, OtherLemmas.other_line}
-use Rattle.rfc9309.proofs.KeyedLemmas.{IsLineOf}
+use Rattle.texting_robots.specs.{Line.nul_as_lf, Line.without_bom, Trim.IsTrimOf}
+use Rattle.texting_robots.specs.Internal.Cut.{bodies_of}
+use Rattle.rfc9309.proofs.ReadLemmas.{after_bom, file_sources, low_of_front, BeginsLow, IsBefore, bare_no_nul}
+use Rattle.rfc9309.proofs.ReadLemmas.{end_bytes, last_end_adds_none, line_before, file_same, before_sources}
+use Rattle.rfc9309.proofs.ReadLemmas.{low_append, sources_in, sources_of, lines_in}
+use Rattle.rfc9309.proofs.OtherLemmas.{empty_line, other_line}
 use Rattle.rfc9309.proofs.MemberLemmas.{member_form, member_line, sitemap_line, token_line}
 use Rattle.rfc9309.proofs.Sources.{IsRead, Parts, Source, onto, parts_in, parts_of, with_address, with_source}
+use Rattle.rfc9309.proofs.{SyntaxLemmas.each_front, EntryLemmas.entry_parts, KeyedLemmas.IsLineOf}
 use Rattle.rfc9309.specs.LineForms.{AreRulesBelowAgents as AreFree, Form, Empty, Agent, Sitemap, Other}
 use Rattle.texting_robots.proofs.Shared.{bodies_nil, each_append}
 use Rattle.rfc9309.specs.Rfc9309 as rfc
@@ -41,7 +40,7 @@ lines_read : (lines : List Line) → sources_of (joined lines) ≡ sources_from 
 lines_read [] = ap sources_in bodies_nil
 lines_read (line ∷ lines) = grind (arith, before_sources, line_bodies, sources_of, lines_read lines)
 
-pub each_read : (lines : List Line) → Each IsRead (sources_from lines)
+each_read : (lines : List Line) → Each IsRead (sources_from lines)
 each_read [] = tt
 each_read (line ∷ lines) = each_append _ _ _ line.is.read (each_read lines)
 
@@ -182,14 +181,8 @@ module _ {Content : List ℕ → Type 0} {text : List ℕ} (file : rfc.IsFileOf 
       ap sources_in bodies_are ∙ sym (last_end_adds_none file.rest file.nl file.is_nl) ∙ ap sources_of whole
       ∙ lines_read lines
 
-pub only_delays : (members : List rfc.Member) → filter rfc.is_rule members ≡ []
-    → (numbers : List (List ℕ)) × (members ≡ map rfc.Delay numbers)
-only_delays [] none = ([], refl)
-only_delays (rfc.Allow pattern ∷ members) none = absurd cc
-only_delays (rfc.Disallow pattern ∷ members) none = absurd cc
-only_delays (rfc.Delay number ∷ members) none =
-    let (numbers, same) = only_delays members none in
-    (number ∷ numbers, ap (λ more. rfc.Delay number ∷ more) same)
+  pub sources_read : Each IsRead (file_sources text)
+  sources_read = subst (Each IsRead) (sym sources_are) (each_read lines)
 
 with_content : {Content Other : List ℕ → Type 0} {text : List ℕ} (file : rfc.IsFileOf Content text)
     → Other (file.rest ++ file.nl) → rfc.IsFileOf Other text
@@ -211,13 +204,12 @@ pub file_with : (text : List ℕ) (numbers : List (List ℕ)) (groups : List rfc
 file_with text numbers groups file =
     let content = file.is_content in
     let all = entries_read content.entries (file.rest ++ file.nl) content.are_lines in
-    let sources = sources_are file all.lines all.whole in
     let parts : parts_in (file_sources text) ≡ parts_of (map rfc.Delay numbers) groups =
-    ap parts_in sources ∙ all.parts
+    ap parts_in (sources_are file all.lines all.whole) ∙ all.parts
     ∙ ap (λ above. parts_of above (rfc.groups_of content.entries)) content.above
     ∙ ap (parts_of (map rfc.Delay numbers)) (sym content.written) in
     record {
-      read = subst (Each IsRead) (sym sources) (each_read all.lines);
+      read = sources_read file all.lines all.whole;
       parts = parts;
       none = ap (λ (p : Parts). filter rfc.is_rule p.ungrouped) parts ∙ no_rules numbers;
       lists = (
@@ -245,17 +237,14 @@ trims_read ((library.Sitemap value, address) ∷ sources) (is, all) = rw is.0 (i
 trims_read (_ ∷ sources) (_, all) = trims_read sources all
 
 module _ (text : List ℕ) (addresses : List (List ℕ)) (file : rfc.ListsSitemaps addresses text) where
+  abbrev all : EntriesRead file.is_content.entries (file.rest ++ file.nl)
+  all = entries_read file.is_content.entries (file.rest ++ file.nl) file.is_content.are_lines
+
   pub addresses_are : addresses_in (file_sources text) ≡ addresses
   addresses_are =
-      let content = file.is_content in
-      let all = entries_read content.entries (file.rest ++ file.nl) content.are_lines in
-      ap addresses_in (sources_are file all.lines all.whole) ∙ all.addresses ∙ sym content.written
+      ap addresses_in (sources_are file all.lines all.whole) ∙ all.addresses ∙ sym file.is_content.written
 
   pub sitemaps_are_read : AllZip IsTrimOf (sitemaps_in (file_lines text)) addresses
   sitemaps_are_read =
-      let content = file.is_content in
-      let all = entries_read content.entries (file.rest ++ file.nl) content.are_lines in
-      let read : Each IsRead (file_sources text) =
-      subst (Each IsRead) (sym (sources_are file all.lines all.whole)) (each_read all.lines) in
-      rw (file_same text []).1 (
-      subst (AllZip IsTrimOf _) addresses_are (trims_read (file_sources text) read))
+      rw (file_same text []).1 (subst (AllZip IsTrimOf _) addresses_are
+      (trims_read (file_sources text) (sources_read file all.lines all.whole)))

@@ -1,7 +1,7 @@
 -- A text whose lines have the forms of the grammar's lines, with each rule below a user-agent line, is a file
 -- of the grammar, and only such a text is one. The text is built from its last line on.
 use Rattle.std.proofs.Common.{◌≡◌, ◌⊎◌, inl, inr, ℕ, List, [], ◌∷◌, ◌++◌, sym, refl, ap, ◌∙◌, append_assoc}
-use Rattle.std.proofs.Common.{◌≢◌, filter, arith, subst}
+use Rattle.std.proofs.Common.{◌≢◌, filter, map, arith, subst}
 use Rattle.std.specs.{List.AllByRecursion as Each, List.AllZip, Prelude.All}
 use Rattle.texting_robots.specs.{Cut.IsBodyByte, Cut.cr, Cut.lf, Internal.Cut.bodies_of, Line.without_bom}
 use Rattle.texting_robots.proofs.Shared.{body_step, step, bodies_nil, byte_cases, each_append}
@@ -14,7 +14,7 @@ use Rattle.rfc9309.proofs.{HasFormLemmas.form_passes}
 use Rattle.rfc9309.proofs.OtherLemmas.{form_tested, only_empty}
 use Rattle.rfc9309.proofs.ReadLemmas.{nothing_replaced, end_more}
 use Rattle.rfc9309.proofs.FileLemmas.{Line, after_front, bodies_are, forms_of, entries_read}
-use Rattle.rfc9309.proofs.FileLemmas.{joined, line_bodies, no_nul, no_rules, only_delays}
+use Rattle.rfc9309.proofs.FileLemmas.{joined, line_bodies, no_nul, no_rules}
 use Rattle.rfc9309.specs.Rfc9309 as rfc
 
 abbrev IsEndByte : ℕ → Type 0
@@ -89,16 +89,18 @@ ended_bytes (body ∷ bodies) text (bytes, (end, ends, rest, whole, is_end, are_
 pub bodies_bytes : (text : List ℕ) → Each (Each IsBodyByte) (bodies_of text)
 bodies_bytes text = let (nl, last, are) = completed text in ended_bytes (bodies_of text) (text ++ nl) are
 
--- lines of the grammar; if `Free` holds, no rule is above the first token
+abbrev OnlyDelays : List rfc.Entry → Type 0
+OnlyDelays entries = (numbers : List (List ℕ)) × (rfc.above_groups entries ≡ map rfc.Delay numbers)
+
+-- lines of the grammar; if `Free` holds, only delays are above the first token
 record AreEntries (Free : Type 0) (text : List ℕ) : Type 0 where
   entries : List rfc.Entry
   are_lines : rfc.AreLines rfc.IsLine entries text
-  are_free : Free → filter rfc.is_rule (rfc.above_groups entries) ≡ []
+  are_free : Free → OnlyDelays entries
 
 module _ {Free : Type 0} (line text : List ℕ) (rest : AreEntries Free text) where
   entry_before : {Before : Type 0} (entry : rfc.Entry) → rfc.IsLine entry line
-      → (Before → filter rfc.is_rule (rfc.above_groups (entry ∷ rest.entries)) ≡ [])
-      → AreEntries Before (line ++ text)
+      → (Before → OnlyDelays (entry ∷ rest.entries)) → AreEntries Before (line ++ text)
   entry_before entry is free = record {
     entries = entry ∷ rest.entries;
     are_lines = (line, text, refl, is, rest.are_lines);
@@ -109,13 +111,15 @@ form_before : (form : Form) (forms : List Form) (line text : List ℕ) → IsFor
     → AreEntries (AreFree forms) text → AreEntries (AreFree (form ∷ forms)) (line ++ text)
 form_before Empty forms line text is rest = entry_before line text rest rfc.Nothing (inl is) rest.are_free
 form_before Agent forms line text (token, is) rest =
-    entry_before line text rest (rfc.Agent token) is (λ free. refl)
+    entry_before line text rest (rfc.Agent token) is (λ free. ([], refl))
 form_before Rule forms line text (member, inl is) rest =
     entry_before line text rest (rfc.InGroup member) (inl is) (λ free. absurd free)
 form_before Rule forms line text (member, inr is) rest =
     entry_before line text rest (rfc.InGroup member) (inr (inl is)) (λ free. absurd free)
 form_before Delay forms line text (rfc.Delay number, is) rest =
-    entry_before line text rest (rfc.InGroup (rfc.Delay number)) (inr (inr is)) rest.are_free
+    entry_before line text rest (rfc.InGroup (rfc.Delay number)) (inr (inr is)) (λ free.
+    let (numbers, same) = rest.are_free free in
+    (number ∷ numbers, ap (λ more. rfc.Delay number ∷ more) same))
 form_before Delay forms line text (rfc.Allow pattern, is) rest = absurd is
 form_before Delay forms line text (rfc.Disallow pattern, is) rest = absurd is
 form_before Sitemap forms line text (address, is) rest =
@@ -145,7 +149,7 @@ ends_before (end ∷ ends) text are rest =
 
 entries_from : (forms : List Form) (bodies : List (List ℕ)) (text : List ℕ) → AllZip HasForm forms bodies
     → AreEnded bodies text → AreEntries (AreFree forms) text
-entries_from [] [] text all none = record { entries = []; are_lines = none; are_free = λ free. refl }
+entries_from [] [] text all none = record { entries = []; are_lines = none; are_free = λ free. ([], refl) }
 entries_from [] (body ∷ bodies) text all are = absurd all
 entries_from (form ∷ forms) [] text all are = absurd all
 entries_from (form ∷ forms) (body ∷ bodies) text (is, all)
@@ -167,7 +171,7 @@ forms_make_file text forms are =
     ap (λ t. bodies_of (without_bom t)) (nothing_replaced text no_nul) in
     let each : AllZip HasForm forms _ = subst (AllZip HasForm forms) bodies are.each in
     let all = entries_from forms _ (rest ++ nl) each ended in
-    let (numbers, above) = only_delays (rfc.above_groups all.entries) (all.are_free are.below) in (
+    let (numbers, above) = all.are_free are.below in (
       rfc.groups_of all.entries,
       numbers,
       record {

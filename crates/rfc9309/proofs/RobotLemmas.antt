@@ -1,23 +1,18 @@
 -- The robot of a file in the standard's grammar has the rules, the delay and the sitemaps that the file
 -- states. A file in the standard's own grammar is also one in the extended grammar.
-use Rattle.std.proofs.Common.{ap}
-use Rattle.std.specs.Prelude.{take}
+use Rattle.std.specs.{Prelude.take, List.AllZip}
 use Rattle.std.proofs.Common.{inl, ℕ, List, [], refl, sym, subst, append-nil, ◌≡◌, ◌∷◌, filter, map, ◌∙◌}
 use Rattle.texting_robots.specs.Executable.{delay_for, file_lines, placed_rules, rules_for}
 use Rattle.texting_robots.specs.Robot.{IsFileRejected, IsRobotOf, IsRobotOfFile, RobotValue, file_limit}
 use Rattle.texting_robots.specs.{Line.AreFileLinesOf, Trim.IsTrimOf}
 use Rattle.texting_robots.proofs.Shared.{delay_is_computed, sitemaps_are_computed, rejection_is_computed}
 use Rattle.texting_robots.proofs.Shared.{rules_are_computed, of_lines, each_text_has_its_lines}
-use Rattle.rfc9309.proofs.GroupLemmas.{delay_written, rules_written}
 use Rattle.rfc9309.proofs.ReadLemmas.{file_same, file_sources, lines_in}
-use Rattle.rfc9309.proofs.FileLemmas.{FileRead, file_read, file_with, groups_written}
-use Rattle.rfc9309.proofs.FileLemmas.{sitemaps_are_read}
-use Rattle.rfc9309.proofs.EntryLemmas.{robotstxt_lines, wide_lines}
-use Rattle.rfc9309.proofs.{LineFormLemmas.forms_make_file, Sources.Parts}
-use Rattle.rfc9309.specs.StandardRobot.{IsDelayAs, IsRejectedAs, IsRobotAs, delay_among}
-use Rattle.rfc9309.specs.StandardRobot.{is_delay, IsReadAs}
+use Rattle.rfc9309.proofs.FileLemmas.{FileRead, file_read, file_with, groups_written, sitemaps_are_read}
+use Rattle.rfc9309.proofs.{GroupLemmas.delay_written, GroupLemmas.rules_written, EntryLemmas.robotstxt_lines}
+use Rattle.rfc9309.proofs.{EntryLemmas.wide_lines, LineFormLemmas.forms_make_file, Sources.Parts}
+use Rattle.rfc9309.specs.StandardRobot.{IsDelayAs, IsRejectedAs, IsRobotAs, delay_among, is_delay, IsReadAs}
 use Rattle.rfc9309.specs.LineForms.{AreForms, Form}
-use Rattle.std.specs.{List.AllZip}
 use Rattle.rfc9309.specs.Rfc9309 as rfc
 
 pub robotstxt_is_file : (text : List ℕ) (groups : List rfc.Group) → rfc.IsRobotstxt groups text

@@ -1,22 +1,18 @@
 -- Whether a file is in the extended grammar (`IsFile`), decided line by line, and whether verdicts on it, for
 -- paths and queries in normal form, are those of the standard, if reserved octets stay; if not, because of
 -- which line.
-use Rattle.std.specs.Prelude.{ℕ, ◌+◌, ◌-◌, ◌==◌, ◌&&◌, ◌||◌, not, nat_eq, nat_le, Bool, true, false}
-use Rattle.std.specs.Prelude.{List, [], ◌∷◌, Option, Some, None, bytes_eq, codes, if◌then◌else◌, length}
-use Rattle.std.specs.Prelude.{take}
-use Rattle.std.specs.List.{ends_with, list_any, position_from, starts_with}
-use Rattle.std.specs.{Option.option_or}
+use Rattle.std.specs.Prelude.{ℕ, ◌+◌, ◌-◌, ◌==◌, ◌&&◌, ◌||◌, not, nat_eq, nat_le, Bool, true, false, List, []}
+use Rattle.std.specs.Prelude.{◌∷◌, Option, Some, None, bytes_eq, codes, if◌then◌else◌, length, take}
+use Rattle.std.specs.{List.ends_with, List.list_any, List.position_from, List.starts_with, Option.option_or}
 use Rattle.texting_robots.specs.Callers.{Allow, CrawlDelay, Disallow, LineValue, PlacedRule, UserAgent}
 use Rattle.texting_robots.specs.Callers.{agents_in, file_bodies, file_limit, file_lines, placed_rules}
-use Rattle.texting_robots.specs.{Internal.Statement.trimmed}
-use Rattle.rfc9309.specs.{Comparable.has_odd_escape, Matching.has_dollar}
+use Rattle.texting_robots.specs.Internal.Statement.{trimmed}
 use Rattle.rfc9309.specs.LineTest.{has_form, value_in}
 use Rattle.rfc9309.specs.LineForms.{Agent, Delay, Empty, Other, Rule, Sitemap}
-use Rattle.rfc9309.specs.declared.conformance.Above.{Above}
-use Rattle.rfc9309.specs.declared.conformance.Conformance.{Conformance}
+use Rattle.rfc9309.specs.{Comparable.has_odd_escape, Matching.has_dollar}
+use Rattle.rfc9309.specs.declared.conformance.{Above.Above, Conformance.Conformance}
 use Rattle.rfc9309.specs.declared.conformance.Above.TheVariants as over
-use Rattle.rfc9309.specs.declared.conformance.Conformance.TheVariants.{OtherFile, OtherLine, Syntax}
-use Rattle.rfc9309.specs.declared.conformance.Conformance.TheVariants.{Verdicts}
+use Rattle.rfc9309.specs.declared.conformance.Conformance.TheVariants.{OtherFile, OtherLine, Syntax, Verdicts}
 
 -- ---- the grammar
 

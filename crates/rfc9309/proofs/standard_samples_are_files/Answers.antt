@@ -5,10 +5,9 @@ use Rattle.std.specs.Str.{chars, is_utf8}
 use lib.Utf8.{encode}
 use Rattle.texting_robots.specs.Internal.{Cut.cut, Line.line_of, Statement.statement_of, Delay.delay_of}
 use Rattle.bstr.specs.{Trim.kept_end, Trim.kept_start, Utf8.pieces_from, Utf8.spans_from}
-use Rattle.rfc9309.proofs.{FileLemmas.addresses_are, FileLemmas.file_read, Sources.written}
 use Rattle.rfc9309.proofs.EntryLemmas.{lines_both, lines_robotstxt, wide_lines}
-use Rattle.rfc9309.proofs.HasFormLemmas.{agent_passes, delay_passes, form_passes, keyed_passes}
-use Rattle.rfc9309.proofs.HasFormLemmas.{pattern_with}
+use Rattle.rfc9309.proofs.HasFormLemmas.{agent_passes, delay_passes, form_passes, keyed_passes, pattern_with}
+use Rattle.rfc9309.proofs.{FileLemmas.addresses_are, FileLemmas.file_read, Sources.written}
 use Rattle.rfc9309.specs.LineForms.{Empty, Other, Sitemap}
 use Rattle.rfc9309.specs.Sample.{cr, cr_lf, lf, path}
 use Rattle.rfc9309.specs.Rfc9309 as rfc

@@ -1,6 +1,5 @@
-use Rattle.std.proofs.Common.{arith}
-use Rattle.std.proofs.{Common.sym, lemmas.Bool.false_from_ne_true, lemmas.Str.IsUtf8-from_is_utf8}
-use Rattle.std.proofs.{lemmas.Str.is_utf8-from_IsUtf8}
+use Rattle.std.proofs.Common.{arith, sym}
+use Rattle.std.proofs.lemmas.{Bool.false_from_ne_true, Str.IsUtf8-from_is_utf8, Str.is_utf8-from_IsUtf8}
 use Rattle.rfc9309.proofs.grammar.is_utf8.Goals as goal
 
 pub returns-in-Ok : goal.returns-in-Ok
