@@ -27,7 +27,7 @@ use Rattle.rfc9309.specs.LineForms.{Form, HasForm, Agent, Delay, Empty, Other}
 use Rattle.rfc9309.specs.Matching.{IsRfcVerdict, all_stay, has_dollar, normal_from, normal_uri, octets}
 use Rattle.rfc9309.specs.{LineTest.is_pattern, LineTest.value_in, StandardRobot.IsReadAs}
 use Rattle.rfc9309.proofs.DelayLemmas.{Fine, rules_unsplit, unsplit}
-use Rattle.rfc9309.proofs.FileLemmas.{FileRead, file_with, groups_written}
+use Rattle.rfc9309.proofs.FileLemmas.{FileRead, file_with}
 use Rattle.rfc9309.proofs.LineFormLemmas.{bodies_bytes, file_has_forms}
 use Rattle.rfc9309.proofs.MemberLemmas.{delay_line, sitemap_line, token_line}
 use Rattle.rfc9309.proofs.OtherLemmas.{before_end, empty_line, form_tested, other_line}
@@ -264,7 +264,7 @@ module _ (text : List ℕ) (near : line_apart text ≡ None) (groups : List rfc.
 
   groups_are : (parts_in sources).groups ≡ groups
   groups_are =
-      ap (λ (parts : Parts). parts.groups) (sym (raw_parts sources)) ∙ groups_written text numbers groups read
+      ap (λ (parts : Parts). parts.groups) (sym (raw_parts sources)) ∙ read.same
 
   abbrev members : List ℕ → List rfc.Member
   members agent = rfc.rules_for agent groups

@@ -10,8 +10,8 @@ use Rattle.rfc9309.specs.Rfc9309 as rfc
 abbrev pub entry_parts : List rfc.Entry → Parts
 entry_parts entries = parts_of (rfc.above_groups entries) (rfc.groups_of entries)
 
-pub lines_both : (Line : rfc.Entry → List ℕ → Type 0) (entries more : List rfc.Entry)
-    (text later : List ℕ) → rfc.AreLines Line entries text → rfc.AreLines Line more later
+pub lines_both : (Line : rfc.Entry → List ℕ → Type 0) (entries more : List rfc.Entry) (text later : List ℕ)
+    → rfc.AreLines Line entries text → rfc.AreLines Line more later
     → rfc.AreLines Line (entries ++ more) (text ++ later)
 lines_both Line [] more text later none also = rw none also
 lines_both Line (entry ∷ entries) more text later (line, rest, whole, is, are) also = (
@@ -28,12 +28,10 @@ lines_both Line (entry ∷ entries) more text later (line, rest, whole, is, are)
 record Makes (make : Parts → Parts) (text : List ℕ) : Type 0 where
   entries : List rfc.Entry
   are_lines : rfc.AreLines rfc.IsStandardLine entries text
-  same : (following : List rfc.Entry)
-      → entry_parts (entries ++ following) ≡ make (entry_parts following)
+  same : (following : List rfc.Entry) → entry_parts (entries ++ following) ≡ make (entry_parts following)
 
-entry_makes : {make : Parts → Parts} (entry : rfc.Entry) (text : List ℕ)
-    → rfc.IsStandardLine entry text → ((following : List rfc.Entry)
-    → entry_parts (entry ∷ following) ≡ make (entry_parts following))
+entry_makes : {make : Parts → Parts} (entry : rfc.Entry) (text : List ℕ) → rfc.IsStandardLine entry text
+    → ((following : List rfc.Entry) → entry_parts (entry ∷ following) ≡ make (entry_parts following))
     → Makes make text
 entry_makes entry text is same = record {
   entries = entry ∷ [];
@@ -112,13 +110,13 @@ AreGroups (group ∷ groups) text =
     (first : List ℕ) × (rest : List ℕ) × (text ≡ first ++ rest) × rfc.IsGroup group first
     × AreGroups groups rest
 
--- lines above the first token, and groups
-record IsTail (entries : List rfc.Entry) (text : List ℕ) : Type 0 where
+-- lines with these members, and groups
+record IsTail (members : List rfc.Member) (groups : List rfc.Group) (text : List ℕ) : Type 0 where
   lead : List ℕ
   rest : List ℕ
   whole : text ≡ lead ++ rest
-  are_members : AreMembers (rfc.above_groups entries) lead
-  are_groups : AreGroups (rfc.groups_of entries) rest
+  are_members : AreMembers members lead
+  are_groups : AreGroups groups rest
 
 -- without members, the lines are empty
 only_gaps : {X : Type 0} (P : X → List ℕ → Type 0) (text : List ℕ) → AreMembers [] text
@@ -180,22 +178,20 @@ token_group token line lead rest members groups is are more = (
   more,
 )
 
--- a line with these members, one or none
-line_above : (entry : rfc.Entry) (entries : List rfc.Entry) (members : List rfc.Member)
-    (line text : List ℕ) → IsTail entries text → rfc.IsOneOr rfc.IsRule rfc.IsEmptyLine members line
-    → rfc.above_groups (entry ∷ entries) ≡ members ++ rfc.above_groups entries
-    → rfc.groups_of (entry ∷ entries) ≡ rfc.groups_of entries
-    → IsTail (entry ∷ entries) (line ++ text)
-line_above entry entries members line text tail is above same = record {
+-- a line with a member or none
+line_above : (members above : List rfc.Member) (groups : List rfc.Group) (line text : List ℕ)
+    → rfc.IsOneOr rfc.IsRule rfc.IsEmptyLine members line → IsTail above groups text
+    → IsTail (members ++ above) groups (line ++ text)
+line_above members above groups line text is tail = record {
   lead = line ++ tail.lead;
   rest = tail.rest;
   whole = ap (λ t. line ++ t) tail.whole ∙ sym (append_assoc line tail.lead tail.rest);
-  are_members = rw above (repeats_both (repeats_one _ members line is) tail.are_members);
-  are_groups = rw same tail.are_groups;
+  are_members = repeats_both (repeats_one _ members line is) tail.are_members;
+  are_groups = tail.are_groups;
 }
 
 tail_of : (entries : List rfc.Entry) (text : List ℕ) → rfc.AreLines rfc.IsStandardLine entries text
-    → IsTail entries text
+    → IsTail (rfc.above_groups entries) (rfc.groups_of entries) text
 tail_of [] text none = rw none (record {
   lead = [];
   rest = [];
@@ -213,12 +209,10 @@ tail_of (rfc.Agent token ∷ entries) text (line, rest, whole, is, are) =
       are_groups = token_group token line tail.lead tail.rest _ _ is tail.are_members tail.are_groups;
     }
 tail_of (rfc.InGroup member ∷ entries) text (line, rest, whole, is, are) =
-    rw whole (line_above (rfc.InGroup member) entries (member ∷ []) line rest (tail_of entries rest are)
-    (inl (member, is, refl)) refl refl)
+    rw whole (line_above (member ∷ []) _ _ line rest (inl (member, is, refl)) (tail_of entries rest are))
 tail_of (rfc.Sitemap address ∷ entries) text (line, rest, whole, is, are) = absurd is
 tail_of (rfc.Nothing ∷ entries) text (line, rest, whole, is, are) =
-    rw whole (line_above rfc.Nothing entries [] line rest (tail_of entries rest are) (inr (is, refl))
-    refl refl)
+    rw whole (line_above [] _ _ line rest (inr (is, refl)) (tail_of entries rest are))
 
 groups_repeat : (groups : List rfc.Group) (text : List ℕ) → AreGroups groups text
     → rfc.IsRobotstxt groups text
@@ -240,15 +234,14 @@ lines_robotstxt groups text is =
 
 -- ---- the standard's lines are among those of the extended grammar
 
-wide_line : (entry : rfc.Entry) (text : List ℕ) → rfc.IsStandardLine entry text
-    → rfc.IsLine entry text
+wide_line : (entry : rfc.Entry) (text : List ℕ) → rfc.IsStandardLine entry text → rfc.IsLine entry text
 wide_line (rfc.Agent token) text is = is
 wide_line (rfc.InGroup member) text is = inl is
 wide_line (rfc.Sitemap address) text is = absurd is
 wide_line rfc.Nothing text is = inl is
 
-pub wide_lines : (entries : List rfc.Entry) (text : List ℕ)
-    → rfc.AreLines rfc.IsStandardLine entries text → rfc.AreLines rfc.IsLine entries text
+pub wide_lines : (entries : List rfc.Entry) (text : List ℕ) → rfc.AreLines rfc.IsStandardLine entries text
+    → rfc.AreLines rfc.IsLine entries text
 wide_lines [] text none = none
 wide_lines (entry ∷ entries) text (line, rest, whole, is, are) =
     (line, rest, whole, wide_line entry line is, wide_lines entries rest are)

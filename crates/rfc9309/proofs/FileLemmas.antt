@@ -197,6 +197,7 @@ pub record FileRead (numbers : List (List ℕ)) (groups : List rfc.Group) (text 
   pub read : Each IsRead (file_sources text)
   pub parts : parts_in (file_sources text) ≡ parts_of (map rfc.Delay numbers) groups
   pub none : filter rfc.is_rule (parts_in (file_sources text)).ungrouped ≡ []
+  pub same : (parts_in (file_sources text)).groups ≡ groups
   pub lists : (addresses : List (List ℕ)) × rfc.ListsSitemaps addresses text
 
 pub file_with : (text : List ℕ) (numbers : List (List ℕ)) (groups : List rfc.Group)
@@ -212,6 +213,7 @@ file_with text numbers groups file =
       read = sources_read file all.lines all.whole;
       parts = parts;
       none = ap (λ (p : Parts). filter rfc.is_rule p.ungrouped) parts ∙ no_rules numbers;
+      same = ap (λ (p : Parts). p.groups) parts;
       lists = (
         rfc.addresses_of content.entries,
         with_content file (record {
@@ -225,10 +227,6 @@ file_with text numbers groups file =
 pub file_read : (text : List ℕ) (groups : List rfc.Group) → rfc.IsFile groups text
     → (numbers : List (List ℕ)) × FileRead numbers groups text
 file_read text groups (numbers, file) = (numbers, file_with text numbers groups file)
-
-pub groups_written : (text : List ℕ) (numbers : List (List ℕ)) (groups : List rfc.Group)
-    → FileRead numbers groups text → (parts_in (file_sources text)).groups ≡ groups
-groups_written text numbers groups is = grind arith
 
 trims_read : (sources : List Source) → Each IsRead sources
     → AllZip IsTrimOf (sitemaps_in (lines_in sources)) (addresses_in sources)

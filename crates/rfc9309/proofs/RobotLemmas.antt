@@ -8,7 +8,7 @@ use Rattle.texting_robots.specs.{Line.AreFileLinesOf, Trim.IsTrimOf}
 use Rattle.texting_robots.proofs.Shared.{delay_is_computed, sitemaps_are_computed, rejection_is_computed}
 use Rattle.texting_robots.proofs.Shared.{rules_are_computed, of_lines, each_text_has_its_lines}
 use Rattle.rfc9309.proofs.ReadLemmas.{file_same, file_sources, lines_in}
-use Rattle.rfc9309.proofs.FileLemmas.{FileRead, file_read, file_with, groups_written, sitemaps_are_read}
+use Rattle.rfc9309.proofs.FileLemmas.{FileRead, file_read, file_with, sitemaps_are_read}
 use Rattle.rfc9309.proofs.{GroupLemmas.delay_written, GroupLemmas.rules_written, EntryLemmas.robotstxt_lines}
 use Rattle.rfc9309.proofs.{EntryLemmas.wide_lines, LineFormLemmas.forms_make_file, Sources.Parts}
 use Rattle.rfc9309.specs.StandardRobot.{IsDelayAs, IsRejectedAs, IsRobotAs, delay_among, is_delay, IsReadAs}
@@ -40,7 +40,7 @@ pub rules_read : (text agent : List ℕ) (numbers : List (List ℕ)) (groups : L
     → FileRead numbers groups text
     → AllZip IsReadAs (rfc.rules_for agent groups) (rules_for agent (file_lines text))
 rules_read text agent numbers groups is =
-    rw (← groups_written text numbers groups is, (file_same text agent).0.rules) (
+    rw (← is.same, (file_same text agent).0.rules) (
     rules_written agent _ is.none is.read)
 
 lines_are : (text : List ℕ) → AreFileLinesOf (file_lines text) text

@@ -122,7 +122,7 @@ first_denying (placed ∷ rules) = if denies_all placed then Some placed.line el
 abbrev pub first_mixed : List PlacedRule → Option ℕ
 first_mixed rules = if list_any allows_all rules then first_denying rules else None
 
--- that line for the first crawler that has one
+-- the line that `first_mixed` finds, for the first crawler that has one
 abbrev pub first_mixed_for : List (List ℕ) → List LineValue → Option ℕ
 first_mixed_for [] lines = None
 first_mixed_for (agent ∷ agents) lines =

@@ -1,6 +1,5 @@
 //! Whether a file is in the extended grammar, and whether verdicts on it, for paths and queries in normal
-//! form, are those of the standard, if reserved octets stay; if not, because of which line. The tests are
-//! explained in `specs/Conformance.antt` and `Comparable.antt`, where they have the same names.
+//! form, are those of the standard, if reserved octets stay; if not, because of which line.
 ghost use Rattle.std.specs.Prelude.{◌≡◌, ◌↔◌, ◌<◌, ◌≤◌, ◌==◌, ◌∷◌, ℕ, Bool, Contains, IfOk, List, codes, map};
 ghost use Rattle.std.specs.Prelude.{false, length, take, true};
 ghost use Rattle.texting_robots.specs.Callers.{IsFileRejected, IsRobotOfFile, IsVerdict, RobotValue, escaped};
@@ -288,7 +287,7 @@ fn first_mixed_for(site: &Site, agents: &[&str]) -> Option<usize>
     None
 }
 
-/// That line for the first crawler that has one: `*`, then those that the file names.
+/// The line that `first_mixed` finds for `*`, or for the first crawler that the file names and that has one.
 fn first_mixed_of(
     alloc: Global,
     site: &Site,

@@ -1,5 +1,4 @@
 //! Whether a line is one of the extended grammar. The content of a line is its bytes without the terminator.
-//! The tests are explained in `specs/LineTest.antt`, where they have the same names.
 ghost use Rattle.std.specs.Prelude.{◌≡◌, ◌≤◌, ◌==◌, length, reverse};
 ghost use Rattle.std.specs.List.{list_all, list_any, position_or_len};
 ghost use Rattle.std.specs.Str.{is_utf8, str_eq_ignore_ascii_case};
