@@ -93,7 +93,7 @@ fn stripped<'a>(text: &'a [u8]) -> &'a [u8]
     trim_blanks_end(trim_blanks_start(text))
 }
 
-/// The value of a line, between the first colon and a comment, without spaces and tabs around it.
+/// The value of a line, between the first colon and a comment, trimmed.
 pub(crate) fn value_in<'a>(body: &'a [u8]) -> &'a [u8]
     ensures { result.now ≡ value_in body.now }
 {
@@ -250,8 +250,7 @@ fn is_other_line(body: &[u8]) -> bool
     has(b':', body) && is_other_name(stripped(before(b':', body))) && is_comment(after(b':', body))
 }
 
-/// A line of the grammar other than a user-agent line; `below`: a user-agent line is above it, so it may be a
-/// rule.
+/// A line of the grammar other than a user-agent line; a rule only if a user-agent line is above (`below`).
 #[tactic(auto, unfolding(crate::specs::Conformance::is_line_below))]
 pub(crate) fn is_line_below(below: bool, body: &[u8]) -> bool
     ensures { result ≡ is_line_below below body.now }

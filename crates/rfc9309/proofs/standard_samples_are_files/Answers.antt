@@ -88,23 +88,25 @@ is_file =
     )))
     ∷ row (rfc.InGroup delay) _ (inr (inr (delay_passes lf feed (codes "Crawl-delay: 1.5") refl)))
     ∷ row rfc.Nothing _ (inr (form_passes lf feed Other (codes "Host: a # b") refl)) ∷ [] in
-    let wide = wide_lines bare.entries sample.bare_text bare.are_lines in
-    (codes "2" ∷ [], record {
-      bom = 0xEF ∷ 0xBB ∷ 0xBF ∷ [];
-      rest = drop 3 sample.wide_text;
-      nl = lf;
-      whole = refl;
-      is_bom = inr refl;
-      is_nl = inr feed;
-      is_content = record {
-        entries = entries_in lines ++ bare.entries;
-        are_lines =
-            lines_both rfc.IsLine (entries_in lines) bare.entries (text_in lines) sample.bare_text
-            (rows lines) wide;
-        above = refl;
-        written = rw (bare.none_above, ← bare.written) refl;
-      };
-    })
+    let wide = wide_lines bare.entries sample.bare_text bare.are_lines in (
+      codes "2" ∷ [],
+      record {
+        bom = 0xEF ∷ 0xBB ∷ 0xBF ∷ [];
+        rest = drop 3 sample.wide_text;
+        nl = lf;
+        whole = refl;
+        is_bom = inr refl;
+        is_nl = inr feed;
+        is_content = record {
+          entries = entries_in lines ++ bare.entries;
+          are_lines =
+              lines_both rfc.IsLine (entries_in lines) bare.entries (text_in lines) sample.bare_text
+              (rows lines) wide;
+          above = refl;
+          written = rw (bare.none_above, ← bare.written) refl;
+        };
+      },
+    )
 
 pub returns : goal.returns
 unfolding cut line_of statement_of delay_of written kept_end kept_start spans_from pieces_from is_utf8 chars
