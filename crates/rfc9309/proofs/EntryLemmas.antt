@@ -149,9 +149,7 @@ token_group token line lead rest [] (next ∷ groups) is are (first, later, whol
     whole = rw group.whole (simp append_assoc);
     is_start = is;
     are_agents =
-        subst (λ tokens. rfc.Repeats (rfc.IsOneOr rfc.IsStartGroupLine rfc.IsEmptyLine) tokens
-        (lead ++ (group.start ++ group.agents))) (sym group.written)
-        (repeats_both (only_gaps rfc.IsStartGroupLine lead are)
+        rw group.written (repeats_both (only_gaps rfc.IsStartGroupLine lead are)
         (repeats_both (repeats_one _ (group.token ∷ []) group.start (inl (group.token, group.is_start, refl)))
         group.are_agents));
     written = refl;

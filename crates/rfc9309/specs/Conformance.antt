@@ -69,7 +69,7 @@ abbrev pub is_apart : List ℕ → Bool
 is_apart body =
     has_form Rule body && not (is_plain_path (value_in body) && is_read_as_written (value_in body))
 
--- what is above the line after this one, by what is above this one
+-- what is above the line after this one
 abbrev pub next_above : Above → LineValue → Above
 next_above over.Delay (UserAgent name) = over.Split
 next_above over.Split (UserAgent name) = over.Split

@@ -449,6 +449,6 @@ abbrev pub is_no_delay : Entry → Bool
 is_no_delay (InGroup (Delay number)) = false
 is_no_delay entry = true
 
--- the groups of a file's lines, delays left out; these are `merged (without_delays groups)`
+-- the groups of a file's lines, delays left out; these are `merged (without_delays (groups_of entries))`
 abbrev pub standard_groups : List Entry → List Group
 standard_groups entries = groups_of (filter is_no_delay entries)

@@ -32,7 +32,8 @@ pub enum Conformance {
     OtherLine(usize),
     /// The file is in the grammar; because of this line, verdicts may not be the standard's.
     Syntax(usize),
-    /// And the verdict on each path and query in normal form is the standard's, if reserved octets stay.
+    /// The file is in the grammar, and the verdict on each path and query in normal form is the standard's,
+    /// if reserved octets stay.
     Verdicts,
 }
 
@@ -275,6 +276,7 @@ fn first_mixed(site: &Site, agent: &str) -> Option<usize>
     if allows { denying } else { None }
 }
 
+/// What `first_mixed` finds for the first of the crawlers that has such a line.
 fn first_mixed_for(site: &Site, agents: &[&str]) -> Option<usize>
     ensures { result ≡ first_mixed_for (map (λ agent. agent.now) agents.now) (file_lines site.now) }
 {
@@ -287,7 +289,7 @@ fn first_mixed_for(site: &Site, agents: &[&str]) -> Option<usize>
     None
 }
 
-/// The line that `first_mixed` finds for `*`, or for the first crawler that the file names and that has one.
+/// What `first_mixed` finds for `*`, or else for the first crawler in the file that has such a line.
 fn first_mixed_of(
     alloc: Global,
     site: &Site,
