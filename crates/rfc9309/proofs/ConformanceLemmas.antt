@@ -4,8 +4,7 @@ use Rattle.std.proofs.Common.{None, arith, bytes_eq, filter, refl}
 use Rattle.std.specs.List.{cons_option, enumerate_from, filter_map, list_any}
 use Rattle.std.proofs.lemmas.{Bool.Decides.nat_tests, Bool.cases_Bool, Bool.or_parts}
 use Rattle.texting_robots.specs.Callers.{LineValue, PlacedRule}
-use Rattle.texting_robots.specs.{Escape.escaped, Escape.is_escaped}
-use Rattle.texting_robots.specs.Executable.{placed_in}
+use Rattle.texting_robots.specs.{Escape.escaped, Escape.is_escaped, Executable.placed_in}
 use Rattle.rfc9309.specs.Conformance.{allows_all, first_mixed_for, is_all, is_open}
 
 none_escaped : (text : List ℕ) → bytes_eq (escaped text) [] ≡ bytes_eq text []

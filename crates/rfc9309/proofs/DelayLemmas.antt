@@ -1,21 +1,18 @@
 -- Skipping delays changes no crawler's rules if no rule is below user-agent lines with delays between them.
-use Rattle.std.proofs.Common.{◌≡◌, ◌⊎◌, ℕ, ◌+◌, Bool, true, false, not, ◌||◌, List, [], ◌∷◌, ◌++◌, None}
-use Rattle.std.proofs.Common.{cond, filter, flat_map, inl, inr, refl, sym, ◌∙◌}
-use Rattle.std.proofs.Common.{arith}
+use Rattle.std.proofs.Common.{◌≡◌, ◌⊎◌, ℕ, ◌+◌, Bool, true, false, not, ◌||◌, List, [], ◌∷◌, ◌++◌, None, cond}
+use Rattle.std.proofs.Common.{filter, flat_map, inl, inr, refl, sym, ◌∙◌, arith}
 use Rattle.std.specs.{List.list_all, List.list_any, Str.str_to_ascii_lowercase}
-use Rattle.std.proofs.lemmas.{Bool.and_parts, Bool.cases_Bool, Bool.not-true}
+use Rattle.std.proofs.lemmas.Bool.{and_parts, cases_Bool, not-true}
 use Rattle.std.proofs.lemmas.List.{Elements.filter-append, Folds.list_any-append}
 use Rattle.texting_robots.proofs.Shared.{cond_same}
 use Rattle.texting_robots.specs.Line.{Allow, CrawlDelay, Disallow, UserAgent}
-use Rattle.rfc9309.specs.{Conformance.first_split}
-use Rattle.rfc9309.specs.Rfc9309.{Delay, Group, Member, has_token, is_rule, merged, put_before}
-use Rattle.rfc9309.specs.Rfc9309.{rules_for}
-use Rattle.rfc9309.specs.Rfc9309.{Statement, above_groups, groups_of, is_no_delay, standard_groups}
+use Rattle.rfc9309.specs.Conformance.{first_split}
+use Rattle.rfc9309.specs.Rfc9309.{Delay, Group, Member, has_token, is_rule, merged, put_before, rules_for}
+use Rattle.rfc9309.specs.Rfc9309.{Entry, above_groups, groups_of, is_no_delay, standard_groups}
 use Rattle.rfc9309.specs.Rfc9309.{standard_rules, without_delays}
 use Rattle.rfc9309.specs.Rfc9309 as rfc
-use Rattle.rfc9309.proofs.{GroupLemmas.has, GroupLemmas.is_named, GroupLemmas.theirs}
-use Rattle.rfc9309.proofs.{ReadLemmas.lines_in}
 use Rattle.rfc9309.proofs.Sources.{Source, allowed_in, parts_in, put_both}
+use Rattle.rfc9309.proofs.{GroupLemmas.has, GroupLemmas.is_named, GroupLemmas.theirs, ReadLemmas.lines_in}
 use Rattle.rfc9309.specs.declared.conformance.Above.{Above}
 use Rattle.rfc9309.specs.declared.conformance.Above.TheVariants as over
 
@@ -42,14 +39,14 @@ bare_put tokens members groups = grind (arith, put_both)
 
 -- ---- skipping the delays among the lines does the same
 
-no_delay_above : (statements : List Statement)
-    → above_groups (filter is_no_delay statements) ≡ filter is_rule (above_groups statements)
+no_delay_above : (entries : List Entry)
+    → above_groups (filter is_no_delay entries) ≡ filter is_rule (above_groups entries)
 no_delay_above [] = refl
-no_delay_above (statement ∷ statements) = grind (arith, no_delay_above statements)
+no_delay_above (entry ∷ entries) = grind (arith, no_delay_above entries)
 
-pub bare_statements : (statements : List Statement) → standard_groups statements ≡ bare (groups_of statements)
-bare_statements [] = refl
-bare_statements (statement ∷ statements) = grind (arith, bare_put, no_delay_above, bare_statements statements)
+pub bare_entries : (entries : List Entry) → standard_groups entries ≡ bare (groups_of entries)
+bare_entries [] = refl
+bare_entries (entry ∷ entries) = grind (arith, bare_put, no_delay_above, bare_entries entries)
 
 -- ---- groups
 

@@ -1,7 +1,7 @@
 -- A text whose lines have the forms of the grammar's lines, with each rule below a user-agent line, is a file
 -- of the grammar, and only such a text is one. The text is built from its last line on.
 use Rattle.std.proofs.Common.{◌≡◌, ◌⊎◌, inl, inr, ℕ, List, [], ◌∷◌, ◌++◌, sym, refl, ap, ◌∙◌, append_assoc}
-use Rattle.std.proofs.Common.{◌≢◌, filter, arith, subst}
+use Rattle.std.proofs.Common.{◌≢◌, filter, map, arith, subst}
 use Rattle.std.specs.{List.AllByRecursion as Each, List.AllZip, Prelude.All}
 use Rattle.texting_robots.specs.{Cut.IsBodyByte, Cut.cr, Cut.lf, Internal.Cut.bodies_of, Line.without_bom}
 use Rattle.texting_robots.proofs.Shared.{body_step, step, bodies_nil, byte_cases, each_append}
@@ -13,8 +13,8 @@ use Rattle.texting_robots.specs.Executable.{file_bodies}
 use Rattle.rfc9309.proofs.{HasFormLemmas.form_passes}
 use Rattle.rfc9309.proofs.OtherLemmas.{form_tested, only_empty}
 use Rattle.rfc9309.proofs.ReadLemmas.{nothing_replaced, end_more}
-use Rattle.rfc9309.proofs.FileLemmas.{Line, after_front, bodies_are, forms_of, statements_read}
-use Rattle.rfc9309.proofs.FileLemmas.{joined, line_bodies, no_nul, no_rules, only_delays}
+use Rattle.rfc9309.proofs.FileLemmas.{Line, after_front, bodies_are, forms_of, entries_read}
+use Rattle.rfc9309.proofs.FileLemmas.{joined, line_bodies, no_nul, no_rules}
 use Rattle.rfc9309.specs.Rfc9309 as rfc
 
 abbrev IsEndByte : ℕ → Type 0
@@ -89,38 +89,42 @@ ended_bytes (body ∷ bodies) text (bytes, (end, ends, rest, whole, is_end, are_
 pub bodies_bytes : (text : List ℕ) → Each (Each IsBodyByte) (bodies_of text)
 bodies_bytes text = let (nl, last, are) = completed text in ended_bytes (bodies_of text) (text ++ nl) are
 
--- lines of the grammar; if `Free` holds, no rule is above the first token
-record AreStatements (Free : Type 0) (text : List ℕ) : Type 0 where
-  statements : List rfc.Statement
-  are_lines : rfc.AreLines rfc.IsLine statements text
-  are_free : Free → filter rfc.is_rule (rfc.above_groups statements) ≡ []
+abbrev OnlyDelays : List rfc.Entry → Type 0
+OnlyDelays entries = (numbers : List (List ℕ)) × (rfc.above_groups entries ≡ map rfc.Delay numbers)
 
-module _ {Free : Type 0} (line text : List ℕ) (rest : AreStatements Free text) where
-  statement_before : {Before : Type 0} (statement : rfc.Statement) → rfc.IsLine statement line
-      → (Before → filter rfc.is_rule (rfc.above_groups (statement ∷ rest.statements)) ≡ [])
-      → AreStatements Before (line ++ text)
-  statement_before statement is free = record {
-    statements = statement ∷ rest.statements;
+-- lines of the grammar; if `Free` holds, only delays are above the first token
+record AreEntries (Free : Type 0) (text : List ℕ) : Type 0 where
+  entries : List rfc.Entry
+  are_lines : rfc.AreLines rfc.IsLine entries text
+  are_free : Free → OnlyDelays entries
+
+module _ {Free : Type 0} (line text : List ℕ) (rest : AreEntries Free text) where
+  entry_before : {Before : Type 0} (entry : rfc.Entry) → rfc.IsLine entry line
+      → (Before → OnlyDelays (entry ∷ rest.entries)) → AreEntries Before (line ++ text)
+  entry_before entry is free = record {
+    entries = entry ∷ rest.entries;
     are_lines = (line, text, refl, is, rest.are_lines);
     are_free = free;
   }
 
 form_before : (form : Form) (forms : List Form) (line text : List ℕ) → IsFormOf form line
-    → AreStatements (AreFree forms) text → AreStatements (AreFree (form ∷ forms)) (line ++ text)
-form_before Empty forms line text is rest = statement_before line text rest rfc.Nothing (inl is) rest.are_free
+    → AreEntries (AreFree forms) text → AreEntries (AreFree (form ∷ forms)) (line ++ text)
+form_before Empty forms line text is rest = entry_before line text rest rfc.Nothing (inl is) rest.are_free
 form_before Agent forms line text (token, is) rest =
-    statement_before line text rest (rfc.Agent token) is (λ free. refl)
+    entry_before line text rest (rfc.Agent token) is (λ free. ([], refl))
 form_before Rule forms line text (member, inl is) rest =
-    statement_before line text rest (rfc.InGroup member) (inl is) (λ free. absurd free)
+    entry_before line text rest (rfc.InGroup member) (inl is) (λ free. absurd free)
 form_before Rule forms line text (member, inr is) rest =
-    statement_before line text rest (rfc.InGroup member) (inr (inl is)) (λ free. absurd free)
+    entry_before line text rest (rfc.InGroup member) (inr (inl is)) (λ free. absurd free)
 form_before Delay forms line text (rfc.Delay number, is) rest =
-    statement_before line text rest (rfc.InGroup (rfc.Delay number)) (inr (inr is)) rest.are_free
+    entry_before line text rest (rfc.InGroup (rfc.Delay number)) (inr (inr is)) (λ free.
+    let (numbers, same) = rest.are_free free in
+    (number ∷ numbers, ap (λ more. rfc.Delay number ∷ more) same))
 form_before Delay forms line text (rfc.Allow pattern, is) rest = absurd is
 form_before Delay forms line text (rfc.Disallow pattern, is) rest = absurd is
 form_before Sitemap forms line text (address, is) rest =
-    statement_before line text rest (rfc.Sitemap address) is rest.are_free
-form_before Other forms line text is rest = statement_before line text rest rfc.Nothing (inr is) rest.are_free
+    entry_before line text rest (rfc.Sitemap address) is rest.are_free
+form_before Other forms line text is rest = entry_before line text rest rfc.Nothing (inr is) rest.are_free
 
 is_nl : (end : ℕ) → IsEndByte end → rfc.IsNl (end ∷ [])
 is_nl end is = grind arith
@@ -136,23 +140,23 @@ end_empty end is = record {
   is_nl = is_nl end is;
 }
 
-ends_before : {Free : Type 0} (ends text : List ℕ) → Each IsEndByte ends → AreStatements Free text
-    → AreStatements Free (ends ++ text)
+ends_before : {Free : Type 0} (ends text : List ℕ) → Each IsEndByte ends → AreEntries Free text
+    → AreEntries Free (ends ++ text)
 ends_before [] text are rest = rest
 ends_before (end ∷ ends) text are rest =
     let after = ends_before ends text are.1 rest in
-    statement_before (end ∷ []) (ends ++ text) after rfc.Nothing (inl (end_empty end are.0)) after.are_free
+    entry_before (end ∷ []) (ends ++ text) after rfc.Nothing (inl (end_empty end are.0)) after.are_free
 
-statements_from : (forms : List Form) (bodies : List (List ℕ)) (text : List ℕ) → AllZip HasForm forms bodies
-    → AreEnded bodies text → AreStatements (AreFree forms) text
-statements_from [] [] text all none = record { statements = []; are_lines = none; are_free = λ free. refl }
-statements_from [] (body ∷ bodies) text all are = absurd all
-statements_from (form ∷ forms) [] text all are = absurd all
-statements_from (form ∷ forms) (body ∷ bodies) text (is, all)
+entries_from : (forms : List Form) (bodies : List (List ℕ)) (text : List ℕ) → AllZip HasForm forms bodies
+    → AreEnded bodies text → AreEntries (AreFree forms) text
+entries_from [] [] text all none = record { entries = []; are_lines = none; are_free = λ free. ([], refl) }
+entries_from [] (body ∷ bodies) text all are = absurd all
+entries_from (form ∷ forms) [] text all are = absurd all
+entries_from (form ∷ forms) (body ∷ bodies) text (is, all)
     (bytes, (end, ends, rest, whole, is_end, are_ends, are)) =
     let ended =
     form_passes (end ∷ []) (is_nl end is_end) form body (form_tested body bytes form is) in
-    let after = ends_before ends rest are_ends (statements_from forms bodies rest all are) in
+    let after = ends_before ends rest are_ends (entries_from forms bodies rest all are) in
     let joined : text ≡ (body ++ end ∷ []) ++ (ends ++ rest) = whole ∙ simp append_assoc in
     rw joined (form_before form forms (body ++ end ∷ []) (ends ++ rest) ended after)
 
@@ -166,9 +170,9 @@ forms_make_file text forms are =
     let bodies : file_bodies text ≡ bodies_of rest =
     ap (λ t. bodies_of (without_bom t)) (nothing_replaced text no_nul) in
     let each : AllZip HasForm forms _ = subst (AllZip HasForm forms) bodies are.each in
-    let all = statements_from forms _ (rest ++ nl) each ended in
-    let (numbers, above) = only_delays (rfc.above_groups all.statements) (all.are_free are.below) in (
-      rfc.groups_of all.statements,
+    let all = entries_from forms _ (rest ++ nl) each ended in
+    let (numbers, above) = all.are_free are.below in (
+      rfc.groups_of all.entries,
       numbers,
       record {
         bom = bom;
@@ -178,7 +182,7 @@ forms_make_file text forms are =
         is_bom = is_bom;
         is_nl = last;
         is_content = record {
-          statements = all.statements;
+          entries = all.entries;
           are_lines = all.are_lines;
           above = above;
           written = refl;
@@ -247,7 +251,7 @@ pub file_has_forms : (text : List ℕ) (groups : List rfc.Group) → rfc.IsFile 
     → (forms : List Form) × AreForms forms text
 file_has_forms text groups (numbers, file) =
     let content = file.is_content in
-    let all = statements_read content.statements (file.rest ++ file.nl) content.are_lines in
+    let all = entries_read content.entries (file.rest ++ file.nl) content.are_lines in
     let lines = all.lines in
     let every =
     each_append (λ b. b ≢ 0) file.bom file.rest (bom_no_nul file.bom file.is_bom)

@@ -1,23 +1,18 @@
 -- The robot of a file in the standard's grammar has the rules, the delay and the sitemaps that the file
 -- states. A file in the standard's own grammar is also one in the extended grammar.
-use Rattle.std.proofs.Common.{ap}
-use Rattle.std.specs.Prelude.{take}
+use Rattle.std.specs.{Prelude.take, List.AllZip}
 use Rattle.std.proofs.Common.{inl, ℕ, List, [], refl, sym, subst, append-nil, ◌≡◌, ◌∷◌, filter, map, ◌∙◌}
 use Rattle.texting_robots.specs.Executable.{delay_for, file_lines, placed_rules, rules_for}
 use Rattle.texting_robots.specs.Robot.{IsFileRejected, IsRobotOf, IsRobotOfFile, RobotValue, file_limit}
 use Rattle.texting_robots.specs.{Line.AreFileLinesOf, Trim.IsTrimOf}
 use Rattle.texting_robots.proofs.Shared.{delay_is_computed, sitemaps_are_computed, rejection_is_computed}
 use Rattle.texting_robots.proofs.Shared.{rules_are_computed, of_lines, each_text_has_its_lines}
-use Rattle.rfc9309.proofs.GroupLemmas.{delay_written, rules_written}
 use Rattle.rfc9309.proofs.ReadLemmas.{file_same, file_sources, lines_in}
-use Rattle.rfc9309.proofs.FileLemmas.{FileRead, file_read, file_with, groups_written}
-use Rattle.rfc9309.proofs.FileLemmas.{sitemaps_are_read}
-use Rattle.rfc9309.proofs.StatementLemmas.{robotstxt_lines, wide_lines}
-use Rattle.rfc9309.proofs.{LineFormLemmas.forms_make_file, Sources.Parts}
-use Rattle.rfc9309.specs.StandardRobot.{IsDelayAs, IsRejectedAs, IsRobotAs, delay_among}
-use Rattle.rfc9309.specs.StandardRobot.{is_delay, IsReadAs}
+use Rattle.rfc9309.proofs.FileLemmas.{FileRead, file_read, file_with, sitemaps_are_read}
+use Rattle.rfc9309.proofs.{GroupLemmas.delay_written, GroupLemmas.rules_written, EntryLemmas.robotstxt_lines}
+use Rattle.rfc9309.proofs.{EntryLemmas.wide_lines, LineFormLemmas.forms_make_file, Sources.Parts}
+use Rattle.rfc9309.specs.StandardRobot.{IsDelayAs, IsRejectedAs, IsRobotAs, delay_among, is_delay, IsReadAs}
 use Rattle.rfc9309.specs.LineForms.{AreForms, Form}
-use Rattle.std.specs.{List.AllZip}
 use Rattle.rfc9309.specs.Rfc9309 as rfc
 
 pub robotstxt_is_file : (text : List ℕ) (groups : List rfc.Group) → rfc.IsRobotstxt groups text
@@ -33,8 +28,8 @@ robotstxt_is_file text groups is =
         is_bom = inl refl;
         is_nl = inl refl;
         is_content = subst (rfc.IsExtendedByLines [] (rfc.merged groups)) (sym (append-nil text)) (record {
-          statements = by_lines.statements;
-          are_lines = wide_lines by_lines.statements text by_lines.are_lines;
+          entries = by_lines.entries;
+          are_lines = wide_lines by_lines.entries text by_lines.are_lines;
           above = by_lines.none_above;
           written = by_lines.written;
         });
@@ -45,7 +40,7 @@ pub rules_read : (text agent : List ℕ) (numbers : List (List ℕ)) (groups : L
     → FileRead numbers groups text
     → AllZip IsReadAs (rfc.rules_for agent groups) (rules_for agent (file_lines text))
 rules_read text agent numbers groups is =
-    rw (← groups_written text numbers groups is, (file_same text agent).0.rules) (
+    rw (← is.same, (file_same text agent).0.rules) (
     rules_written agent _ is.none is.read)
 
 lines_are : (text : List ℕ) → AreFileLinesOf (file_lines text) text

@@ -1,19 +1,17 @@
 -- The verdict of rules that are read from rules of the grammar is that of the standard.
-use Rattle.std.proofs.Common.{◌≡◌, ◌≢◌, ◌↔◌, ◌⊎◌, ℕ, zero, suc, Bool, true, false, inl, inr, List, []}
-use Rattle.std.proofs.Common.{◌∷◌, refl, codes, length, sym, ap, ◌∙◌, arith, subst}
-use Rattle.std.proofs.{Common.length-append}
+use Rattle.std.proofs.Common.{◌≡◌, ◌≢◌, ◌↔◌, ◌⊎◌, ℕ, zero, suc, Bool, true, false, inl, inr, List, [], ◌∷◌}
+use Rattle.std.proofs.Common.{refl, codes, length, sym, ap, ◌∙◌, arith, subst, length-append}
 use Rattle.std.specs.List.{AllByRecursion as Each, AllZip, Contains, list_any}
 use Rattle.std.proofs.lemmas.List.Elements.{All-contains, All-from_recursion}
 use Rattle.texting_robots.specs.Callers.{IsDenied, IsRobotOfFile, IsVerdict, Matches, RobotValue, Rule}
 use Rattle.texting_robots.specs.Callers.{escaped, unplaced}
 use Rattle.texting_robots.specs.{Escape.is_escaped, Trim.IsTrimOf}
 use Rattle.texting_robots.proofs.Shared.{plain_stays, is_trimmed, same_verdicts}
-use Rattle.rfc9309.specs.{StandardRobot.IsReadAs, Rfc9309.IsFileWith, Comparable.AreComparable}
-use Rattle.rfc9309.specs.Comparable.{IsPathOf, IsPlainPath}
-use Rattle.rfc9309.specs.Matching.{IsDisallowed, IsMatch, IsRfcVerdict, Reading, normal_uri}
-use Rattle.rfc9309.specs.Matching.{octets}
-use Rattle.rfc9309.proofs.{FileLemmas.file_with, RobotLemmas.robot_as}
+use Rattle.rfc9309.specs.Comparable.{AreComparable, IsPathOf, IsPlainPath}
+use Rattle.rfc9309.specs.Matching.{IsDisallowed, IsMatch, IsRfcVerdict, Reading, normal_uri, octets}
+use Rattle.rfc9309.specs.{StandardRobot.IsReadAs, Rfc9309.IsFileWith}
 use Rattle.rfc9309.proofs.NormalLemmas.{end_of, escaped_parts, matches_so}
+use Rattle.rfc9309.proofs.{FileLemmas.file_with, RobotLemmas.robot_as}
 use Rattle.rfc9309.specs.Rfc9309 as rfc
 
 zip_swap : {A B : Type 0} (R : A → B → Type 0) (xs : List A) (ys : List B) → AllZip R xs ys

@@ -45,7 +45,6 @@ as_in_table in_query b = not (in_query && is_one_of (codes ":/") b)
 abbrev pub in_rule : Reading → Reading
 in_rule stays in_query b = b == byte "*" || (not (b == byte "$") && stays in_query b)
 
--- which octets of a URI stay: not `*`, `$` and `#`
 abbrev pub in_uri : Reading → Reading
 in_uri stays in_query b = not (is_one_of (codes "*$#") b) && stays in_query b
 
@@ -61,7 +60,6 @@ is_kept stays in_query b =
 abbrev pub normal_octet : Reading → Bool → ℕ → List ℕ
 normal_octet stays in_query b = if is_kept stays in_query b then b ∷ [] else percent_encoded b
 
--- three octets are a `%` with two hexadecimal digits
 abbrev pub is_escape : ℕ → ℕ → ℕ → Bool
 is_escape b high low = b == byte "%" && (is_ascii_hexdigit high && is_ascii_hexdigit low)
 

@@ -280,18 +280,18 @@ IsStarRule (Delay number) text = ⊥
 
 -- what a line states: a product token, a member of a group, the address of a sitemap, or nothing that counts
 -- here
-pub data Statement : Type 0 where
-  Agent : List ℕ → Statement
-  InGroup : Member → Statement
-  Sitemap : List ℕ → Statement
-  Nothing : Statement
+pub data Entry : Type 0 where
+  Agent : List ℕ → Entry
+  InGroup : Member → Entry
+  Sitemap : List ℕ → Entry
+  Nothing : Entry
 
 -- the text is lines, one after the other, which state these, one each
-abbrev pub AreLines : (Line : Statement → List ℕ → Type 0) → List Statement → List ℕ → Type 0
+abbrev pub AreLines : (Line : Entry → List ℕ → Type 0) → List Entry → List ℕ → Type 0
 AreLines Line [] text = text ≡ []
-AreLines Line (statement ∷ statements) text =
-    (line : List ℕ) × (rest : List ℕ) × (text ≡ line ++ rest) × Line statement line
-    × AreLines Line statements rest
+AreLines Line (entry ∷ entries) text =
+    (line : List ℕ) × (rest : List ℕ) × (text ≡ line ++ rest) × Line entry line
+    × AreLines Line entries rest
 
 -- a group before others; without members, its tokens go to the first of these
 abbrev pub put_before : List (List ℕ) → List Member → List Group → List Group
@@ -307,23 +307,23 @@ merged [] = []
 merged (group ∷ later) = put_before group.tokens group.members (merged later)
 
 -- the members above the first token
-abbrev pub above_groups : List Statement → List Member
+abbrev pub above_groups : List Entry → List Member
 above_groups [] = []
-above_groups (Agent token ∷ statements) = []
-above_groups (InGroup member ∷ statements) = member ∷ above_groups statements
-above_groups (Sitemap address ∷ statements) = above_groups statements
-above_groups (Nothing ∷ statements) = above_groups statements
+above_groups (Agent token ∷ entries) = []
+above_groups (InGroup member ∷ entries) = member ∷ above_groups entries
+above_groups (Sitemap address ∷ entries) = above_groups entries
+above_groups (Nothing ∷ entries) = above_groups entries
 
 -- Each token begins a group, with the members up to the next token. Tokens with no member between them are
 -- those of one group. A delay is a member here, so it ends a list of tokens, as in this library;
 -- `standard_groups` has the groups as the standard sees them.
-abbrev pub groups_of : List Statement → List Group
+abbrev pub groups_of : List Entry → List Group
 groups_of [] = []
-groups_of (Agent token ∷ statements) =
-    put_before (token ∷ []) (above_groups statements) (groups_of statements)
-groups_of (InGroup member ∷ statements) = groups_of statements
-groups_of (Sitemap address ∷ statements) = groups_of statements
-groups_of (Nothing ∷ statements) = groups_of statements
+groups_of (Agent token ∷ entries) =
+    put_before (token ∷ []) (above_groups entries) (groups_of entries)
+groups_of (InGroup member ∷ entries) = groups_of entries
+groups_of (Sitemap address ∷ entries) = groups_of entries
+groups_of (Nothing ∷ entries) = groups_of entries
 
 abbrev pub is_rule : Member → Bool
 is_rule (Allow pattern) = true
@@ -331,7 +331,7 @@ is_rule (Disallow pattern) = true
 is_rule (Delay number) = false
 
 -- the standard's own lines: startgroupline / rule / emptyline
-abbrev pub IsStandardLine : Statement → List ℕ → Type 0
+abbrev pub IsStandardLine : Entry → List ℕ → Type 0
 IsStandardLine (Agent token) text = IsStartGroupLine token text
 IsStandardLine (InGroup member) text = IsRule member text
 IsStandardLine (Sitemap address) text = ⊥
@@ -340,10 +340,10 @@ IsStandardLine Nothing text = IsEmptyLine text
 -- robotstxt as a list of lines: no rule is above the first group, and the groups are those that the lines
 -- make
 pub record IsRobotstxtByLines (groups : List Group) (text : List ℕ) : Type 0 where
-  pub statements : List Statement
-  pub are_lines : AreLines IsStandardLine statements text
-  pub none_above : above_groups statements ≡ []
-  pub written : groups ≡ groups_of statements
+  pub entries : List Entry
+  pub are_lines : AreLines IsStandardLine entries text
+  pub none_above : above_groups entries ≡ []
+  pub written : groups ≡ groups_of entries
 
 -- ---- the extended grammar by its lines
 
@@ -354,7 +354,7 @@ abbrev pub IsMemberLine : Member → List ℕ → Type 0
 IsMemberLine member text = IsRule member text ⊎ (IsStarRule member text ⊎ IsDelayLine member text)
 
 -- line = startgroupline / memberline / sitemapline / emptyline / otherline
-abbrev pub IsLine : Statement → List ℕ → Type 0
+abbrev pub IsLine : Entry → List ℕ → Type 0
 IsLine (Agent token) text = IsStartGroupLine token text
 IsLine (InGroup member) text = IsMemberLine member text
 IsLine (Sitemap address) text = IsSitemapLine address text
@@ -363,10 +363,10 @@ IsLine Nothing text = IsEmptyLine text ⊎ IsOtherLine text
 -- lines of the extended grammar (`IsLine`): only these delays are above the first group, and the groups are
 -- those that the lines make
 pub record IsExtendedByLines (numbers : List (List ℕ)) (groups : List Group) (text : List ℕ) : Type 0 where
-  pub statements : List Statement
-  pub are_lines : AreLines IsLine statements text
-  pub above : above_groups statements ≡ map Delay numbers
-  pub written : groups ≡ groups_of statements
+  pub entries : List Entry
+  pub are_lines : AreLines IsLine entries text
+  pub above : above_groups entries ≡ map Delay numbers
+  pub written : groups ≡ groups_of entries
 
 -- a byte order mark in UTF-8, which the standard's grammar doesn't have, or nothing
 abbrev pub IsBom : List ℕ → Type 0
@@ -396,18 +396,18 @@ IsFile groups text = (numbers : List (List ℕ)) × IsFileWith numbers groups te
 
 -- ---- the sitemaps of a file
 
-abbrev pub addresses_of : List Statement → List (List ℕ)
+abbrev pub addresses_of : List Entry → List (List ℕ)
 addresses_of [] = []
-addresses_of (Agent token ∷ statements) = addresses_of statements
-addresses_of (InGroup member ∷ statements) = addresses_of statements
-addresses_of (Sitemap address ∷ statements) = address ∷ addresses_of statements
-addresses_of (Nothing ∷ statements) = addresses_of statements
+addresses_of (Agent token ∷ entries) = addresses_of entries
+addresses_of (InGroup member ∷ entries) = addresses_of entries
+addresses_of (Sitemap address ∷ entries) = address ∷ addresses_of entries
+addresses_of (Nothing ∷ entries) = addresses_of entries
 
 -- lines of the extended grammar (`IsLine`), regardless of groups, which state these addresses
 pub record HasSitemaps (addresses : List (List ℕ)) (text : List ℕ) : Type 0 where
-  pub statements : List Statement
-  pub are_lines : AreLines IsLine statements text
-  pub written : addresses ≡ addresses_of statements
+  pub entries : List Entry
+  pub are_lines : AreLines IsLine entries text
+  pub written : addresses ≡ addresses_of entries
 
 -- the addresses of the file's sitemaplines, in order
 abbrev pub ListsSitemaps : List (List ℕ) → List ℕ → Type 0
@@ -445,10 +445,10 @@ without_delays groups =
 abbrev pub standard_rules : List ℕ → List Group → List Member
 standard_rules agent groups = rules_for agent (merged (without_delays groups))
 
-abbrev pub is_no_delay : Statement → Bool
+abbrev pub is_no_delay : Entry → Bool
 is_no_delay (InGroup (Delay number)) = false
-is_no_delay statement = true
+is_no_delay entry = true
 
--- the groups of a file's lines, delays left out; these are `merged (without_delays groups)`
-abbrev pub standard_groups : List Statement → List Group
-standard_groups statements = groups_of (filter is_no_delay statements)
+-- the groups of a file's lines, delays left out; these are `merged (without_delays (groups_of entries))`
+abbrev pub standard_groups : List Entry → List Group
+standard_groups entries = groups_of (filter is_no_delay entries)

@@ -1,6 +1,5 @@
 //! Whether a file is in the extended grammar, and whether verdicts on it, for paths and queries in normal
-//! form, are those of the standard, if reserved octets stay; if not, because of which line. The tests are
-//! explained in `specs/Conformance.antt` and `Comparable.antt`, where they have the same names.
+//! form, are those of the standard, if reserved octets stay; if not, because of which line.
 ghost use Rattle.std.specs.Prelude.{◌≡◌, ◌↔◌, ◌≤◌, ◌∷◌, ℕ, Bool, Contains, IfOk, List, codes, false, length};
 ghost use Rattle.std.specs.Prelude.{map, take, true};
 ghost use Rattle.texting_robots.specs.Callers.{IsFileRejected, IsRobotOfFile, IsVerdict, RobotValue, escaped};
@@ -33,7 +32,8 @@ pub enum Conformance {
     OtherLine(usize),
     /// The file is in the grammar; because of this line, verdicts may not be the standard's.
     Syntax(usize),
-    /// And the verdict on each path and query in normal form is the standard's, if reserved octets stay.
+    /// The file is in the grammar, and the verdict on each path and query in normal form is the standard's,
+    /// if reserved octets stay.
     Verdicts,
 }
 
@@ -233,6 +233,7 @@ fn first_mixed(site: &Site, agent: &str) -> Option<usize>
     if allows { denying } else { None }
 }
 
+/// What `first_mixed` finds for the first of the crawlers that has such a line.
 fn first_mixed_for(site: &Site, agents: &[&str]) -> Option<usize>
     ensures { result ≡ first_mixed_for (map (λ agent. agent.now) agents.now) (file_lines site.now) }
 {
@@ -245,7 +246,7 @@ fn first_mixed_for(site: &Site, agents: &[&str]) -> Option<usize>
     None
 }
 
-/// That line for the first crawler that has one: `*`, then those that the file names.
+/// What `first_mixed` finds for `*`, or else for the first crawler in the file that has such a line.
 fn first_mixed_of(
     alloc: Global,
     site: &Site,

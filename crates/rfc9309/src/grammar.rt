@@ -1,5 +1,4 @@
 //! Whether a line is one of the extended grammar. The content of a line is its bytes without the terminator.
-//! The tests are explained in `specs/LineTest.antt`, where they have the same names.
 ghost use Rattle.std.specs.Prelude.{◌≡◌};
 ghost use Rattle.std.specs.{List.list_all, List.list_any, Str.str_eq_ignore_ascii_case};
 ghost use Rattle.safe_output.specs.Bytes.{is_blank};
@@ -28,7 +27,7 @@ const NAMES: &[&str] = &[
     "crawldelay",
 ];
 
-/// The value of a line, between the first colon and a comment, without spaces and tabs around it.
+/// The value of a line, between the first colon and a comment, trimmed.
 pub(crate) fn value_in<'a>(body: &'a [u8]) -> &'a [u8]
     ensures { result.now ≡ value_in body.now }
 {
@@ -180,8 +179,7 @@ fn is_other_line(body: &[u8]) -> bool
         && is_comment(after_byte(b':', body))
 }
 
-/// A line of the grammar other than a user-agent line; `below`: a user-agent line is above it, so it may be a
-/// rule.
+/// A line of the grammar other than a user-agent line; a rule only if a user-agent line is above (`below`).
 #[tactic(auto, unfolding(crate::specs::Conformance::is_line_below))]
 pub(crate) fn is_line_below(below: bool, body: &[u8]) -> bool
     ensures { result ≡ is_line_below below body.now }

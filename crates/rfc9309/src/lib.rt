@@ -8,10 +8,10 @@ mod grammar;
 pub mod verdict;
 
 ghost use Rattle.std.specs.Prelude.{◌≡◌, ℕ, All, true, List, codes, take};
-ghost use Rattle.std.specs.{List.AllZip};
-ghost use Rattle.rfc9309.specs.{LineForms.AreForms, LineForms.Form, LineForms.HasForm, LineTest.has_form};
-ghost use Rattle.rfc9309.specs.{Rfc9309.IsFileWith, StandardRobot.IsReadAs};
-ghost use Rattle.rfc9309.specs.StandardRobot.{IsRejectedAs, IsRobotAs};
+ghost use Rattle.std.specs.List.{AllZip};
+ghost use Rattle.rfc9309.specs.LineForms.{AreForms, Form, HasForm};
+ghost use Rattle.rfc9309.specs.StandardRobot.{IsReadAs, IsRejectedAs, IsRobotAs};
+ghost use Rattle.rfc9309.specs.{LineTest.has_form, Rfc9309.IsFileWith};
 ghost use Rattle.texting_robots.specs.Executable.{file_lines, rules_for, sitemaps_in};
 ghost use Rattle.texting_robots.specs.Robot.{IsFileRejected, IsRobotOfFile, RobotValue, file_limit};
 ghost use Rattle.texting_robots.specs.{Cut.IsBodyByte, Trim.IsTrimOf};
@@ -105,7 +105,7 @@ pub fn grammar_is_by_lines()
         → rfc.IsRobotstxtByLines (rfc.merged groups) text }
     ensures printed { (groups : List rfc.Group) (text : List ℕ) → rfc.IsRobotstxtByLines groups text
         → rfc.IsRobotstxt groups text }
-    ensures delays { (groups : List rfc.Group) (statements : List rfc.Statement)
-        → groups ≡ rfc.groups_of statements
-        → rfc.merged (rfc.without_delays groups) ≡ rfc.standard_groups statements }
+    ensures delays { (groups : List rfc.Group) (entries : List rfc.Entry)
+        → groups ≡ rfc.groups_of entries
+        → rfc.merged (rfc.without_delays groups) ≡ rfc.standard_groups entries }
 {}
