@@ -9,7 +9,7 @@ use Rattle.texting_robots.specs.declared.parser.statement.Kind.{Kind, TheVariant
 use Rattle.texting_robots.specs.Internal.Statement.{kind_by, skip_blanks, statement_of}
 use Rattle.texting_robots.proofs.Shared.{found_statement, line_raw, line_stated, statement_found}
 use Rattle.robots_warnings.specs.Conflicts.{begins_with_d, is_empty_disallow}
-use Rattle.robots_warnings.specs.{FieldNames.trim_blanks_start}
+use Rattle.safe_output.specs.{Bytes.trim_blanks_start}
 
 abbrev is_disallow : Option Kind → Bool
 is_disallow (Some Disallow) = true

@@ -6,7 +6,7 @@ ghost use Rattle.robots_warnings.specs.File.{lines_of};
 ghost use Rattle.audit_core.specs.Internal.Agents.{AddsAgent};
 
 use robots_warnings::names::{Names, add_name};
-use robots_warnings::urls::as_text;
+use safe_output::bytes::as_text;
 use std::alloc::{AllocError, Global};
 use std::collections::BTreeSet;
 use texting_robots::labels::LabeledLine;

@@ -1,8 +1,8 @@
 //! The names of crawlers in arguments and in the file of `--expect`.
 
 use crate::error::{Error, Flaw, argument};
-use robots_warnings::rules::has;
 use robots_warnings::tokens::{are_name_bytes, has_space_around};
+use safe_output::bytes::has;
 use std::alloc::Global;
 
 /// A dot and a digit, as in `Googlebot.2`.

@@ -4,9 +4,9 @@ ghost use Rattle.audit_core.specs.Error.{status_after};
 
 use crate::answer::Outcome;
 use robots_warnings::crawlers::{is_near, row_at};
-use robots_warnings::rules::{before_byte, has};
 use robots_warnings::table::{Cause, causes};
 use robots_warnings::urls::begins_as_url;
+use safe_output::bytes::{before_byte, has};
 use safe_output::report::{Named, Report};
 use safe_output::streams::{ReadError, WriteError};
 use std::alloc::{AllocError, AllocFailed, Global};

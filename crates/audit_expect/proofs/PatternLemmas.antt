@@ -10,7 +10,7 @@ use Rattle.texting_robots.specs.Callers.{IsVerdict, Matches, PlacedRule, Rule, e
 use Rattle.texting_robots.specs.Pattern.{MatchesWith, star}
 use Rattle.robots_rules.specs.Same.{HaveSameVerdicts}
 use Rattle.robots_rules.proofs.TogetherLemmas.{of_map}
-use Rattle.robots_warnings.specs.Rules.{before_byte}
+use Rattle.safe_output.specs.{Bytes.before_byte}
 use Rattle.audit_expect.specs.Patterns.{IsPathOf}
 
 starred : (front back text : List ℕ) → Matches (front ++ back) text → Matches (front ++ star ∷ back) text

@@ -4,7 +4,7 @@ use Rattle.std.specs.Prelude.{Option, Some, None, bytes_eq, codes, filter, flat_
 use Rattle.std.specs.Prelude.{◌||◌, ◌≡◌, map, nat_lt, option_map, take}
 use Rattle.std.specs.List.{ends_with, slice_split, starts_with}
 use Rattle.std.specs.Str.{byte, str_eq_ignore_ascii_case}
-use Rattle.robots_warnings.specs.Rules.{after_byte, before_byte, has}
+use Rattle.safe_output.specs.Bytes.{after_byte, before_byte, has}
 use Rattle.robots_warnings.specs.Facts.{mark, without_start}
 
 -- the URL, or each path that the pattern matches, must be allowed to the crawler, or denied

@@ -12,10 +12,10 @@ use audit_core::crawler::is_crawler_name;
 use audit_core::error::{Error, Flaw, MalformedLine};
 use robots_warnings::crawlers::{is_wrong, meant};
 use robots_warnings::facts::without_utf8_bom;
-use robots_warnings::rules::{after_byte, before_byte, has};
 use robots_warnings::spellings::{Spelling, spelled};
 use robots_warnings::targets::has_dot_segment;
-use robots_warnings::urls::{as_text, is_absolute_url};
+use robots_warnings::urls::is_absolute_url;
+use safe_output::bytes::{after_byte, as_text, before_byte, has};
 use std::alloc::{AllocError, Global};
 
 /// What has to be allowed or denied.

@@ -7,7 +7,7 @@ ghost use Rattle.audit_expect.specs.{Patterns.AreDecidedAs, Internal.Expectation
 use crate::other_reading::decision_of;
 use robots_rules::compare::{Comparison, compare};
 use robots_rules::rule::Rule;
-use robots_warnings::rules::before_byte;
+use safe_output::bytes::before_byte;
 use std::alloc::{AllocError, Global};
 use texting_robots::minregex::MinRegex;
 use texting_robots::robot::Decision;

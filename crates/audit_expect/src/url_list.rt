@@ -6,8 +6,8 @@ use audit_core::crawler::is_crawler_name;
 use audit_core::error::{EntryKind, Error, Flaw, argument};
 use audit_core::request::Request;
 use robots_warnings::facts::without_utf8_bom;
-use robots_warnings::rules::{has, somewhere};
-use robots_warnings::urls::{as_text, begins_as_url};
+use robots_warnings::urls::begins_as_url;
+use safe_output::bytes::{as_text, has, somewhere};
 use std::alloc::{AllocError, Global};
 
 /// White space of ASCII, or a no-break space.

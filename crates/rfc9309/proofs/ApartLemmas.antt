@@ -1,44 +1,41 @@
 -- If no line is apart (`line_apart`), each verdict is that of the standard.
-use Rattle.std.proofs.Common.{◌≡◌, ◌≢◌, ◌≤◌, ◌<◌, ◌↔◌, ℕ, ◌+◌, ◌-◌, ◌*◌, ◌==◌, ◌||◌, Bool}
-use Rattle.std.proofs.Common.{true, false, not, inl, inr, List, [], ◌∷◌, ◌++◌, Any, Contains, Option}
-use Rattle.std.proofs.Common.{None, Some, ap, arith, codes, bytes_eq, filter, flat_map, if◌then◌else◌}
-use Rattle.std.proofs.Common.{length, map, nat_eq, nat_le, refl, suc, subst, sym, zero, ◌∙◌}
-use Rattle.std.specs.{List.AllByRecursion as Each, List.AllZip, List.ends_with}
-use Rattle.std.specs.{List.list_any, List.position_from, Option.option_or}
-use Rattle.std.proofs.lemmas.Bool.{and_parts, both_ways, cases_Bool, eqb-true, Decides.nat_tests}
-use Rattle.std.proofs.lemmas.Bool.{not-false, not-true, leb-true, or_cases}
+use Rattle.std.proofs.Common.{◌≡◌, ◌≢◌, ◌≤◌, ◌<◌, ◌↔◌, ℕ, ◌+◌, ◌-◌, ◌*◌, ◌==◌, ◌||◌, Bool, true, false, not}
+use Rattle.std.proofs.Common.{inl, inr, List, [], ◌∷◌, ◌++◌, Any, Contains, Option, None, Some, ap, arith}
+use Rattle.std.proofs.Common.{codes, bytes_eq, filter, flat_map, if◌then◌else◌, length, map, nat_eq, nat_le}
+use Rattle.std.proofs.Common.{refl, suc, subst, sym, zero, ◌∙◌}
+use Rattle.std.specs.List.{AllByRecursion as Each, AllZip, ends_with, list_any, position_from}
+use Rattle.std.specs.Option.{option_or}
+use Rattle.std.proofs.lemmas.Bool.{and_parts, both_ways, cases_Bool, eqb-true, not-false, not-true, leb-true}
+use Rattle.std.proofs.lemmas.Bool.{or_cases}
+use Rattle.std.proofs.lemmas.Simd.{map-map}
+use Rattle.std.proofs.lemmas.Bool.Decides.{nat_tests}
 use Rattle.std.proofs.lemmas.List.Folds.{list_any-from_Any}
-use Rattle.std.proofs.lemmas.{Simd.map-map, Slice.Eq.bytes_eq-Decides}
+use Rattle.std.proofs.lemmas.Slice.Eq.{bytes_eq-Decides}
 use Rattle.texting_robots.specs.Callers.{IsRobotOfFile, IsVerdict, PlacedRule, RobotValue, Rule, escaped}
-use Rattle.texting_robots.specs.Callers.{IsFileRejected, IsOverlong, agents_in, placed_rules}
-use Rattle.texting_robots.specs.Callers.{unplaced}
-use Rattle.texting_robots.specs.{Trim.IsTrimOf, Cut.IsBodyByte, Cut.lf}
+use Rattle.texting_robots.specs.Callers.{IsFileRejected, IsOverlong, agents_in, placed_rules, unplaced}
 use Rattle.texting_robots.specs.Executable.{file_bodies, file_lines, rules_for}
+use Rattle.texting_robots.specs.Line.{Allow, CrawlDelay, Disallow, LineValue, Raw, UserAgent, nul_as_lf}
+use Rattle.texting_robots.specs.Line.{without_bom}
+use Rattle.texting_robots.specs.{Trim.IsTrimOf, Cut.IsBodyByte, Cut.lf}
 use Rattle.texting_robots.specs.Internal.{Line.line_of, Statement.trimmed}
 use Rattle.texting_robots.proofs.Shared.{placed_of, each_append, is_trimmed, trimmed_is_trim, length_within}
 use Rattle.rfc9309.specs.Comparable.{AreComparable, IsPathOf, has_odd_escape}
-use Rattle.rfc9309.specs.Conformance.{allows_all, denies_all, first_denying, first_mixed}
-use Rattle.rfc9309.specs.Conformance.{first_mixed_for, first_split, front_of, is_all, is_apart}
-use Rattle.rfc9309.specs.Conformance.{is_odd_octet, is_plain_path, is_read_as_written, line_apart}
-use Rattle.rfc9309.specs.HasForm.{is_pattern, value_in}
+use Rattle.rfc9309.specs.Conformance.{allows_all, denies_all, first_denying, first_mixed, first_mixed_for}
+use Rattle.rfc9309.specs.Conformance.{first_split, front_of, is_all, is_apart, is_odd_octet, is_plain_path}
+use Rattle.rfc9309.specs.Conformance.{is_read_as_written, line_apart}
 use Rattle.rfc9309.specs.LineForms.{Form, HasForm, Agent, Delay, Empty, Other}
-use Rattle.rfc9309.specs.Matching.{IsRfcVerdict, all_stay, has_dollar, normal_from, normal_uri}
-use Rattle.rfc9309.specs.Matching.{octets}
-use Rattle.rfc9309.specs.StandardRobot.{IsReadAs}
+use Rattle.rfc9309.specs.Matching.{IsRfcVerdict, all_stay, has_dollar, normal_from, normal_uri, octets}
+use Rattle.rfc9309.specs.{LineTest.is_pattern, LineTest.value_in, StandardRobot.IsReadAs}
 use Rattle.rfc9309.proofs.DelayLemmas.{Fine, rules_unsplit, unsplit}
-use Rattle.rfc9309.proofs.{NormalLemmas.escaped_plain, PlainLemmas.plain_compared, ReadLemmas.lines_in}
-use Rattle.rfc9309.proofs.{RobotLemmas.rejected_as}
-use Rattle.rfc9309.proofs.{RobotLemmas.rules_read}
-use Rattle.rfc9309.proofs.FileLemmas.{FileRead, file_with, groups_written, has_delays}
-use Rattle.rfc9309.proofs.KeyedLemmas.{IsLineOf}
+use Rattle.rfc9309.proofs.FileLemmas.{FileRead, file_with}
 use Rattle.rfc9309.proofs.LineFormLemmas.{bodies_bytes, file_has_forms}
 use Rattle.rfc9309.proofs.MemberLemmas.{delay_line, sitemap_line, token_line}
 use Rattle.rfc9309.proofs.OtherLemmas.{before_end, empty_line, form_tested, other_line}
-use Rattle.rfc9309.proofs.Sources.{Parts, Source, allowed_in, is_not_raw, member_in, parts_in}
-use Rattle.rfc9309.proofs.Sources.{parts_of, source_of, with_source, written}
+use Rattle.rfc9309.proofs.Sources.{Parts, Source, allowed_in, is_not_raw, member_in, parts_in, parts_of}
+use Rattle.rfc9309.proofs.Sources.{source_of, with_source, written}
 use Rattle.rfc9309.proofs.VerdictLemmas.{each_contains, octets_are, robot_agrees, zip_has, zip_right}
-use Rattle.texting_robots.specs.Line.{Allow, CrawlDelay, Disallow, LineValue, Raw, UserAgent}
-use Rattle.texting_robots.specs.Line.{nul_as_lf, without_bom}
+use Rattle.rfc9309.proofs.{NormalLemmas.escaped_plain, PlainLemmas.plain_compared, ReadLemmas.lines_in}
+use Rattle.rfc9309.proofs.{RobotLemmas.rejected_as, RobotLemmas.rules_read, KeyedLemmas.IsLineOf}
 use Rattle.rfc9309.specs.declared.conformance.Above.TheVariants as over
 use Rattle.rfc9309.specs.LineForms as shape
 use Rattle.rfc9309.specs.Rfc9309 as rfc
@@ -260,17 +257,17 @@ module _ (text : List ℕ) (near : line_apart text ≡ None) (groups : List rfc.
   reasons = grind (arith, both_none)
 
   abbrev numbers : List (List ℕ)
-  numbers = (has_delays text groups is).0
+  numbers = is.0
 
   abbrev read : FileRead numbers groups text
-  read = file_with text numbers groups (has_delays text groups is).1
+  read = file_with text numbers groups is.1
 
-  groups_are : (parts_in sources).groups ≡ rfc.merged groups
+  groups_are : (parts_in sources).groups ≡ groups
   groups_are =
-      ap (λ (parts : Parts). parts.groups) (sym (raw_parts sources)) ∙ groups_written text numbers groups read
+      ap (λ (parts : Parts). parts.groups) (sym (raw_parts sources)) ∙ read.same
 
   abbrev members : List ℕ → List rfc.Member
-  members agent = rfc.rules_for agent (rfc.merged groups)
+  members agent = rfc.rules_for agent groups
 
   fine : (agent : List ℕ) (member : rfc.Member) → Contains (members agent) member → IsFineMember member
   fine agent member has =
@@ -278,7 +275,7 @@ module _ (text : List ℕ) (near : line_apart text ≡ None) (groups : List rfc.
       let all = sources_fine forms (file_bodies text) 1 (bodies_bytes (without_bom (map nul_as_lf text)))
       are.each reasons.0 in
       each_contains IsFineMember (members agent) member
-      (rules_fine agent (rfc.merged groups) (subst HaveFine groups_are (parts_fine sources all).1)) has
+      (rules_fine agent groups (subst HaveFine groups_are (parts_fine sources all).1)) has
 
   lines_same : lines_in sources ≡ lines
   lines_same = grind (arith, map-map, source_of)
@@ -355,7 +352,7 @@ module _ (text : List ℕ) (near : line_apart text ≡ None) (groups : List rfc.
         subst (λ rules. IsVerdict (unplaced robot.rules) uri answer
         ↔ IsRfcVerdict all_stay (octets all_stay) rules uri answer) (whole_groups agent)
         (robot_agrees all_stay (octets all_stay) agent text uri groups numbers robot answer
-        (has_delays text groups is).1 of comparable)
+        is.1 of comparable)
       where
         fine_path : (path : List ℕ) → IsPathOf (members agent) path → IsFine path
         fine_path path (inl has) = fine agent (rfc.Allow path) has

@@ -1,56 +1,11 @@
 -- The tests of lines, as the code makes them.
-use Rattle.std.proofs.Common.{◌≡◌, ℕ, ◌+◌, ◌-◌, ◌==◌, Bool, true, false, inl, inr, List, [], ◌∷◌}
-use Rattle.std.proofs.Common.{◌++◌, None, ap, arith, bytes_eq, drop, filter, length, refl, reverse}
-use Rattle.std.proofs.Common.{subst, suc, sym, take, ◌∙◌}
-use Rattle.std.specs.List.{cons_option, enumerate_from, filter_map, list_any, position_or_len}
-use Rattle.std.proofs.lemmas.{Bool.Decides.nat_tests, Bool.cases_Bool, Bool.or_parts, List.length-drop}
-use Rattle.std.proofs.lemmas.{List.reverse-append}
-use Rattle.std.proofs.{lemmas.List.take_all}
+use Rattle.std.proofs.Common.{◌≡◌, ℕ, ◌+◌, ◌-◌, ◌==◌, Bool, true, false, List, [], ◌∷◌}
+use Rattle.std.proofs.Common.{None, arith, bytes_eq, filter, refl}
+use Rattle.std.specs.List.{cons_option, enumerate_from, filter_map, list_any}
+use Rattle.std.proofs.lemmas.{Bool.Decides.nat_tests, Bool.cases_Bool, Bool.or_parts}
 use Rattle.texting_robots.specs.Callers.{LineValue, PlacedRule}
-use Rattle.texting_robots.specs.{Escape.escaped, Escape.is_escaped}
-use Rattle.texting_robots.specs.Executable.{placed_in}
-use Rattle.rfc9309.specs.HasForm.{is_blank, kept_before, text_before, text_from, trim_blanks_start}
-use Rattle.rfc9309.specs.HasForm.{trim_blanks_end}
+use Rattle.texting_robots.specs.{Escape.escaped, Escape.is_escaped, Executable.placed_in}
 use Rattle.rfc9309.specs.Conformance.{allows_all, first_mixed_for, is_all, is_open}
-
-module _ (stop : ℕ) where
-  abbrev place : List ℕ → ℕ
-  place text = position_or_len (λ b. b == stop) text
-
-  next_place : (text : List ℕ) → 1 + place text ≡ suc (place text)
-  next_place text = omega arith
-
-  pub before_place : (text : List ℕ) → text_before stop text ≡ take (place text) text
-  before_place [] = refl
-  before_place (b ∷ text) = grind (arith, cases_Bool, next_place, before_place text)
-
-  pub from_place : (text : List ℕ) → text_from stop text ≡ drop (place text) text
-  from_place [] = refl
-  from_place (b ∷ text) = grind (arith, cases_Bool, next_place, from_place text)
-
-  pub from_whole : (text : List ℕ)
-      → take (length text - place text) (drop (place text) text) ≡ text_from stop text
-  from_whole text = grind (arith, from_place, length-drop, take_all)
-
-kept_some : (b c : ℕ) (text : List ℕ) → kept_before b (text ++ c ∷ []) ≡ b ∷ (text ++ c ∷ [])
-kept_some b c [] = refl
-kept_some b c (d ∷ text) = refl
-
-leading_last : (b : ℕ) (text : List ℕ)
-    → reverse (trim_blanks_start (text ++ b ∷ [])) ≡ kept_before b (reverse (trim_blanks_start text))
-leading_last b [] = grind arith
-leading_last b (c ∷ text) = elim (cases_Bool (is_blank c)) [
-  | inl is ↦ rw is (leading_last b text)
-  | inr other ↦
-      rw other (reverse-append (c ∷ text) (b ∷ []) ∙ sym (subst (λ t. kept_before b t ≡ b ∷ t)
-      (sym (reverse-append (c ∷ []) text)) (kept_some b c (reverse text))))
-]
-
-pub trailing_reversed : (text : List ℕ) → trim_blanks_end text ≡ reverse (trim_blanks_start (reverse text))
-trailing_reversed [] = refl
-trailing_reversed (b ∷ text) =
-    ap (kept_before b) (trailing_reversed text) ∙ sym (leading_last b (reverse text))
-    ∙ ap (λ t. reverse (trim_blanks_start t)) (sym (reverse-append (b ∷ []) text))
 
 none_escaped : (text : List ℕ) → bytes_eq (escaped text) [] ≡ bytes_eq text []
 none_escaped [] = refl

@@ -1,26 +1,26 @@
 -- The tests of lines find the first line that isn't in the extended grammar, and only then one.
-use Rattle.std.proofs.Common.{◌≡◌, ◌≢◌, ◌≤◌, ◌↔◌, ℕ, ◌+◌, ◌==◌, ◌&&◌, Bool, true, false, not, inl}
-use Rattle.std.proofs.Common.{inr, List, [], ◌∷◌, ◌++◌, All, Contains, Option, None, Some, ap, arith, codes}
+use Rattle.std.proofs.Common.{◌≡◌, ◌≢◌, ◌≤◌, ◌↔◌, ℕ, ◌+◌, ◌==◌, ◌&&◌, Bool, true, false, not, inl, inr, List}
+use Rattle.std.proofs.Common.{[], ◌∷◌, ◌++◌, All, Contains, Option, None, Some, ap, arith, codes}
 use Rattle.std.proofs.Common.{if◌then◌else◌, length, map, nat_eq, nat_le, refl, ◌⊎◌, subst, sym, take}
 use Rattle.std.specs.List.{AllByRecursion as Each, AllZip, list_any, starts_with}
-use Rattle.std.proofs.lemmas.Bool.{and_from, and_parts, both_ways, eqb-true, false≢true, le-leb}
-use Rattle.std.proofs.lemmas.Bool.{leb-true, not-true, or_cases, or_left, or_right}
-use Rattle.std.proofs.lemmas.{Grind.common_steps, List.Elements.recursion_from_All, List.take_all}
-use Rattle.texting_robots.specs.{Cut.IsBodyByte, Cut.lf, Executable.file_bodies, Line.nul_as_lf}
-use Rattle.texting_robots.specs.{Line.without, Line.without_bom}
+use Rattle.std.proofs.lemmas.Bool.{and_from, and_parts, both_ways, eqb-true, false≢true, le-leb, leb-true}
+use Rattle.std.proofs.lemmas.Bool.{not-true, or_cases, or_left, or_right}
+use Rattle.std.proofs.lemmas.{Grind.common_steps, List.take_all}
+use Rattle.std.proofs.lemmas.List.Elements.{recursion_from_All}
+use Rattle.texting_robots.specs.Line.{nul_as_lf, without, without_bom}
 use Rattle.texting_robots.specs.Callers.{IsFileRejected, IsRobotOfFile, IsVerdict, RobotValue, agents_in}
 use Rattle.texting_robots.specs.Callers.{file_limit, lines_read, placed_rules, unplaced}
-use Rattle.rfc9309.specs.HasForm.{has_form}
-use Rattle.rfc9309.specs.LineForms.{AreRulesBelowAgents as AreFree}
-use Rattle.rfc9309.specs.LineForms.{Form, HasForm, Agent, Delay, Empty, Other, Rule, Sitemap}
-use Rattle.rfc9309.specs.Conformance.{by_lines, conformance_of, first_other, has_mark_or_none}
-use Rattle.rfc9309.specs.Conformance.{has_syntax, has_verdicts}
-use Rattle.rfc9309.specs.Conformance.{is_line_below, is_read_whole, line_apart, mark}
+use Rattle.texting_robots.specs.{Cut.IsBodyByte, Cut.lf, Executable.file_bodies}
+use Rattle.rfc9309.specs.LineTest.{has_form}
+use Rattle.rfc9309.specs.LineForms.{AreRulesBelowAgents as AreFree, Form, HasForm, Agent, Delay, Empty, Other}
+use Rattle.rfc9309.specs.LineForms.{Rule, Sitemap}
+use Rattle.rfc9309.specs.Conformance.{by_lines, conformance_of, first_other, has_mark_or_none, has_syntax}
+use Rattle.rfc9309.specs.Conformance.{has_verdicts, is_line_below, is_read_whole, line_apart, mark}
 use Rattle.rfc9309.specs.Matching.{IsRfcVerdict, all_stay, normal_uri, octets}
 use Rattle.rfc9309.proofs.ApartLemmas.{accepted, verdict_is}
-use Rattle.rfc9309.proofs.{HasFormLemmas.form_passes, OtherLemmas.form_tested}
 use Rattle.rfc9309.proofs.LineFormLemmas.{bodies_bytes, file_has_forms, forms_make_file}
-use Rattle.rfc9309.specs.declared.conformance.Conformance.{TheVariants.OtherFile}
+use Rattle.rfc9309.proofs.{HasFormLemmas.form_passes, OtherLemmas.form_tested}
+use Rattle.rfc9309.specs.declared.conformance.Conformance.TheVariants.{OtherFile}
 use Rattle.rfc9309.specs.Rfc9309 as rfc
 
 -- ---- lines

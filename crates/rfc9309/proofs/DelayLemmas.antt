@@ -1,21 +1,18 @@
 -- Skipping delays changes no crawler's rules if no rule is below user-agent lines with delays between them.
-use Rattle.std.proofs.Common.{◌≡◌, ◌⊎◌, ℕ, ◌+◌, Bool, true, false, not, ◌||◌, List, [], ◌∷◌, ◌++◌, None}
-use Rattle.std.proofs.Common.{cond, filter, flat_map, inl, inr, refl, sym, ◌∙◌}
-use Rattle.std.proofs.Common.{arith}
+use Rattle.std.proofs.Common.{◌≡◌, ◌⊎◌, ℕ, ◌+◌, Bool, true, false, not, ◌||◌, List, [], ◌∷◌, ◌++◌, None, cond}
+use Rattle.std.proofs.Common.{filter, flat_map, inl, inr, refl, sym, ◌∙◌, arith}
 use Rattle.std.specs.{List.list_all, List.list_any, Str.str_to_ascii_lowercase}
-use Rattle.std.proofs.lemmas.{Bool.and_parts, Bool.cases_Bool, Bool.not-true}
+use Rattle.std.proofs.lemmas.Bool.{and_parts, cases_Bool, not-true}
 use Rattle.std.proofs.lemmas.List.{Elements.filter-append, Folds.list_any-append}
 use Rattle.texting_robots.proofs.Shared.{cond_same}
 use Rattle.texting_robots.specs.Line.{Allow, CrawlDelay, Disallow, UserAgent}
-use Rattle.rfc9309.specs.{Conformance.first_split}
-use Rattle.rfc9309.specs.Rfc9309.{Delay, Group, Member, has_token, is_rule, merged, put_before}
-use Rattle.rfc9309.specs.Rfc9309.{rules_for}
-use Rattle.rfc9309.specs.Rfc9309.{Item, above_groups, groups_of, is_no_delay, standard_groups}
+use Rattle.rfc9309.specs.Conformance.{first_split}
+use Rattle.rfc9309.specs.Rfc9309.{Delay, Group, Member, has_token, is_rule, merged, put_before, rules_for}
+use Rattle.rfc9309.specs.Rfc9309.{Entry, above_groups, groups_of, is_no_delay, standard_groups}
 use Rattle.rfc9309.specs.Rfc9309.{standard_rules, without_delays}
 use Rattle.rfc9309.specs.Rfc9309 as rfc
-use Rattle.rfc9309.proofs.{GroupLemmas.has, GroupLemmas.is_named, GroupLemmas.theirs}
-use Rattle.rfc9309.proofs.{ReadLemmas.lines_in}
 use Rattle.rfc9309.proofs.Sources.{Source, allowed_in, parts_in, put_both}
+use Rattle.rfc9309.proofs.{GroupLemmas.has, GroupLemmas.is_named, GroupLemmas.theirs, ReadLemmas.lines_in}
 use Rattle.rfc9309.specs.declared.conformance.Above.{Above}
 use Rattle.rfc9309.specs.declared.conformance.Above.TheVariants as over
 
@@ -40,24 +37,16 @@ bare_put : (tokens : List (List ℕ)) (members : List Member) (groups : List Gro
     → bare (put_before tokens members groups) ≡ put_before tokens (filter is_rule members) (bare groups)
 bare_put tokens members groups = grind (arith, put_both)
 
-bare_merged : (groups : List Group) → bare (merged groups) ≡ bare groups
-bare_merged [] = refl
-bare_merged (group ∷ later) = grind (arith, bare_put, bare_merged later)
-
 -- ---- skipping the delays among the lines does the same
 
-no_delay_above : (items : List Item)
-    → above_groups (filter is_no_delay items) ≡ filter is_rule (above_groups items)
+no_delay_above : (entries : List Entry)
+    → above_groups (filter is_no_delay entries) ≡ filter is_rule (above_groups entries)
 no_delay_above [] = refl
-no_delay_above (item ∷ items) = grind (arith, no_delay_above items)
+no_delay_above (entry ∷ entries) = grind (arith, no_delay_above entries)
 
-bare_items : (items : List Item) → standard_groups items ≡ bare (groups_of items)
-bare_items [] = refl
-bare_items (item ∷ items) = grind (arith, bare_put, no_delay_above, bare_items items)
-
-pub standard_by_items : (agent : List ℕ) (groups : List Group) (items : List Item)
-    → merged groups ≡ groups_of items → standard_rules agent groups ≡ rules_for agent (standard_groups items)
-standard_by_items agent groups items h = grind (arith, bare_items, bare_merged)
+pub bare_entries : (entries : List Entry) → standard_groups entries ≡ bare (groups_of entries)
+bare_entries [] = refl
+bare_entries (entry ∷ entries) = grind (arith, bare_put, no_delay_above, bare_entries entries)
 
 -- ---- groups
 
@@ -111,18 +100,14 @@ module _ (name : List ℕ) where
       → filter is_rule (theirs name (bare groups)) ≡ filter is_rule (theirs name groups)
   rules_bare groups fine = held_rules (bare groups) ∙ sym fine ∙ sym (held_rules groups)
 
-all_bare : (agent : List ℕ) (groups : List Group) → ((name : List ℕ) → Fine name groups)
-    → rules_for agent groups ≡ rules_for agent (bare groups)
-all_bare agent groups fine =
+pub rules_unsplit : (agent : List ℕ) (groups : List Group) → ((name : List ℕ) → Fine name groups)
+    → rules_for agent groups ≡ standard_rules agent groups
+rules_unsplit agent groups fine =
     let name = str_to_ascii_lowercase agent in
     elim (cases_Bool (list_any (has_token agent) groups)) [
       | inl some ↦ rw (any_bare name groups, some) (sym (rules_bare name groups (fine name)))
       | inr none ↦ rw (any_bare name groups, none) (sym (rules_bare _ groups (fine _)))
     ]
-
-pub rules_unsplit : (agent : List ℕ) (groups : List Group) → ((name : List ℕ) → Fine name (merged groups))
-    → rules_for agent (merged groups) ≡ standard_rules agent groups
-rules_unsplit agent groups fine = grind (arith, all_bare, bare_merged)
 
 -- ---- lines: no rule is below user-agent lines with delays between them (`first_split`)
 

@@ -1,20 +1,18 @@
--- The lines of a file of the grammar are read as their items, one by one.
-use Rattle.std.proofs.Common.{arith}
-use Rattle.std.proofs.Common.{◌≡◌, ◌≢◌, inl, inr, ℕ, List, [], ◌∷◌, ◌++◌, append_assoc, ap, map}
+-- The lines of a file of the grammar are read as their entries, one by one.
+use Rattle.std.proofs.Common.{arith, ◌≡◌, ◌≢◌, inl, inr, ℕ, List, [], ◌∷◌, ◌++◌, append_assoc, ap, map}
 use Rattle.std.proofs.Common.{filter, flat_map, refl, subst, sym, ◌∙◌}
 use Rattle.std.specs.List.{AllByRecursion as Each, AllZip}
 use Rattle.texting_robots.specs.Executable.{file_bodies, file_lines, sitemaps_in}
-use Rattle.texting_robots.specs.{Line.nul_as_lf, Line.without_bom, Internal.Cut.bodies_of, Trim.IsTrimOf}
-use Rattle.rfc9309.proofs.SyntaxLemmas.{each_front}
-use Rattle.rfc9309.proofs.ReadLemmas.{after_bom, file_sources, low_of_front, BeginsLow, IsBefore}
-use Rattle.rfc9309.proofs.ReadLemmas.{bare_no_nul, end_bytes, last_end_adds_none, line_before, file_same}
-use Rattle.rfc9309.proofs.ReadLemmas.{before_sources, low_append, sources_in, sources_of, lines_in}
-use Rattle.rfc9309.proofs.{ItemLemmas.item_parts, OtherLemmas.empty_line, OtherLemmas.other_line}
-use Rattle.rfc9309.proofs.KeyedLemmas.{IsLineOf}
+use Rattle.texting_robots.specs.{Line.nul_as_lf, Line.without_bom, Trim.IsTrimOf}
+use Rattle.texting_robots.specs.Internal.Cut.{bodies_of}
+use Rattle.rfc9309.proofs.ReadLemmas.{after_bom, file_sources, low_of_front, BeginsLow, IsBefore, bare_no_nul}
+use Rattle.rfc9309.proofs.ReadLemmas.{end_bytes, last_end_adds_none, line_before, file_same, before_sources}
+use Rattle.rfc9309.proofs.ReadLemmas.{low_append, sources_in, sources_of, lines_in}
+use Rattle.rfc9309.proofs.OtherLemmas.{empty_line, other_line}
 use Rattle.rfc9309.proofs.MemberLemmas.{member_form, member_line, sitemap_line, token_line}
 use Rattle.rfc9309.proofs.Sources.{IsRead, Parts, Source, onto, parts_in, parts_of, with_address, with_source}
+use Rattle.rfc9309.proofs.{SyntaxLemmas.each_front, EntryLemmas.entry_parts, KeyedLemmas.IsLineOf}
 use Rattle.rfc9309.specs.LineForms.{AreRulesBelowAgents as AreFree, Form, Empty, Agent, Sitemap, Other}
-use Rattle.rfc9309.specs.StandardRobot.{IsFileWith}
 use Rattle.texting_robots.proofs.Shared.{bodies_nil, each_append}
 use Rattle.rfc9309.specs.Rfc9309 as rfc
 use Rattle.texting_robots.specs.Line as library
@@ -42,7 +40,7 @@ lines_read : (lines : List Line) → sources_of (joined lines) ≡ sources_from 
 lines_read [] = ap sources_in bodies_nil
 lines_read (line ∷ lines) = grind (arith, before_sources, line_bodies, sources_of, lines_read lines)
 
-pub each_read : (lines : List Line) → Each IsRead (sources_from lines)
+each_read : (lines : List Line) → Each IsRead (sources_from lines)
 each_read [] = tt
 each_read (line ∷ lines) = each_append _ _ _ line.is.read (each_read lines)
 
@@ -64,13 +62,13 @@ onto_both put (x ∷ xs) ys following = ap (put x) (onto_both put xs ys _)
 abbrev addresses_in : List Source → List (List ℕ)
 addresses_in sources = onto with_address sources []
 
-abbrev NoneAbove : List rfc.Item → Type 0
-NoneAbove items = filter rfc.is_rule (rfc.above_groups items) ≡ []
+abbrev NoneAbove : List rfc.Entry → Type 0
+NoneAbove entries = filter rfc.is_rule (rfc.above_groups entries) ≡ []
 
--- a line of this form keeps rules below user-agent lines if the item does
-abbrev IsCounted : Form → rfc.Item → Type 0
-IsCounted form item = (following : List rfc.Item) (forms : List Form) → (NoneAbove following → AreFree forms)
-    → NoneAbove (item ∷ following) → AreFree (form ∷ forms)
+-- a line of this form keeps rules below user-agent lines if the entry does
+abbrev IsCounted : Form → rfc.Entry → Type 0
+IsCounted form entry = (following : List rfc.Entry) (forms : List Form)
+    → (NoneAbove following → AreFree forms) → NoneAbove (entry ∷ following) → AreFree (form ∷ forms)
 
 member_counted : (member : rfc.Member) → IsCounted (member_form member) (rfc.InGroup member)
 member_counted (rfc.Allow pattern) following forms more none = cc
@@ -78,18 +76,19 @@ member_counted (rfc.Disallow pattern) following forms more none = cc
 member_counted (rfc.Delay number) following forms more none = more none
 
 -- a line of the grammar as the library reads it
-record ItemRead (item : rfc.Item) (text : List ℕ) : Type 0 where
+record EntryRead (entry : rfc.Entry) (text : List ℕ) : Type 0 where
   form : Form
   sources : List Source
   is : IsLineOf form sources text
-  put : (following : List rfc.Item)
-      → onto with_source sources (item_parts following) ≡ item_parts (item ∷ following)
-  lists : (following : List rfc.Item)
-      → onto with_address sources (rfc.addresses_of following) ≡ rfc.addresses_of (item ∷ following)
-  counted : IsCounted form item
+  put : (following : List rfc.Entry)
+      → onto with_source sources (entry_parts following) ≡ entry_parts (entry ∷ following)
+  lists : (following : List rfc.Entry)
+      → onto with_address sources (rfc.addresses_of following) ≡ rfc.addresses_of (entry ∷ following)
+  counted : IsCounted form entry
 
-item_read : (item : rfc.Item) (text : List ℕ) → rfc.IsLine item text → ItemRead item text
-item_read (rfc.Agent token) text is = record {
+entry_read : (entry : rfc.Entry) (text : List ℕ) → rfc.IsLine entry text
+    → EntryRead entry text
+entry_read (rfc.Agent token) text is = record {
   form = Agent;
   sources = _;
   is = token_line token text is;
@@ -97,17 +96,17 @@ item_read (rfc.Agent token) text is = record {
   lists = λ following. refl;
   counted = λ following forms more none. tt;
 }
-item_read (rfc.InGroup member) text is =
+entry_read (rfc.InGroup member) text is =
     let read = member_line member text is in
     record {
       form = member_form member;
       sources = read.source ∷ [];
       is = read.is_line;
-      put = λ following. read.written (item_parts following);
+      put = λ following. read.written (entry_parts following);
       lists = λ following. read.unlisted (rfc.addresses_of following);
       counted = member_counted member;
     }
-item_read (rfc.Sitemap address) text is = record {
+entry_read (rfc.Sitemap address) text is = record {
   form = Sitemap;
   sources = _;
   is = sitemap_line address text is;
@@ -115,7 +114,7 @@ item_read (rfc.Sitemap address) text is = record {
   lists = λ following. refl;
   counted = λ following forms more none. more none;
 }
-item_read rfc.Nothing text (inl is) = record {
+entry_read rfc.Nothing text (inl is) = record {
   form = Empty;
   sources = [];
   is = empty_line text is;
@@ -123,7 +122,7 @@ item_read rfc.Nothing text (inl is) = record {
   lists = λ following. refl;
   counted = λ following forms more none. more none;
 }
-item_read rfc.Nothing text (inr is) = record {
+entry_read rfc.Nothing text (inr is) = record {
   form = Other;
   sources = [];
   is = other_line text is;
@@ -132,35 +131,35 @@ item_read rfc.Nothing text (inr is) = record {
   counted = λ following forms more none. more none;
 }
 
-pub record ItemsRead (items : List rfc.Item) (text : List ℕ) : Type 0 where
+pub record EntriesRead (entries : List rfc.Entry) (text : List ℕ) : Type 0 where
   pub lines : List Line
   pub whole : text ≡ joined lines
-  pub parts : parts_in (sources_from lines) ≡ item_parts items
-  pub addresses : addresses_in (sources_from lines) ≡ rfc.addresses_of items
-  pub free : NoneAbove items → AreFree (forms_of lines)
+  pub parts : parts_in (sources_from lines) ≡ entry_parts entries
+  pub addresses : addresses_in (sources_from lines) ≡ rfc.addresses_of entries
+  pub free : NoneAbove entries → AreFree (forms_of lines)
 
-pub items_read : (items : List rfc.Item) (text : List ℕ) → rfc.AreLines rfc.IsLine items text
-    → ItemsRead items text
-items_read [] text none = record {
+pub entries_read : (entries : List rfc.Entry) (text : List ℕ)
+    → rfc.AreLines rfc.IsLine entries text → EntriesRead entries text
+entries_read [] text none = record {
   lines = [];
   whole = none;
   parts = refl;
   addresses = refl;
   free = λ none. tt;
 }
-items_read (item ∷ items) text (line, rest, whole, is, are) =
-    let one = item_read item line is in
-    let more = items_read items rest are in
+entries_read (entry ∷ entries) text (line, rest, whole, is, are) =
+    let one = entry_read entry line is in
+    let more = entries_read entries rest are in
     record {
       lines = record { form = one.form; sources = one.sources; text = line; is = one.is } ∷ more.lines;
       whole = whole ∙ ap (λ t. line ++ t) more.whole;
       parts =
           onto_both with_source one.sources (sources_from more.lines) _
-          ∙ ap (onto with_source one.sources) more.parts ∙ one.put items;
+          ∙ ap (onto with_source one.sources) more.parts ∙ one.put entries;
       addresses =
           onto_both with_address one.sources (sources_from more.lines) _
-          ∙ ap (onto with_address one.sources) more.addresses ∙ one.lists items;
-      free = one.counted items (forms_of more.lines) more.free;
+          ∙ ap (onto with_address one.sources) more.addresses ∙ one.lists entries;
+      free = one.counted entries (forms_of more.lines) more.free;
     }
 
 module _ {Content : List ℕ → Type 0} {text : List ℕ} (file : rfc.IsFileOf Content text) (lines : List Line)
@@ -182,61 +181,43 @@ module _ {Content : List ℕ → Type 0} {text : List ℕ} (file : rfc.IsFileOf 
       ap sources_in bodies_are ∙ sym (last_end_adds_none file.rest file.nl file.is_nl) ∙ ap sources_of whole
       ∙ lines_read lines
 
-only_delays : (members : List rfc.Member) → filter rfc.is_rule members ≡ []
-    → (numbers : List (List ℕ)) × (members ≡ map rfc.Delay numbers)
-only_delays [] none = ([], refl)
-only_delays (rfc.Allow pattern ∷ members) none = absurd cc
-only_delays (rfc.Disallow pattern ∷ members) none = absurd cc
-only_delays (rfc.Delay number ∷ members) none =
-    let (numbers, same) = only_delays members none in
-    (number ∷ numbers, ap (λ more. rfc.Delay number ∷ more) same)
+  pub sources_read : Each IsRead (file_sources text)
+  sources_read = subst (Each IsRead) (sym sources_are) (each_read lines)
 
 with_content : {Content Other : List ℕ → Type 0} {text : List ℕ} (file : rfc.IsFileOf Content text)
     → Other (file.rest ++ file.nl) → rfc.IsFileOf Other text
 with_content file content = grind arith
 
-pub has_delays : (text : List ℕ) (groups : List rfc.Group) → rfc.IsFile groups text
-    → (numbers : List (List ℕ)) × IsFileWith numbers groups text
-has_delays text groups file =
-    let content = file.is_content in
-    let (numbers, above) = only_delays (rfc.above_groups content.items) content.none_above in (
-      numbers,
-      with_content file (record {
-        items = content.items;
-        are_lines = content.are_lines;
-        above = above;
-        written = content.written;
-      }),
-    )
-
-no_rules : (numbers : List (List ℕ)) → filter rfc.is_rule (map rfc.Delay numbers) ≡ []
+pub no_rules : (numbers : List (List ℕ)) → filter rfc.is_rule (map rfc.Delay numbers) ≡ []
 no_rules [] = refl
 no_rules (number ∷ numbers) = no_rules numbers
 
 -- with only these delays before the groups, and some sitemaps
 pub record FileRead (numbers : List (List ℕ)) (groups : List rfc.Group) (text : List ℕ) : Type 0 where
   pub read : Each IsRead (file_sources text)
-  pub parts : parts_in (file_sources text) ≡ parts_of (map rfc.Delay numbers) (rfc.merged groups)
+  pub parts : parts_in (file_sources text) ≡ parts_of (map rfc.Delay numbers) groups
   pub none : filter rfc.is_rule (parts_in (file_sources text)).ungrouped ≡ []
+  pub same : (parts_in (file_sources text)).groups ≡ groups
   pub lists : (addresses : List (List ℕ)) × rfc.ListsSitemaps addresses text
 
 pub file_with : (text : List ℕ) (numbers : List (List ℕ)) (groups : List rfc.Group)
-    → IsFileWith numbers groups text → FileRead numbers groups text
+    → rfc.IsFileWith numbers groups text → FileRead numbers groups text
 file_with text numbers groups file =
     let content = file.is_content in
-    let all = items_read content.items (file.rest ++ file.nl) content.are_lines in
-    let sources = sources_are file all.lines all.whole in
-    let parts : parts_in (file_sources text) ≡ parts_of (map rfc.Delay numbers) (rfc.merged groups) =
-    ap parts_in sources ∙ all.parts ∙ ap (λ above. parts_of above (rfc.groups_of content.items)) content.above
+    let all = entries_read content.entries (file.rest ++ file.nl) content.are_lines in
+    let parts : parts_in (file_sources text) ≡ parts_of (map rfc.Delay numbers) groups =
+    ap parts_in (sources_are file all.lines all.whole) ∙ all.parts
+    ∙ ap (λ above. parts_of above (rfc.groups_of content.entries)) content.above
     ∙ ap (parts_of (map rfc.Delay numbers)) (sym content.written) in
     record {
-      read = subst (Each IsRead) (sym sources) (each_read all.lines);
+      read = sources_read file all.lines all.whole;
       parts = parts;
       none = ap (λ (p : Parts). filter rfc.is_rule p.ungrouped) parts ∙ no_rules numbers;
+      same = ap (λ (p : Parts). p.groups) parts;
       lists = (
-        rfc.addresses_of content.items,
+        rfc.addresses_of content.entries,
         with_content file (record {
-          items = content.items;
+          entries = content.entries;
           are_lines = content.are_lines;
           written = refl;
         }),
@@ -245,12 +226,7 @@ file_with text numbers groups file =
 
 pub file_read : (text : List ℕ) (groups : List rfc.Group) → rfc.IsFile groups text
     → (numbers : List (List ℕ)) × FileRead numbers groups text
-file_read text groups file =
-    let (numbers, is) = has_delays text groups file in (numbers, file_with text numbers groups is)
-
-pub groups_written : (text : List ℕ) (numbers : List (List ℕ)) (groups : List rfc.Group)
-    → FileRead numbers groups text → (parts_in (file_sources text)).groups ≡ rfc.merged groups
-groups_written text numbers groups is = grind arith
+file_read text groups (numbers, file) = (numbers, file_with text numbers groups file)
 
 trims_read : (sources : List Source) → Each IsRead sources
     → AllZip IsTrimOf (sitemaps_in (lines_in sources)) (addresses_in sources)
@@ -259,17 +235,14 @@ trims_read ((library.Sitemap value, address) ∷ sources) (is, all) = rw is.0 (i
 trims_read (_ ∷ sources) (_, all) = trims_read sources all
 
 module _ (text : List ℕ) (addresses : List (List ℕ)) (file : rfc.ListsSitemaps addresses text) where
+  abbrev all : EntriesRead file.is_content.entries (file.rest ++ file.nl)
+  all = entries_read file.is_content.entries (file.rest ++ file.nl) file.is_content.are_lines
+
   pub addresses_are : addresses_in (file_sources text) ≡ addresses
   addresses_are =
-      let content = file.is_content in
-      let all = items_read content.items (file.rest ++ file.nl) content.are_lines in
-      ap addresses_in (sources_are file all.lines all.whole) ∙ all.addresses ∙ sym content.written
+      ap addresses_in (sources_are file all.lines all.whole) ∙ all.addresses ∙ sym file.is_content.written
 
   pub sitemaps_are_read : AllZip IsTrimOf (sitemaps_in (file_lines text)) addresses
   sitemaps_are_read =
-      let content = file.is_content in
-      let all = items_read content.items (file.rest ++ file.nl) content.are_lines in
-      let read : Each IsRead (file_sources text) =
-      subst (Each IsRead) (sym (sources_are file all.lines all.whole)) (each_read all.lines) in
-      rw (file_same text []).1 (
-      subst (AllZip IsTrimOf _) addresses_are (trims_read (file_sources text) read))
+      rw (file_same text []).1 (subst (AllZip IsTrimOf _) addresses_are
+      (trims_read (file_sources text) (sources_read file all.lines all.whole)))

@@ -1,24 +1,25 @@
 -- Characters of the grammar, and tests of forms.
 use Rattle.std.proofs.Common.{◌≡◌, true, List, ◌++◌, length, subst, append-nil, arith, false, bytes_eq, codes}
 use Rattle.std.proofs.Common.{◌≢◌, inl, inr, ℕ, ◌≤◌, [], ◌∷◌, drop, sym, ap, ◌∙◌, ◌⊎◌, refl, ◌&&◌, Bool, ◌==◌}
-use Rattle.std.specs.List.{AllByRecursion as Each, list_all, Contains, list_any}
+use Rattle.std.specs.List.{AllByRecursion as Each, list_all, Contains, list_any, position_or_len}
 use Rattle.std.specs.{Char.encode_utf8, Str.IsUtf8, Str.encode_utf8_all, Str.is_utf8}
 use Rattle.std.proofs.lemmas.List.Folds.{list_all-append, list_any-from_Any}
 use Rattle.std.proofs.lemmas.Bool.{Decides.nat_tests, and_parts, cases_lt, le-ltb, lt-ltb, cases_Bool}
 use Rattle.std.proofs.lemmas.Bool.{eqb-true, not-true, or_cases}
-use Rattle.std.proofs.{lemmas.List.drop_all, Common.append_assoc, lemmas.Slice.Eq.bytes_eq-Decides}
+use Rattle.std.proofs.Common.{append_assoc, reverse, suc, take-append-drop, ◌+◌}
+use Rattle.std.proofs.lemmas.{List.drop_all, List.reverse-append, List.reverse-reverse, Slice.Eq.bytes_eq-Decides}
 use Rattle.std.proofs.lemmas.Str.{IsUtf8-append, IsUtf8-encode, IsUtf8-nil, IsUtf8-from_is_utf8, encode_ascii}
 use Rattle.bstr.specs.Utf8.{code_of_2, code_of_3, code_of_4, continues, decoded, good, second}
 use Rattle.bstr.proofs.lemmas.PieceLemmas.{value-1, value-6, value-9, value-12}
 use Rattle.rfc9309.proofs.{SyntaxLemmas.many, SyntaxLemmas.passing, ValueLemmas.identifier_byte}
-use Rattle.rfc9309.specs.HasForm.{is_comment_byte, is_comment_text, is_value_byte, is_value_text, colon}
-use Rattle.rfc9309.specs.HasForm.{are_some, has_byte, has_form, hash, is_blank, is_digit, is_keyed}
-use Rattle.rfc9309.specs.HasForm.{is_identifier_byte, is_number, is_pattern, is_product_token, lower}
-use Rattle.rfc9309.specs.HasForm.{kept_before, name_in, stripped, text_after, text_before, text_from}
-use Rattle.rfc9309.specs.HasForm.{value_in, trim_blanks_start, trim_blanks_end}
+use Rattle.safe_output.specs.Bytes.{after_byte, before_byte, from_byte, has, is_blank, trim_blanks}
+use Rattle.safe_output.specs.Bytes.{trim_blanks_end, trim_blanks_start}
+use Rattle.rfc9309.specs.LineTest.{is_comment_byte, is_comment_text, is_value_byte, is_value_text, colon}
+use Rattle.rfc9309.specs.LineTest.{are_some, has_form, hash, is_digit, is_keyed, is_identifier_byte}
+use Rattle.rfc9309.specs.LineTest.{is_number, is_pattern, is_product_token, lower, name_in, value_in}
 use Rattle.bstr.proofs.{lemmas.SoundLemmas.SpellsChar-decoded}
 use Rattle.texting_robots.proofs.Shared.{each_append}
-use Rattle.rfc9309.specs.LineForms.{Form, IsLine, Empty, Agent, Rule, Delay, Sitemap, Other}
+use Rattle.rfc9309.specs.LineForms.{Form, IsFormOf, Empty, Agent, Rule, Delay, Sitemap, Other}
 use Rattle.rfc9309.specs.Rfc9309 as rfc
 use lib.Utf8.{scalar, scalars}
 
@@ -144,36 +145,27 @@ comment_text = units_of is_comment_byte rfc.IsCommentUnit comment_unit
 
 -- ---- A line that passes the test of a form has the form.
 
-split : (stop : ℕ) (text : List ℕ) → text ≡ text_before stop text ++ text_from stop text
-split stop [] = refl
-split stop (b ∷ text) = grind (arith, split stop text)
+module _ (stop : ℕ) where
+  pub next_place : (text : List ℕ)
+      → 1 + position_or_len (λ b. b == stop) text ≡ suc (position_or_len (λ b. b == stop) text)
+  next_place text = omega arith
 
-begins : (stop : ℕ) (text : List ℕ)
-    → (text_from stop text ≡ []) ⊎ (text_from stop text ≡ stop ∷ text_after stop text)
-begins stop [] = inl refl
-begins stop (b ∷ text) = grind (arith, nat_tests, begins stop text)
+  split : (text : List ℕ) → text ≡ before_byte stop text ++ from_byte stop text
+  split text = sym (take-append-drop _ text)
 
-found : (stop : ℕ) (text : List ℕ) → has_byte stop text ≡ true
-    → text_from stop text ≡ stop ∷ text_after stop text
-found stop [] is = cc
-found stop (b ∷ text) is = grind (arith, nat_tests, found stop text)
+  begins : (text : List ℕ) → (from_byte stop text ≡ []) ⊎ (from_byte stop text ≡ stop ∷ after_byte stop text)
+  begins [] = inl refl
+  begins (b ∷ text) = grind (arith, nat_tests, next_place, begins text)
+
+  found : (text : List ℕ) → has stop text ≡ true → from_byte stop text ≡ stop ∷ after_byte stop text
+  found [] is = cc
+  found (b ∷ text) is = grind (arith, nat_tests, next_place, found text)
 
 pub blank : (b : ℕ) → is_blank b ≡ true → rfc.IsWs b
 blank b is = grind (arith, nat_tests)
 
 abbrev IsBefore : (kept text : List ℕ) → Type 0
 IsBefore kept text = (back : List ℕ) × Each rfc.IsWs back × (text ≡ kept ++ back)
-
-kept : (b : ℕ) (some text : List ℕ) → IsBefore some text → IsBefore (kept_before b some) (b ∷ text)
-kept b [] text (back, all, same) = elim (cases_Bool (is_blank b)) [
-  | inl white ↦ rw white (b ∷ text, (blank b white, subst (Each rfc.IsWs) (sym same) all), refl)
-  | inr solid ↦ rw solid (back, all, ap (λ t. b ∷ t) same)
-]
-kept b (c ∷ some) text (back, all, same) = (back, all, ap (λ t. b ∷ t) same)
-
-trailing : (text : List ℕ) → IsBefore (trim_blanks_end text) text
-trailing [] = ([], tt, refl)
-trailing (b ∷ text) = kept b (trim_blanks_end text) text (trailing text)
 
 pub leading : (text : List ℕ)
     → (front : List ℕ) × Each rfc.IsWs front × (text ≡ front ++ trim_blanks_start text)
@@ -184,10 +176,24 @@ leading (b ∷ text) = elim (cases_Bool (is_blank b)) [
   | inr solid ↦ rw solid (([], tt, refl))
 ]
 
+pub each_reversed : (P : ℕ → Type 0) (text : List ℕ) → Each P text → Each P (reverse text)
+each_reversed P [] all = all
+each_reversed P (b ∷ text) all =
+    subst (Each P) (sym (reverse-append (b ∷ []) text))
+    (each_append P (reverse text) (b ∷ []) (each_reversed P text all.1) (all.0, tt))
+
+trailing : (text : List ℕ) → IsBefore (trim_blanks_end text) text
+trailing text =
+    let (front, all, whole) = leading (reverse text) in (
+      reverse front,
+      each_reversed rfc.IsWs front all,
+      sym (reverse-reverse text) ∙ ap reverse whole ∙ reverse-append front (trim_blanks_start (reverse text)),
+    )
+
 record IsAround (text : List ℕ) : Type 0 where
   front : List ℕ
   back : List ℕ
-  whole : text ≡ front ++ (stripped text ++ back)
+  whole : text ≡ front ++ (trim_blanks text ++ back)
   front_blank : Each rfc.IsWs front
   back_blank : Each rfc.IsWs back
 
@@ -203,8 +209,8 @@ around text =
       back_blank = after;
     }
 
-named : (body : List ℕ) → has_byte colon body ≡ true → body ≡ (around (text_before colon body)).front
-    ++ (name_in body ++ ((around (text_before colon body)).back ++ colon ∷ text_after colon body))
+named : (body : List ℕ) → has colon body ≡ true → body ≡ (around (before_byte colon body)).front
+    ++ (name_in body ++ ((around (before_byte colon body)).back ++ colon ∷ after_byte colon body))
 named body has = grind (arith, append_assoc, around, found, split)
 
 identifier : (word : List ℕ) → are_some is_identifier_byte word ≡ true → rfc.IsIdentifier word
@@ -233,11 +239,11 @@ number value is = elim (or_cases _ _ is) [
       let (point, both) = and_parts _ _ parts in
       let (before, after) = and_parts _ _ both in
       inr (record {
-        units = text_before 0x2E value;
-        fraction = text_after 0x2E value;
+        units = before_byte 0x2E value;
+        fraction = after_byte 0x2E value;
         are_units = digits _ before;
         is_fraction = digits _ after;
-        whole = split 0x2E _ ∙ ap (λ t. text_before 0x2E value ++ t) (found 0x2E value point);
+        whole = split 0x2E _ ∙ ap (λ t. before_byte 0x2E value ++ t) (found 0x2E value point);
       })
 ]
 
@@ -246,8 +252,8 @@ not_listed : (name : List ℕ) (names : List (List ℕ)) → list_any (bytes_eq 
 not_listed name names none (k, within, is) = grind (arith, bytes_eq-Decides, list_any-from_Any)
 
 module _ (end : List ℕ) (nl : rfc.IsNl end) where
-  eol : (blanks text : List ℕ) → Each rfc.IsWs blanks → is_comment_text (text_after hash text) ≡ true
-      → rfc.IsEol (blanks ++ (text_from hash text ++ end))
+  eol : (blanks text : List ℕ) → Each rfc.IsWs blanks → is_comment_text (after_byte hash text) ≡ true
+      → rfc.IsEol (blanks ++ (from_byte hash text ++ end))
   eol blanks text all is = grind (arith, begins, comment_text)
 
   pub keyed_passes : (word body : List ℕ) → is_keyed word body ≡ true
@@ -255,17 +261,17 @@ module _ (end : List ℕ) (nl : rfc.IsNl end) where
   keyed_passes word body is =
       let (both, comment) = and_parts _ _ is in
       let (has, name) = and_parts _ _ both in
-      let around_name = around (text_before colon body) in
-      let rest = text_after colon body in
-      let value = around (text_before hash rest) in
-      let valued : rest ≡ value.front ++ (value_in body ++ (value.back ++ text_from hash rest)) =
-      split hash rest ∙ ap (λ t. t ++ text_from hash rest) value.whole ∙ simp append_assoc in
+      let around_name = around (before_byte colon body) in
+      let rest = after_byte colon body in
+      let value = around (before_byte hash rest) in
+      let valued : rest ≡ value.front ++ (value_in body ++ (value.back ++ from_byte hash rest)) =
+      split hash rest ∙ ap (λ t. t ++ from_byte hash rest) value.whole ∙ simp append_assoc in
       record {
         margin = around_name.front;
         key = name_in body;
         blanks = around_name.back;
         gap = value.front;
-        eol = value.back ++ (text_from hash rest ++ end);
+        eol = value.back ++ (from_byte hash rest ++ end);
         whole = ap (λ t. t ++ end) (named body has
             ∙ ap (λ t. around_name.front ++ (name_in body ++ (around_name.back ++ (colon ∷ t)))) valued)
             ∙ simp append_assoc;
@@ -294,11 +300,11 @@ module _ (end : List ℕ) (nl : rfc.IsNl end) where
         | inr star ↦ inr (star, line)
       ]
 
-  pub form_passes : (form : Form) (body : List ℕ) → has_form form body ≡ true → IsLine form (body ++ end)
+  pub form_passes : (form : Form) (body : List ℕ) → has_form form body ≡ true → IsFormOf form (body ++ end)
   form_passes Empty body is =
       let (blanks, comment) = and_parts _ _ is in
       subst rfc.IsEol
-      (sym (ap (λ t. t ++ end) (split hash body) ∙ append_assoc (text_before hash body) _ end))
+      (sym (ap (λ t. t ++ end) (split hash body) ∙ append_assoc (before_byte hash body) _ end))
       (eol _ body (passing rfc.IsWs is_blank blank _ blanks) comment)
   form_passes Agent body is = (value_in body, agent_passes body is)
   form_passes Rule body is =
@@ -315,12 +321,12 @@ module _ (end : List ℕ) (nl : rfc.IsNl end) where
       let (front, value) = and_parts _ _ is in
       let (has, name) = and_parts _ _ front in
       let (letters, other) = and_parts _ _ name in
-      let around_name = around (text_before colon body) in
+      let around_name = around (before_byte colon body) in
       record {
         margin = around_name.front;
         name = name_in body;
         blanks = around_name.back;
-        value = text_after colon body;
+        value = after_byte colon body;
         nl = end;
         whole = ap (λ t. t ++ end) (named body has) ∙ simp append_assoc;
         margin_blank = around_name.front_blank;

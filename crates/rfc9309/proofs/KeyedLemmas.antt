@@ -2,7 +2,8 @@
 -- line.
 use Rattle.std.proofs.Common.{◌≡◌, ◌≢◌, ◌⊎◌, inl, inr, ℕ, ◌<◌, Bool, true, false, List, [], ◌∷◌, ◌++◌}
 use Rattle.std.proofs.Common.{append-nil, ap, arith, drop, map, refl, subst, sym, ◌∙◌, append_assoc, codes}
-use Rattle.std.proofs.Common.{filter, get_or}
+use Rattle.std.proofs.Common.{filter, get_or, reverse}
+use Rattle.std.proofs.lemmas.List.{reverse-append, reverse-reverse}
 use Rattle.std.specs.{List.AllByRecursion as Each, List.list_all, List.Contains, Char.to_ascii_lowercase}
 use Rattle.std.proofs.lemmas.Bool.{and_from, eq-eqb, false_from_ne_true, ne_eqb, or_left, or_right}
 use Rattle.std.proofs.lemmas.Str.{IsUtf8-append, IsUtf8-encode, IsUtf8-nil, encode_ascii, is_utf8-from_IsUtf8}
@@ -11,16 +12,16 @@ use Rattle.texting_robots.specs.Statement.{IsBlank, IsStatement, field_names}
 use Rattle.texting_robots.specs.{Line.LineValue, Trim.IsTrimOf, declared.parser.statement.Kind.Kind}
 use Rattle.texting_robots.specs.{Internal.Statement.IsOptionalComment, Internal.Line.line_with}
 use Rattle.texting_robots.proofs.Shared.{each_append, blanks_skipped, same_trim, line_stated, statement_found}
-use Rattle.rfc9309.proofs.HasFormLemmas.{IsCharByte, IsCharText, char_text, blank}
+use Rattle.rfc9309.proofs.HasFormLemmas.{IsCharByte, IsCharText, char_text, each_reversed, blank, next_place}
 use Rattle.rfc9309.proofs.ValueLemmas.{blank_no_letter, identifier_bounds, blanks_after, identifier}
 use Rattle.rfc9309.proofs.Sources.{IsRead, Source, is_not_raw, source_of, written}
 use Rattle.rfc9309.proofs.SyntaxLemmas.{each_weaker, many}
 use Rattle.rfc9309.proofs.ReadLemmas.{BeginsLow, IsBare}
-use Rattle.rfc9309.specs.HasForm.{colon, has_byte, hash, is_blank, is_comment_byte, is_comment_text}
-use Rattle.rfc9309.specs.HasForm.{is_value_byte, is_value_text, name_in, stripped, has_form}
-use Rattle.rfc9309.specs.HasForm.{text_after, text_before, text_from, trim_blanks_start, trim_blanks_end}
-use Rattle.rfc9309.specs.HasForm.{is_identifier_byte, is_keyed, is_number, is_pattern, is_product_token}
-use Rattle.rfc9309.specs.HasForm.{value_in}
+use Rattle.safe_output.specs.Bytes.{after_byte, before_byte, from_byte, has, is_blank, trim_blanks}
+use Rattle.safe_output.specs.Bytes.{trim_blanks_end, trim_blanks_start}
+use Rattle.rfc9309.specs.LineTest.{colon, hash, is_comment_byte, is_comment_text, is_value_byte, is_value_text}
+use Rattle.rfc9309.specs.LineTest.{name_in, has_form, value_in}
+use Rattle.rfc9309.specs.LineTest.{is_identifier_byte, is_keyed, is_number, is_pattern, is_product_token}
 use Rattle.rfc9309.specs.LineForms.{Form, Agent, Delay, Rule, Sitemap}
 use Rattle.std.specs.{Str.IsUtf8}
 use Rattle.std.proofs.{lemmas.Bool.Decides.nat_tests, lemmas.Slice.Eq.bytes_eq-Decides}
@@ -57,13 +58,13 @@ passes P test is [] all = refl
 passes P test is (b ∷ text) all = and_from _ _ (is b all.0) (passes P _ is text all.1)
 
 pub record ArePartsAt (stop : ℕ) (front rest text : List ℕ) : Type 0 where
-  pub before : text_before stop text ≡ front
-  pub from : text_from stop text ≡ rest
+  pub before : before_byte stop text ≡ front
+  pub from : from_byte stop text ≡ rest
 
 parts : (stop : ℕ) (front rest : List ℕ) → Each (λ b. b ≢ stop) front
     → ArePartsAt stop [] rest rest → ArePartsAt stop front rest (front ++ rest)
 parts stop [] rest all is = is
-parts stop (b ∷ front) rest all is = grind (arith, ne_eqb, parts stop front rest all.1 is)
+parts stop (b ∷ front) rest all is = grind (arith, ne_eqb, next_place, parts stop front rest all.1 is)
 
 pub parts_at : (stop : ℕ) (front rest : List ℕ) → Each (λ b. b ≢ stop) front
     → ArePartsAt stop front (stop ∷ rest) (front ++ stop ∷ rest)
@@ -71,7 +72,7 @@ parts_at stop front rest all =
     let is = eq-eqb stop stop refl in
     parts stop front (stop ∷ rest) all (record { before = rw is; from = rw is refl })
 
-pub has_at : (stop : ℕ) (front rest : List ℕ) → has_byte stop (front ++ stop ∷ rest) ≡ true
+pub has_at : (stop : ℕ) (front rest : List ℕ) → has stop (front ++ stop ∷ rest) ≡ true
 has_at stop [] rest = rw (eq-eqb stop stop refl)
 has_at stop (b ∷ front) rest = or_right _ _ (has_at stop front _)
 
@@ -86,14 +87,19 @@ pub leading_gone : (front text : List ℕ) → Each rfc.IsWs front
 leading_gone [] text all = refl
 leading_gone (b ∷ front) text all = rw (blank_passes b all.0) (leading_gone front text all.1)
 
+solid_stays : (text : List ℕ) → Each IsSolid text → trim_blanks_start text ≡ text
+solid_stays [] all = refl
+solid_stays (b ∷ text) all = rw all.0 refl
+
 trailing_gone : (kept back : List ℕ) → Each IsSolid kept → Each rfc.IsWs back
     → trim_blanks_end (kept ++ back) ≡ kept
-trailing_gone [] [] all after = refl
-trailing_gone [] (b ∷ back) all after = rw (trailing_gone [] back tt after.1, blank_passes b after.0)
-trailing_gone (b ∷ kept) back all after = grind (arith, trailing_gone kept back all.1 after)
+trailing_gone kept back all after =
+    ap (λ t. reverse (trim_blanks_start t)) (reverse-append kept back)
+    ∙ ap reverse (leading_gone (reverse back) (reverse kept) (each_reversed rfc.IsWs back after)
+    ∙ solid_stays (reverse kept) (each_reversed IsSolid kept all)) ∙ reverse-reverse kept
 
 pub stripped_is : (front kept back : List ℕ) → Each rfc.IsWs front → Each IsSolid kept
-    → Each rfc.IsWs back → stripped (front ++ (kept ++ back)) ≡ kept
+    → Each rfc.IsWs back → trim_blanks (front ++ (kept ++ back)) ≡ kept
 stripped_is front [] back before all after =
     ap trim_blanks_end (leading_gone front back before
     ∙ rw append-nil at (leading_gone back [] after))
@@ -120,9 +126,9 @@ name_letters (b ∷ key) (c ∷ word) e all = grind (arith, name_letter, name_le
 
 -- the line has this name before its first colon, and this text after it
 pub record IsNamed (key rest body : List ℕ) : Type 0 where
-  pub has : has_byte colon body ≡ true
+  pub has : has colon body ≡ true
   pub name : name_in body ≡ key
-  pub after : text_after colon body ≡ rest
+  pub after : after_byte colon body ≡ rest
   pub low : BeginsLow body
   pub bare : Each IsBare rest → Each IsBare body
 
@@ -138,7 +144,7 @@ named margin name blanks rest before is following =
     record {
       has = has_at colon front rest;
       name =
-          ap stripped parts.before
+          ap trim_blanks parts.before
           ∙ stripped_is margin name blanks before (each_weaker IsNameByte _ (λ b byte. byte.1) name is)
           following;
       after = ap (drop 1) parts.from;
@@ -271,7 +277,7 @@ module _ (kind : Kind) (value read text : List ℕ) (line : rfc.IsKeyed (word_of
   comment : IsRemark eol.comment
   comment = remark eol.comment eol.is_comment
 
-  at_hash : ArePartsAt hash region eol.comment (text_after colon body)
+  at_hash : ArePartsAt hash region eol.comment (after_byte colon body)
   at_hash = rw named_key.after (parts_comment _ _ no_hash comment.is)
 
   value_is : value_in body ≡ value

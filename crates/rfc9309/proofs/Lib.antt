@@ -8,7 +8,7 @@ pub mod HasFormLemmas
 pub mod SyntaxLemmas
 pub mod ValueLemmas
 pub mod Sources
-pub mod ItemLemmas
+pub mod EntryLemmas
 pub mod ReadLemmas
 pub mod KeyedLemmas
 pub mod GroupLemmas

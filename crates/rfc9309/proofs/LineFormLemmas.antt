@@ -1,21 +1,20 @@
 -- A text whose lines have the forms of the grammar's lines, with each rule below a user-agent line, is a file
 -- of the grammar, and only such a text is one. The text is built from its last line on.
 use Rattle.std.proofs.Common.{◌≡◌, ◌⊎◌, inl, inr, ℕ, List, [], ◌∷◌, ◌++◌, sym, refl, ap, ◌∙◌, append_assoc}
-use Rattle.std.proofs.Common.{◌≢◌, filter, arith, subst}
+use Rattle.std.proofs.Common.{◌≢◌, filter, map, arith, subst}
 use Rattle.std.specs.{List.AllByRecursion as Each, List.AllZip, Prelude.All}
 use Rattle.texting_robots.specs.{Cut.IsBodyByte, Cut.cr, Cut.lf, Internal.Cut.bodies_of, Line.without_bom}
 use Rattle.texting_robots.proofs.Shared.{body_step, step, bodies_nil, byte_cases, each_append}
 use Rattle.rfc9309.specs.{Rfc9309.IsLastNl}
-use Rattle.rfc9309.specs.LineForms.{Form, IsLine, HasForm, Empty, Agent, Rule, Delay, Sitemap, Other}
+use Rattle.rfc9309.specs.LineForms.{Form, IsFormOf, HasForm, Empty, Agent, Rule, Delay, Sitemap, Other}
 use Rattle.rfc9309.specs.LineForms.{AreForms, AreRulesBelowAgents as AreFree}
 use Rattle.std.proofs.lemmas.{Bool.ne_eqb, List.Elements.recursion_from_All, List.Elements.All-from_recursion}
 use Rattle.texting_robots.specs.Executable.{file_bodies}
 use Rattle.rfc9309.proofs.{HasFormLemmas.form_passes}
 use Rattle.rfc9309.proofs.OtherLemmas.{form_tested, only_empty}
 use Rattle.rfc9309.proofs.ReadLemmas.{nothing_replaced, end_more}
-use Rattle.rfc9309.proofs.{ItemLemmas.groups_merged}
-use Rattle.rfc9309.proofs.FileLemmas.{Line, after_front, bodies_are, forms_of, items_read}
-use Rattle.rfc9309.proofs.FileLemmas.{joined, line_bodies, no_nul}
+use Rattle.rfc9309.proofs.FileLemmas.{Line, after_front, bodies_are, forms_of, entries_read}
+use Rattle.rfc9309.proofs.FileLemmas.{joined, line_bodies, no_nul, no_rules}
 use Rattle.rfc9309.specs.Rfc9309 as rfc
 
 abbrev IsEndByte : ℕ → Type 0
@@ -90,38 +89,42 @@ ended_bytes (body ∷ bodies) text (bytes, (end, ends, rest, whole, is_end, are_
 pub bodies_bytes : (text : List ℕ) → Each (Each IsBodyByte) (bodies_of text)
 bodies_bytes text = let (nl, last, are) = completed text in ended_bytes (bodies_of text) (text ++ nl) are
 
--- lines of the grammar; if `Free` holds, no rule is above the first token
-record AreItems (Free : Type 0) (text : List ℕ) : Type 0 where
-  items : List rfc.Item
-  are_lines : rfc.AreLines rfc.IsLine items text
-  are_free : Free → filter rfc.is_rule (rfc.above_groups items) ≡ []
+abbrev OnlyDelays : List rfc.Entry → Type 0
+OnlyDelays entries = (numbers : List (List ℕ)) × (rfc.above_groups entries ≡ map rfc.Delay numbers)
 
-module _ {Free : Type 0} (line text : List ℕ) (rest : AreItems Free text) where
-  item_before : {Before : Type 0} (item : rfc.Item) → rfc.IsLine item line
-      → (Before → filter rfc.is_rule (rfc.above_groups (item ∷ rest.items)) ≡ [])
-      → AreItems Before (line ++ text)
-  item_before item is free = record {
-    items = item ∷ rest.items;
+-- lines of the grammar; if `Free` holds, only delays are above the first token
+record AreEntries (Free : Type 0) (text : List ℕ) : Type 0 where
+  entries : List rfc.Entry
+  are_lines : rfc.AreLines rfc.IsLine entries text
+  are_free : Free → OnlyDelays entries
+
+module _ {Free : Type 0} (line text : List ℕ) (rest : AreEntries Free text) where
+  entry_before : {Before : Type 0} (entry : rfc.Entry) → rfc.IsLine entry line
+      → (Before → OnlyDelays (entry ∷ rest.entries)) → AreEntries Before (line ++ text)
+  entry_before entry is free = record {
+    entries = entry ∷ rest.entries;
     are_lines = (line, text, refl, is, rest.are_lines);
     are_free = free;
   }
 
-form_before : (form : Form) (forms : List Form) (line text : List ℕ) → IsLine form line
-    → AreItems (AreFree forms) text → AreItems (AreFree (form ∷ forms)) (line ++ text)
-form_before Empty forms line text is rest = item_before line text rest rfc.Nothing (inl is) rest.are_free
+form_before : (form : Form) (forms : List Form) (line text : List ℕ) → IsFormOf form line
+    → AreEntries (AreFree forms) text → AreEntries (AreFree (form ∷ forms)) (line ++ text)
+form_before Empty forms line text is rest = entry_before line text rest rfc.Nothing (inl is) rest.are_free
 form_before Agent forms line text (token, is) rest =
-    item_before line text rest (rfc.Agent token) is (λ free. refl)
+    entry_before line text rest (rfc.Agent token) is (λ free. ([], refl))
 form_before Rule forms line text (member, inl is) rest =
-    item_before line text rest (rfc.InGroup member) (inl is) (λ free. absurd free)
+    entry_before line text rest (rfc.InGroup member) (inl is) (λ free. absurd free)
 form_before Rule forms line text (member, inr is) rest =
-    item_before line text rest (rfc.InGroup member) (inr (inl is)) (λ free. absurd free)
+    entry_before line text rest (rfc.InGroup member) (inr (inl is)) (λ free. absurd free)
 form_before Delay forms line text (rfc.Delay number, is) rest =
-    item_before line text rest (rfc.InGroup (rfc.Delay number)) (inr (inr is)) rest.are_free
+    entry_before line text rest (rfc.InGroup (rfc.Delay number)) (inr (inr is)) (λ free.
+    let (numbers, same) = rest.are_free free in
+    (number ∷ numbers, ap (λ more. rfc.Delay number ∷ more) same))
 form_before Delay forms line text (rfc.Allow pattern, is) rest = absurd is
 form_before Delay forms line text (rfc.Disallow pattern, is) rest = absurd is
 form_before Sitemap forms line text (address, is) rest =
-    item_before line text rest (rfc.Sitemap address) is rest.are_free
-form_before Other forms line text is rest = item_before line text rest rfc.Nothing (inr is) rest.are_free
+    entry_before line text rest (rfc.Sitemap address) is rest.are_free
+form_before Other forms line text is rest = entry_before line text rest rfc.Nothing (inr is) rest.are_free
 
 is_nl : (end : ℕ) → IsEndByte end → rfc.IsNl (end ∷ [])
 is_nl end is = grind arith
@@ -137,23 +140,23 @@ end_empty end is = record {
   is_nl = is_nl end is;
 }
 
-ends_before : {Free : Type 0} (ends text : List ℕ) → Each IsEndByte ends → AreItems Free text
-    → AreItems Free (ends ++ text)
+ends_before : {Free : Type 0} (ends text : List ℕ) → Each IsEndByte ends → AreEntries Free text
+    → AreEntries Free (ends ++ text)
 ends_before [] text are rest = rest
 ends_before (end ∷ ends) text are rest =
     let after = ends_before ends text are.1 rest in
-    item_before (end ∷ []) (ends ++ text) after rfc.Nothing (inl (end_empty end are.0)) after.are_free
+    entry_before (end ∷ []) (ends ++ text) after rfc.Nothing (inl (end_empty end are.0)) after.are_free
 
-items_from : (forms : List Form) (bodies : List (List ℕ)) (text : List ℕ) → AllZip HasForm forms bodies
-    → AreEnded bodies text → AreItems (AreFree forms) text
-items_from [] [] text all none = record { items = []; are_lines = none; are_free = λ free. refl }
-items_from [] (body ∷ bodies) text all are = absurd all
-items_from (form ∷ forms) [] text all are = absurd all
-items_from (form ∷ forms) (body ∷ bodies) text (is, all)
+entries_from : (forms : List Form) (bodies : List (List ℕ)) (text : List ℕ) → AllZip HasForm forms bodies
+    → AreEnded bodies text → AreEntries (AreFree forms) text
+entries_from [] [] text all none = record { entries = []; are_lines = none; are_free = λ free. ([], refl) }
+entries_from [] (body ∷ bodies) text all are = absurd all
+entries_from (form ∷ forms) [] text all are = absurd all
+entries_from (form ∷ forms) (body ∷ bodies) text (is, all)
     (bytes, (end, ends, rest, whole, is_end, are_ends, are)) =
     let ended =
     form_passes (end ∷ []) (is_nl end is_end) form body (form_tested body bytes form is) in
-    let after = ends_before ends rest are_ends (items_from forms bodies rest all are) in
+    let after = ends_before ends rest are_ends (entries_from forms bodies rest all are) in
     let joined : text ≡ (body ++ end ∷ []) ++ (ends ++ rest) = whole ∙ simp append_assoc in
     rw joined (form_before form forms (body ++ end ∷ []) (ends ++ rest) ended after)
 
@@ -167,8 +170,10 @@ forms_make_file text forms are =
     let bodies : file_bodies text ≡ bodies_of rest =
     ap (λ t. bodies_of (without_bom t)) (nothing_replaced text no_nul) in
     let each : AllZip HasForm forms _ = subst (AllZip HasForm forms) bodies are.each in
-    let all = items_from forms _ (rest ++ nl) each ended in (
-      rfc.groups_of all.items,
+    let all = entries_from forms _ (rest ++ nl) each ended in
+    let (numbers, above) = all.are_free are.below in (
+      rfc.groups_of all.entries,
+      numbers,
       record {
         bom = bom;
         rest = rest;
@@ -177,10 +182,10 @@ forms_make_file text forms are =
         is_bom = is_bom;
         is_nl = last;
         is_content = record {
-          items = all.items;
+          entries = all.entries;
           are_lines = all.are_lines;
-          none_above = all.are_free are.below;
-          written = groups_merged all.items;
+          above = above;
+          written = refl;
         };
       },
     )
@@ -244,9 +249,9 @@ bom_no_nul bom h = grind arith
 
 pub file_has_forms : (text : List ℕ) (groups : List rfc.Group) → rfc.IsFile groups text
     → (forms : List Form) × AreForms forms text
-file_has_forms text groups file =
+file_has_forms text groups (numbers, file) =
     let content = file.is_content in
-    let all = items_read content.items (file.rest ++ file.nl) content.are_lines in
+    let all = entries_read content.entries (file.rest ++ file.nl) content.are_lines in
     let lines = all.lines in
     let every =
     each_append (λ b. b ≢ 0) file.bom file.rest (bom_no_nul file.bom file.is_bom)
@@ -273,6 +278,8 @@ file_has_forms text groups file =
         no_nul = subst (All (λ b. b ≢ 0)) (sym file.whole) (All-from_recursion (λ b. b ≢ 0) _ every);
         bom = (file.bom, file.is_bom, file.whole ∙ ap (λ t. file.bom ++ t) (sym front));
         each = rw (bodies_are file lines all.whole) are.each;
-        below = are.free (all.free content.none_above);
+        below =
+            are.free (all.free (
+            ap (λ members. filter rfc.is_rule members) content.above ∙ no_rules numbers));
       },
     )

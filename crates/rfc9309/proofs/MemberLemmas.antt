@@ -13,8 +13,8 @@ use Rattle.rfc9309.proofs.KeyedLemmas.{IsLineOf, keyed_line, has_at, parts_at, p
 use Rattle.rfc9309.proofs.ValueLemmas.{IsVisible, trim_some, trim_utf8, visible_trim, visible_utf8}
 use Rattle.rfc9309.proofs.Sources.{Parts, Source, allowed_in, with_address, with_member, with_source}
 use Rattle.rfc9309.proofs.SyntaxLemmas.{each_weaker}
-use Rattle.rfc9309.specs.HasForm.{are_some, is_digit, is_identifier_byte, is_number}
-use Rattle.rfc9309.specs.HasForm.{is_pattern, is_product_token}
+use Rattle.rfc9309.specs.LineTest.{are_some, is_digit, is_identifier_byte, is_number}
+use Rattle.rfc9309.specs.LineTest.{is_pattern, is_product_token}
 use Rattle.rfc9309.specs.LineForms.{Form, Agent, Rule, Delay, Sitemap}
 use Rattle.std.specs.{List.AllByRecursion as Each, Char.IsAsciiDigit, Str.is_utf8}
 use Rattle.std.proofs.lemmas.Str.Parse.{without_leading_plus_none}

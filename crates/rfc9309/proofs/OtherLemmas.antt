@@ -19,9 +19,9 @@ use Rattle.rfc9309.proofs.ReadLemmas.{IsBare, low_append}
 use Rattle.rfc9309.proofs.ValueLemmas.{IsWritten, Stops, blank_no_letter, identifier_bounds, same_word}
 use Rattle.rfc9309.proofs.ValueLemmas.{written as expressed}
 use Rattle.rfc9309.proofs.Sources.{Source, is_not_raw, written}
-use Rattle.rfc9309.specs.HasForm.{colon, has_byte, has_form, hash, is_blank, is_comment_text, lower}
-use Rattle.rfc9309.specs.HasForm.{is_other_name}
-use Rattle.rfc9309.specs.LineForms.{Form, HasForm, IsLine, Empty, Agent, Rule, Delay, Sitemap, Other}
+use Rattle.safe_output.specs.Bytes.{has, is_blank}
+use Rattle.rfc9309.specs.LineTest.{colon, has_form, hash, is_comment_text, is_other_name, lower}
+use Rattle.rfc9309.specs.LineForms.{Form, HasForm, IsFormOf, Empty, Agent, Rule, Delay, Sitemap, Other}
 use Rattle.std.specs.{Char.to_ascii_lowercase}
 use Rattle.rfc9309.proofs.SyntaxLemmas.{each_back, each_weaker}
 use Rattle.rfc9309.specs.Rfc9309 as rfc
@@ -176,7 +176,7 @@ module _ (text : List ℕ) (o : rfc.IsOtherLine text) where
         is_nl = o.is_nl;
         tested =
             and_from _ _
-            (and_from (has_byte colon body) _ line.has (ap is_other_name line.name ∙ other_passes))
+            (and_from (has colon body) _ line.has (ap is_other_name line.name ∙ other_passes))
             (ap is_comment_text line.after ∙ value.1);
         bare = line.bare value.0;
         low = line.low;
@@ -184,7 +184,7 @@ module _ (text : List ℕ) (o : rfc.IsOtherLine text) where
         read = tt;
       }
 
-pub line_of : (form : Form) (text : List ℕ) → IsLine form text
+pub line_of : (form : Form) (text : List ℕ) → IsFormOf form text
     → (sources : List Source) × IsLineOf form sources text
 line_of Empty text is = ([], empty_line text is)
 line_of Agent text (token, is) = (_, token_line token text is)

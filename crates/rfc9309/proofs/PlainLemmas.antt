@@ -1,12 +1,11 @@
 -- A plain path (`is_plain_path`) is compared here as the standard does.
-use Rattle.std.proofs.Common.{◌≡◌, ◌≤◌, ℕ, ◌+◌, ◌-◌, ◌==◌, ◌||◌, Bool, true, false, not, inl, inr, List}
-use Rattle.std.proofs.Common.{[], ◌∷◌, ◌++◌, ap, ap₂, arith, if◌then◌else◌, refl}
-use Rattle.std.proofs.Common.{sym, ◌∙◌}
-use Rattle.std.specs.{List.list_any}
-use Rattle.std.proofs.lemmas.Bool.{agree_below_at, and_parts, cases_Bool, cases_lt, Decides.nat_tests}
-use Rattle.std.proofs.lemmas.Bool.{le-ltb, not-true, or_from, or_parts}
-use Rattle.texting_robots.specs.Callers.{escaped}
-use Rattle.texting_robots.specs.{Escape.escape_byte, Escape.is_escaped}
+use Rattle.std.proofs.Common.{◌≡◌, ◌≤◌, ℕ, ◌+◌, ◌-◌, ◌==◌, ◌||◌, Bool, true, false, not, inl, inr, List, []}
+use Rattle.std.proofs.Common.{◌∷◌, ◌++◌, ap, ap₂, arith, if◌then◌else◌, refl, sym, ◌∙◌}
+use Rattle.std.specs.List.{list_any}
+use Rattle.std.proofs.lemmas.Bool.{agree_below_at, and_parts, cases_Bool, cases_lt, le-ltb, not-true, or_from}
+use Rattle.std.proofs.lemmas.Bool.{or_parts}
+use Rattle.std.proofs.lemmas.Bool.Decides.{nat_tests}
+use Rattle.texting_robots.specs.{Callers.escaped, Escape.escape_byte, Escape.is_escaped}
 use Rattle.rfc9309.specs.Comparable.{IsPlainPath, has_odd_escape}
 use Rattle.rfc9309.specs.Conformance.{front_of, is_odd_octet, is_plain_path}
 use Rattle.rfc9309.specs.Matching.{all_stay, has_dollar, in_rule, is_kept, normal_from, normal_octet}

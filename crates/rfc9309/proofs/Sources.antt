@@ -5,7 +5,7 @@ use Rattle.std.proofs.Common.{append-nil, append_assoc, arith, if◌then◌else�
 use Rattle.texting_robots.specs.Line.{LineValue, UserAgent, Allow, CrawlDelay, Disallow, Sitemap, is_raw}
 use Rattle.texting_robots.specs.{Executable.rule_in, Executable.sitemap_in, Delay.IsDelay, Group.is_member}
 use Rattle.texting_robots.specs.{Trim.IsTrimOf, Rules.Rule, Internal.Line.line_of}
-use Rattle.rfc9309.specs.{HasForm.value_in, StandardRobot.IsReadAs}
+use Rattle.rfc9309.specs.{LineTest.value_in, StandardRobot.IsReadAs}
 use Rattle.rfc9309.specs.Rfc9309 as rfc
 
 -- the value, between the colon and a comment

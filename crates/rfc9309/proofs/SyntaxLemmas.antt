@@ -1,6 +1,5 @@
 -- Properties of each item of a list, and concatenating texts that repeat a production.
-use Rattle.std.proofs.Common.{arith}
-use Rattle.std.proofs.Common.{◌≡◌, Bool, true, List, [], ◌∷◌, ◌++◌, ℕ, flat_map, sym, append-nil}
+use Rattle.std.proofs.Common.{arith, ◌≡◌, Bool, true, List, [], ◌∷◌, ◌++◌, ℕ, flat_map, sym, append-nil}
 use Rattle.std.specs.List.{AllByRecursion as Each, list_all}
 use Rattle.rfc9309.specs.Rfc9309.{IsMany, Repeats}
 use Rattle.std.proofs.lemmas.{Bool.and_parts, Grind.flat_map-append}

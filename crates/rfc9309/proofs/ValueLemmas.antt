@@ -17,7 +17,7 @@ use Rattle.texting_robots.proofs.Shared.{trailing_blanks, graphic_trim, same_tri
 use Rattle.texting_robots.proofs.Shared.{white_scalar}
 use Rattle.rfc9309.proofs.{SyntaxLemmas.passing}
 use Rattle.texting_robots.specs.declared.parser.statement.{Kind.Kind}
-use Rattle.rfc9309.specs.{HasForm.is_identifier_byte}
+use Rattle.rfc9309.specs.{LineTest.is_identifier_byte}
 use Rattle.texting_robots.specs.declared.parser.statement.Kind.TheVariants as kind
 use Rattle.rfc9309.specs.Rfc9309 as rfc
 

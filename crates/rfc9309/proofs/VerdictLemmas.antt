@@ -1,19 +1,17 @@
 -- The verdict of rules that are read from rules of the grammar is that of the standard.
-use Rattle.std.proofs.Common.{◌≡◌, ◌≢◌, ◌↔◌, ◌⊎◌, ℕ, zero, suc, Bool, true, false, inl, inr, List, []}
-use Rattle.std.proofs.Common.{◌∷◌, refl, codes, length, sym, ap, ◌∙◌, arith, subst}
-use Rattle.std.proofs.{Common.length-append}
+use Rattle.std.proofs.Common.{◌≡◌, ◌≢◌, ◌↔◌, ◌⊎◌, ℕ, zero, suc, Bool, true, false, inl, inr, List, [], ◌∷◌}
+use Rattle.std.proofs.Common.{refl, codes, length, sym, ap, ◌∙◌, arith, subst, length-append}
 use Rattle.std.specs.List.{AllByRecursion as Each, AllZip, Contains, list_any}
 use Rattle.std.proofs.lemmas.List.Elements.{All-contains, All-from_recursion}
 use Rattle.texting_robots.specs.Callers.{IsDenied, IsRobotOfFile, IsVerdict, Matches, RobotValue, Rule}
 use Rattle.texting_robots.specs.Callers.{escaped, unplaced}
 use Rattle.texting_robots.specs.{Escape.is_escaped, Trim.IsTrimOf}
 use Rattle.texting_robots.proofs.Shared.{plain_stays, is_trimmed, same_verdicts}
-use Rattle.rfc9309.specs.{StandardRobot.IsReadAs, StandardRobot.IsFileWith, Comparable.AreComparable}
-use Rattle.rfc9309.specs.Comparable.{IsPathOf, IsPlainPath}
-use Rattle.rfc9309.specs.Matching.{IsDisallowed, IsMatch, IsRfcVerdict, Reading, normal_uri}
-use Rattle.rfc9309.specs.Matching.{octets}
-use Rattle.rfc9309.proofs.{FileLemmas.file_with, RobotLemmas.robot_as}
+use Rattle.rfc9309.specs.Comparable.{AreComparable, IsPathOf, IsPlainPath}
+use Rattle.rfc9309.specs.Matching.{IsDisallowed, IsMatch, IsRfcVerdict, Reading, normal_uri, octets}
+use Rattle.rfc9309.specs.{StandardRobot.IsReadAs, Rfc9309.IsFileWith}
 use Rattle.rfc9309.proofs.NormalLemmas.{end_of, escaped_parts, matches_so}
+use Rattle.rfc9309.proofs.{FileLemmas.file_with, RobotLemmas.robot_as}
 use Rattle.rfc9309.specs.Rfc9309 as rfc
 
 zip_swap : {A B : Type 0} (R : A → B → Type 0) (xs : List A) (ys : List B) → AllZip R xs ys
@@ -155,12 +153,12 @@ module _ (stays : Reading) (count : List ℕ → ℕ) (members : List rfc.Member
 pub robot_agrees : (stays : Reading) (count : List ℕ → ℕ) (agent text uri : List ℕ) (groups : List rfc.Group)
     (numbers : List (List ℕ)) (robot : RobotValue) (answer : Bool)
     → IsFileWith numbers groups text → IsRobotOfFile agent text robot
-    → AreComparable stays count (rfc.rules_for agent (rfc.merged groups)) uri
+    → AreComparable stays count (rfc.rules_for agent groups) uri
     → IsVerdict (unplaced robot.rules) uri answer
-    ↔ IsRfcVerdict stays count (rfc.rules_for agent (rfc.merged groups)) uri answer
+    ↔ IsRfcVerdict stays count (rfc.rules_for agent groups) uri answer
 robot_agrees stays count agent text uri groups numbers robot answer written is fit =
     let (addresses, lists) = (file_with text numbers groups written).lists in
-    let members = rfc.rules_for agent (rfc.merged groups) in
+    let members = rfc.rules_for agent groups in
     let (placed, same, zip) =
     (robot_as agent text groups numbers addresses robot written lists is).rules in
     let alike = same_verdicts placed robot.rules same uri answer in

@@ -1,9 +1,10 @@
 -- Conditions on rules and on a URI under which the verdict of this library is that of the standard.
 use Rattle.std.specs.Prelude.{◌≡◌, ◌≢◌, ◌⊎◌, ℕ, ◌+◌, ◌*◌, ◌<◌, ◌==◌, ◌&&◌, ◌||◌, not, Bool, false, List}
-use Rattle.std.specs.Prelude.{[], ◌∷◌, Contains, codes, slice_index}
+use Rattle.std.specs.Prelude.{[], Contains, codes, slice_index}
 use Rattle.std.specs.{Char.digit_value, Char.is_ascii_lowercase, List.list_all, Str.byte}
 use Rattle.rfc9309.specs.Matching.{Reading, has_dollar, is_escape, is_one_of, is_unreserved}
 use Rattle.rfc9309.specs.Matching.{normal_path, normal_uri, octets, without_end}
+use Rattle.safe_output.specs.{Bytes.somewhere}
 use Rattle.texting_robots.specs.{Escape.escaped, Trim.IsTrimOf}
 use Rattle.rfc9309.specs.Rfc9309 as rfc
 
@@ -16,9 +17,9 @@ begins_odd_escape text =
     && ((is_ascii_lowercase high || is_ascii_lowercase low)
     || is_unreserved (digit_value high * 16 + digit_value low))
 
+-- some escape isn't in normal form
 abbrev pub has_odd_escape : List ℕ → Bool
-has_odd_escape [] = false
-has_odd_escape (b ∷ text) = begins_odd_escape (b ∷ text) || has_odd_escape text
+has_odd_escape text = somewhere begins_odd_escape text
 
 -- unreserved, `%`, or reserved other than a star, a dollar and `#`
 abbrev pub is_uri_octet : ℕ → Bool
@@ -38,7 +39,8 @@ pub record IsPlainPath (stays : Reading) (path : List ℕ) : Type 0 where
 abbrev pub IsPathOf : List rfc.Member → List ℕ → Type 0
 IsPathOf members path = Contains members (rfc.Allow path) ⊎ Contains members (rfc.Disallow path)
 
--- The rules and the URI are such that both verdicts agree.
+-- The rules and the URI are such that both verdicts agree, where `stays` says which reserved octets stay, and
+-- `count` gives the octets of a rule, by which one of several matches is chosen.
 -- - `normal`: the URI is in normal form;
 -- - `robots`: so is `/robots.txt`;
 -- - `trimmed`: no rule has white space to trim;

@@ -1,22 +1,18 @@
 -- Whether a file is in the extended grammar (`IsFile`), decided line by line, and whether verdicts on it, for
 -- paths and queries in normal form, are those of the standard, if reserved octets stay; if not, because of
 -- which line.
-use Rattle.std.specs.Prelude.{ℕ, ◌+◌, ◌-◌, ◌==◌, ◌&&◌, ◌||◌, not, nat_eq, nat_le, Bool, true, false}
-use Rattle.std.specs.Prelude.{List, [], ◌∷◌, Option, Some, None, bytes_eq, codes, if◌then◌else◌, length}
-use Rattle.std.specs.Prelude.{take}
-use Rattle.std.specs.List.{ends_with, list_any, position_from, starts_with}
-use Rattle.std.specs.{Option.option_or}
+use Rattle.std.specs.Prelude.{ℕ, ◌+◌, ◌-◌, ◌==◌, ◌&&◌, ◌||◌, not, nat_eq, nat_le, Bool, true, false, List, []}
+use Rattle.std.specs.Prelude.{◌∷◌, Option, Some, None, bytes_eq, codes, if◌then◌else◌, length, take}
+use Rattle.std.specs.{List.ends_with, List.list_any, List.position_from, List.starts_with, Option.option_or}
 use Rattle.texting_robots.specs.Callers.{Allow, CrawlDelay, Disallow, LineValue, PlacedRule, UserAgent}
 use Rattle.texting_robots.specs.Callers.{agents_in, file_bodies, file_limit, file_lines, placed_rules}
-use Rattle.texting_robots.specs.{Internal.Statement.trimmed}
-use Rattle.rfc9309.specs.{Comparable.has_odd_escape, Matching.has_dollar}
-use Rattle.rfc9309.specs.HasForm.{has_form, value_in}
+use Rattle.texting_robots.specs.Internal.Statement.{trimmed}
+use Rattle.rfc9309.specs.LineTest.{has_form, value_in}
 use Rattle.rfc9309.specs.LineForms.{Agent, Delay, Empty, Other, Rule, Sitemap}
-use Rattle.rfc9309.specs.declared.conformance.Above.{Above}
-use Rattle.rfc9309.specs.declared.conformance.Conformance.{Conformance}
+use Rattle.rfc9309.specs.{Comparable.has_odd_escape, Matching.has_dollar}
+use Rattle.rfc9309.specs.declared.conformance.{Above.Above, Conformance.Conformance}
 use Rattle.rfc9309.specs.declared.conformance.Above.TheVariants as over
-use Rattle.rfc9309.specs.declared.conformance.Conformance.TheVariants.{OtherFile, OtherLine, Syntax}
-use Rattle.rfc9309.specs.declared.conformance.Conformance.TheVariants.{Verdicts}
+use Rattle.rfc9309.specs.declared.conformance.Conformance.TheVariants.{OtherFile, OtherLine, Syntax, Verdicts}
 
 -- ---- the grammar
 
@@ -73,7 +69,7 @@ abbrev pub is_apart : List ℕ → Bool
 is_apart body =
     has_form Rule body && not (is_plain_path (value_in body) && is_read_as_written (value_in body))
 
--- what is above the next line
+-- what is above the line after this one
 abbrev pub next_above : Above → LineValue → Above
 next_above over.Delay (UserAgent name) = over.Split
 next_above over.Split (UserAgent name) = over.Split
@@ -83,6 +79,7 @@ next_above above (Disallow value) = over.Rule
 next_above over.Agent (CrawlDelay delay) = over.Delay
 next_above above _ = above
 
+-- user-agent lines with delays between them are above
 abbrev pub is_split : Above → Bool
 is_split over.Split = true
 is_split _ = false
@@ -115,6 +112,7 @@ allows_all placed = placed.rule.1 && is_all placed.rule.0
 abbrev pub denies_all : PlacedRule → Bool
 denies_all placed = not placed.rule.1 && is_all placed.rule.0
 
+-- the line of the first Disallow of everything
 abbrev pub first_denying : List PlacedRule → Option ℕ
 first_denying [] = None
 first_denying (placed ∷ rules) = if denies_all placed then Some placed.line else first_denying rules
@@ -124,6 +122,7 @@ first_denying (placed ∷ rules) = if denies_all placed then Some placed.line el
 abbrev pub first_mixed : List PlacedRule → Option ℕ
 first_mixed rules = if list_any allows_all rules then first_denying rules else None
 
+-- the line that `first_mixed` finds, for the first crawler that has one
 abbrev pub first_mixed_for : List (List ℕ) → List LineValue → Option ℕ
 first_mixed_for [] lines = None
 first_mixed_for (agent ∷ agents) lines =
@@ -138,11 +137,14 @@ line_apart text =
 
 -- ---- both
 
+-- by the first line that isn't in the grammar, and the first because of which a verdict may not be the
+-- standard's
 abbrev pub by_lines : (other apart : Option ℕ) → Conformance
 by_lines (Some line) apart = OtherLine line
 by_lines None (Some line) = Syntax line
 by_lines None None = Verdicts
 
+-- what the file is by RFC 9309
 abbrev pub conformance_of : List ℕ → Conformance
 conformance_of file =
     let text = take file_limit file in
@@ -155,7 +157,8 @@ has_syntax (Syntax line) = true
 has_syntax Verdicts = true
 has_syntax _ = false
 
--- and each verdict on a path and query in normal form is that of the standard, if reserved octets stay
+-- the file is in the grammar, and each verdict on a path and query in normal form is that of the standard, if
+-- reserved octets stay
 abbrev pub has_verdicts : Conformance → Bool
 has_verdicts Verdicts = true
 has_verdicts _ = false

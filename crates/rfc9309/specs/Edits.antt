@@ -21,7 +21,7 @@ pub record DifferInRule (agent file other : List ℕ) : Type 0 where
   pub uncaptured : ¬ IsCaptured (group_name agent (above ++ line ∷ below)) (above ++ line ∷ below)
       (length above)
 
--- a rule of another crawler, and another kind of it
+-- an Allow in place of another crawler's Disallow
 abbrev pub example : Type 0
 example =
     DifferInRule (codes "b") (codes "User-agent: a\nDisallow: /\n") (codes "User-agent: a\nAllow: /\n")

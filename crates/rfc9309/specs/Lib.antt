@@ -2,7 +2,7 @@ pub mod Rfc9309
 pub mod Sample
 pub mod StandardRobot
 pub mod LineForms
-pub mod HasForm
+pub mod LineTest
 pub mod Conformance
 pub mod Matching
 pub mod Comparable

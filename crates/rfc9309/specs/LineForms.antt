@@ -10,19 +10,19 @@ use Rattle.rfc9309.specs.Rfc9309 as rfc
 pub data Form : Type 0 where
   Empty Agent Rule Delay Sitemap Other : Form
 
--- the line includes its terminator
-abbrev pub IsLine : Form → List ℕ → Type 0
-IsLine Empty line = rfc.IsEmptyLine line
-IsLine Agent line = (token : List ℕ) × rfc.IsStartGroupLine token line
-IsLine Rule line = (member : rfc.Member) × (rfc.IsRule member line ⊎ rfc.IsStarRule member line)
-IsLine Delay line = (member : rfc.Member) × rfc.IsDelayLine member line
-IsLine Sitemap line = (address : List ℕ) × rfc.IsSitemapLine address line
-IsLine Other line = rfc.IsOtherLine line
+-- the line, including its terminator, is of this form
+abbrev pub IsFormOf : Form → List ℕ → Type 0
+IsFormOf Empty line = rfc.IsEmptyLine line
+IsFormOf Agent line = (token : List ℕ) × rfc.IsStartGroupLine token line
+IsFormOf Rule line = (member : rfc.Member) × (rfc.IsRule member line ⊎ rfc.IsStarRule member line)
+IsFormOf Delay line = (member : rfc.Member) × rfc.IsDelayLine member line
+IsFormOf Sitemap line = (address : List ℕ) × rfc.IsSitemapLine address line
+IsFormOf Other line = rfc.IsOtherLine line
 
--- with LF after the content, it is such a line; another terminator, or none at the end of the file, makes no
--- difference
+-- with LF after the content, it is a line of this form; another terminator, or none at the end of the file,
+-- makes no difference
 abbrev pub HasForm : Form → List ℕ → Type 0
-HasForm form body = IsLine form (body ++ lf ∷ [])
+HasForm form body = IsFormOf form (body ++ lf ∷ [])
 
 -- each rule is below a user-agent line
 abbrev pub AreRulesBelowAgents : List Form → Type 0

@@ -86,6 +86,7 @@ without_end [] = []
 without_end (b ∷ []) = if b == byte "$" then [] else b ∷ []
 without_end (b ∷ c ∷ path) = b ∷ without_end (c ∷ path)
 
+-- the path ends with `$`
 unfoldable pub is_ended : List ℕ → Bool
 is_ended [] = false
 is_ended (b ∷ []) = b == byte "$"
@@ -102,7 +103,7 @@ normal_path stays path = normal_from (in_rule stays) false (without_end path)
 abbrev pub normal_uri : Reading → List ℕ → List ℕ
 normal_uri stays uri = normal_from (in_uri stays) false uri
 
--- the first string, or the empty one; the others
+-- the first string, or the empty one if there is none
 abbrev pub first_of : List (List ℕ) → List ℕ
 first_of [] = []
 first_of (string ∷ strings) = string

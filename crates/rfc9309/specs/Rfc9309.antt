@@ -1,10 +1,12 @@
 -- The grammar of a robots.txt file in RFC 9309, section 2.2, as relations between the bytes of a production
 -- and the items that they contain, such as groups. The names are those of the productions; the items come
--- before the bytes. Nothing here but `names_read` refers to this library.
+-- before the bytes. Nothing here refers to this library but `names_read`, and `groups_of`, where a delay ends
+-- a list of tokens.
 --
--- `IsRobotstxt` is exactly the standard's grammar, as it is printed there, and `IsRobotstxtByLines` says the
--- same by lines. `IsFile` extends the latter by a leading byte order mark, a last line without a line end, a
--- pattern that begins with a star, and the lines that the standard leaves to implementers.
+-- `IsRobotstxt` is exactly the standard's grammar, as it is printed there, and `IsRobotstxtByLines` states it
+-- as a list of lines. `IsFile` extends the latter by a leading byte order mark, a last line without a line
+-- end, a pattern that begins with a star, and the lines that the standard leaves to implementers. At the end
+-- are the sitemaps of a file, and the rules for a crawler.
 use Rattle.std.specs.Prelude.{◌≡◌, ◌⊎◌, ℕ, ◌≤◌, Bool, true, false, List, [], ◌∷◌, ◌++◌, map, codes, bytes_eq}
 use Rattle.std.specs.Prelude.{filter, Contains, if◌then◌else◌}
 use Rattle.std.specs.{List.flat_map, List.list_any, List.AllByRecursion as Each, Char.to_ascii_lowercase}
@@ -20,7 +22,7 @@ pub record Group : Type 0 where
   pub tokens : List (List ℕ)
   pub members : List Member
 
--- `low-high`
+-- `%xlow-high`, such as `%x41-5A`
 abbrev pub IsBetween : ℕ → ℕ → ℕ → Type 0
 IsBetween low high byte = (low ≤ byte) × (byte ≤ high)
 
@@ -276,46 +278,52 @@ IsStarRule (Delay number) text = ⊥
 
 -- ---- a file by its lines
 
--- what a line states: a product token, a member of a group, the address of a sitemap, or nothing
-pub data Item : Type 0 where
-  Agent : List ℕ → Item
-  InGroup : Member → Item
-  Sitemap : List ℕ → Item
-  Nothing : Item
+-- what a line states: a product token, a member of a group, the address of a sitemap, or nothing that counts
+-- here
+pub data Entry : Type 0 where
+  Agent : List ℕ → Entry
+  InGroup : Member → Entry
+  Sitemap : List ℕ → Entry
+  Nothing : Entry
 
--- lines, each of which states one item: the text is these lines, one after the other
-abbrev pub AreLines : (Line : Item → List ℕ → Type 0) → List Item → List ℕ → Type 0
+-- the text is lines, one after the other, which state these, one each
+abbrev pub AreLines : (Line : Entry → List ℕ → Type 0) → List Entry → List ℕ → Type 0
 AreLines Line [] text = text ≡ []
-AreLines Line (item ∷ items) text =
-    (line : List ℕ) × (rest : List ℕ) × (text ≡ line ++ rest) × Line item line × AreLines Line items rest
+AreLines Line (entry ∷ entries) text =
+    (line : List ℕ) × (rest : List ℕ) × (text ≡ line ++ rest) × Line entry line
+    × AreLines Line entries rest
 
--- A group without members is merged with the next one. Consecutive startgrouplines can be parsed in several
--- ways: as one group, or as groups without members and a group. After merging, these are the same.
+-- a group before others; without members, its tokens go to the first of these
 abbrev pub put_before : List (List ℕ) → List Member → List Group → List Group
 put_before tokens [] (next ∷ later) =
     record { tokens = tokens ++ next.tokens; members = next.members } ∷ later
 put_before tokens members later = record { tokens = tokens; members = members } ∷ later
 
+-- Section 2.1: a group is one or more user-agent lines, followed by one or more rules; the last group may
+-- have no rules. The printed grammar can also read user-agent lines before others as groups without members:
+-- these are merged with the next one.
 abbrev pub merged : List Group → List Group
 merged [] = []
 merged (group ∷ later) = put_before group.tokens group.members (merged later)
 
 -- the members above the first token
-abbrev pub above_groups : List Item → List Member
+abbrev pub above_groups : List Entry → List Member
 above_groups [] = []
-above_groups (Agent token ∷ items) = []
-above_groups (InGroup member ∷ items) = member ∷ above_groups items
-above_groups (Sitemap address ∷ items) = above_groups items
-above_groups (Nothing ∷ items) = above_groups items
+above_groups (Agent token ∷ entries) = []
+above_groups (InGroup member ∷ entries) = member ∷ above_groups entries
+above_groups (Sitemap address ∷ entries) = above_groups entries
+above_groups (Nothing ∷ entries) = above_groups entries
 
 -- Each token begins a group, with the members up to the next token. Tokens with no member between them are
--- those of one group.
-abbrev pub groups_of : List Item → List Group
+-- those of one group. A delay is a member here, so it ends a list of tokens, as in this library;
+-- `standard_groups` has the groups as the standard sees them.
+abbrev pub groups_of : List Entry → List Group
 groups_of [] = []
-groups_of (Agent token ∷ items) = put_before (token ∷ []) (above_groups items) (groups_of items)
-groups_of (InGroup member ∷ items) = groups_of items
-groups_of (Sitemap address ∷ items) = groups_of items
-groups_of (Nothing ∷ items) = groups_of items
+groups_of (Agent token ∷ entries) =
+    put_before (token ∷ []) (above_groups entries) (groups_of entries)
+groups_of (InGroup member ∷ entries) = groups_of entries
+groups_of (Sitemap address ∷ entries) = groups_of entries
+groups_of (Nothing ∷ entries) = groups_of entries
 
 abbrev pub is_rule : Member → Bool
 is_rule (Allow pattern) = true
@@ -323,38 +331,42 @@ is_rule (Disallow pattern) = true
 is_rule (Delay number) = false
 
 -- the standard's own lines: startgroupline / rule / emptyline
-abbrev pub IsStandardLine : Item → List ℕ → Type 0
+abbrev pub IsStandardLine : Entry → List ℕ → Type 0
 IsStandardLine (Agent token) text = IsStartGroupLine token text
 IsStandardLine (InGroup member) text = IsRule member text
 IsStandardLine (Sitemap address) text = ⊥
 IsStandardLine Nothing text = IsEmptyLine text
 
--- robotstxt by its lines, where no rule is above the first group; merging the groups gives those of the lines
+-- robotstxt as a list of lines: no rule is above the first group, and the groups are those that the lines
+-- make
 pub record IsRobotstxtByLines (groups : List Group) (text : List ℕ) : Type 0 where
-  pub items : List Item
-  pub are_lines : AreLines IsStandardLine items text
-  pub none_above : above_groups items ≡ []
-  pub written : merged groups ≡ groups_of items
+  pub entries : List Entry
+  pub are_lines : AreLines IsStandardLine entries text
+  pub none_above : above_groups entries ≡ []
+  pub written : groups ≡ groups_of entries
 
--- ---- the same with further lines
+-- ---- the extended grammar by its lines
+
+-- It has no form by groups: that further lines are skipped is stated by `groups_of` itself.
 
 -- memberline = rule / starrule / delayline; in the standard: rule
 abbrev pub IsMemberLine : Member → List ℕ → Type 0
 IsMemberLine member text = IsRule member text ⊎ (IsStarRule member text ⊎ IsDelayLine member text)
 
 -- line = startgroupline / memberline / sitemapline / emptyline / otherline
-abbrev pub IsLine : Item → List ℕ → Type 0
+abbrev pub IsLine : Entry → List ℕ → Type 0
 IsLine (Agent token) text = IsStartGroupLine token text
 IsLine (InGroup member) text = IsMemberLine member text
 IsLine (Sitemap address) text = IsSitemapLine address text
 IsLine Nothing text = IsEmptyLine text ⊎ IsOtherLine text
 
--- such lines, where no rule is above the first group; merging the groups gives those of the lines
-pub record IsWideFile (groups : List Group) (text : List ℕ) : Type 0 where
-  pub items : List Item
-  pub are_lines : AreLines IsLine items text
-  pub none_above : filter is_rule (above_groups items) ≡ []
-  pub written : merged groups ≡ groups_of items
+-- lines of the extended grammar (`IsLine`): only these delays are above the first group, and the groups are
+-- those that the lines make
+pub record IsExtendedByLines (numbers : List (List ℕ)) (groups : List Group) (text : List ℕ) : Type 0 where
+  pub entries : List Entry
+  pub are_lines : AreLines IsLine entries text
+  pub above : above_groups entries ≡ map Delay numbers
+  pub written : groups ≡ groups_of entries
 
 -- a byte order mark in UTF-8, which the standard's grammar doesn't have, or nothing
 abbrev pub IsBom : List ℕ → Type 0
@@ -364,7 +376,7 @@ IsBom bytes = (bytes ≡ []) ⊎ (bytes ≡ 0xEF ∷ 0xBB ∷ 0xBF ∷ [])
 abbrev pub IsLastNl : List ℕ → Type 0
 IsLastNl bytes = (bytes ≡ []) ⊎ IsNl bytes
 
--- such a content, possibly after a byte order mark, and possibly without the last NL
+-- a content of this kind, possibly after a byte order mark, and possibly without the last NL
 pub record IsFileOf (Content : List ℕ → Type 0) (text : List ℕ) : Type 0 where
   pub bom : List ℕ
   pub rest : List ℕ
@@ -374,23 +386,28 @@ pub record IsFileOf (Content : List ℕ → Type 0) (text : List ℕ) : Type 0 w
   pub is_nl : IsLastNl nl
   pub is_content : Content (rest ++ nl)
 
+-- a file in the extended grammar, with these delays above its groups
+abbrev pub IsFileWith : List (List ℕ) → List Group → List ℕ → Type 0
+IsFileWith numbers groups text = IsFileOf (IsExtendedByLines numbers groups) text
+
+-- a file in the extended grammar, with these groups: only delays may be above them, no rules
 abbrev pub IsFile : List Group → List ℕ → Type 0
-IsFile groups text = IsFileOf (IsWideFile groups) text
+IsFile groups text = (numbers : List (List ℕ)) × IsFileWith numbers groups text
 
 -- ---- the sitemaps of a file
 
-abbrev pub addresses_of : List Item → List (List ℕ)
+abbrev pub addresses_of : List Entry → List (List ℕ)
 addresses_of [] = []
-addresses_of (Agent token ∷ items) = addresses_of items
-addresses_of (InGroup member ∷ items) = addresses_of items
-addresses_of (Sitemap address ∷ items) = address ∷ addresses_of items
-addresses_of (Nothing ∷ items) = addresses_of items
+addresses_of (Agent token ∷ entries) = addresses_of entries
+addresses_of (InGroup member ∷ entries) = addresses_of entries
+addresses_of (Sitemap address ∷ entries) = address ∷ addresses_of entries
+addresses_of (Nothing ∷ entries) = addresses_of entries
 
--- such lines, regardless of groups, with these addresses
+-- lines of the extended grammar (`IsLine`), regardless of groups, which state these addresses
 pub record HasSitemaps (addresses : List (List ℕ)) (text : List ℕ) : Type 0 where
-  pub items : List Item
-  pub are_lines : AreLines IsLine items text
-  pub written : addresses ≡ addresses_of items
+  pub entries : List Entry
+  pub are_lines : AreLines IsLine entries text
+  pub written : addresses ≡ addresses_of entries
 
 -- the addresses of the file's sitemaplines, in order
 abbrev pub ListsSitemaps : List (List ℕ) → List ℕ → Type 0
@@ -398,23 +415,24 @@ ListsSitemaps addresses text = IsFileOf (HasSitemaps addresses) text
 
 -- ---- the rules for a crawler
 
--- compared without regard to the case of ASCII letters
+-- the token is the crawler's, without regard to the case of ASCII letters
 abbrev pub is_token : List ℕ → List ℕ → Bool
 is_token agent token = bytes_eq (map to_ascii_lowercase token) (map to_ascii_lowercase agent)
 
 abbrev pub has_token : List ℕ → Group → Bool
 has_token agent group = list_any (is_token agent) group.tokens
 
--- or those of `*` if the crawler has none
+-- the groups with the crawler's token, or those with `*` if there are none
 abbrev pub groups_for : List ℕ → List Group → List Group
 groups_for agent groups =
     if list_any (has_token agent) groups then filter (has_token agent) groups
     else filter (has_token (codes "*")) groups
 
+-- the rules of these groups, in order, without their delays
 abbrev pub rules_for : List ℕ → List Group → List Member
 rules_for agent groups = filter is_rule (flat_map (λ group. group.members) (groups_for agent groups))
 
--- ---- the same, with delays skipped
+-- ---- groups and rules as the standard sees them, with delays skipped
 
 -- A Crawl-delay is another record for the standard: "Crawlers MAY interpret other records that are not part
 -- of the robots.txt protocol", but "parsing of other records MUST NOT interfere with the parsing of
@@ -427,10 +445,10 @@ without_delays groups =
 abbrev pub standard_rules : List ℕ → List Group → List Member
 standard_rules agent groups = rules_for agent (merged (without_delays groups))
 
-abbrev pub is_no_delay : Item → Bool
+abbrev pub is_no_delay : Entry → Bool
 is_no_delay (InGroup (Delay number)) = false
-is_no_delay item = true
+is_no_delay entry = true
 
--- the same groups, from the lines of the file
-abbrev pub standard_groups : List Item → List Group
-standard_groups items = groups_of (filter is_no_delay items)
+-- the groups of a file's lines, delays left out; these are `merged (without_delays (groups_of entries))`
+abbrev pub standard_groups : List Entry → List Group
+standard_groups entries = groups_of (filter is_no_delay entries)

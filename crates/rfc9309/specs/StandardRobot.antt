@@ -6,7 +6,8 @@ use Rattle.texting_robots.specs.{Robot.RobotValue, Rules.PlacedRule, Rules.unpla
 use Rattle.std.specs.{List.AllZip, List.last_or, Option.option_or}
 use Rattle.rfc9309.specs.Rfc9309 as rfc
 
--- The pattern is trimmed of Unicode white space and escaped. An empty Disallow becomes an Allow of `/`.
+-- How a rule is read: its pattern is trimmed of Unicode white space and escaped. An empty Disallow becomes an
+-- Allow of `/`.
 abbrev pub IsReadAs : rfc.Member → Rule → Type 0
 IsReadAs (rfc.Allow pattern) rule =
     (value : List ℕ) × IsTrimOf value pattern × (rule ≡ (escaped value, true))
@@ -14,17 +15,6 @@ IsReadAs (rfc.Disallow []) rule = rule ≡ (codes "/", true)
 IsReadAs (rfc.Disallow (b ∷ pattern)) rule =
     (value : List ℕ) × IsTrimOf value (b ∷ pattern) × (rule ≡ (escaped value, false))
 IsReadAs (rfc.Delay number) rule = ⊥
-
--- the lines of the extended grammar, as `IsWideFile`, where these delays are above the first group
-pub record IsFileBelow (numbers : List (List ℕ)) (groups : List rfc.Group) (text : List ℕ) : Type 0 where
-  pub items : List rfc.Item
-  pub are_lines : rfc.AreLines rfc.IsLine items text
-  pub above : rfc.above_groups items ≡ map rfc.Delay numbers
-  pub written : rfc.merged groups ≡ rfc.groups_of items
-
--- the extended grammar, with these delays above the groups
-abbrev pub IsFileWith : List (List ℕ) → List rfc.Group → List ℕ → Type 0
-IsFileWith numbers groups text = rfc.IsFileOf (IsFileBelow numbers groups) text
 
 abbrev pub is_delay : rfc.Member → Bool
 is_delay (rfc.Delay number) = true
@@ -41,17 +31,18 @@ delay_among agent [] above = slice_get above 0
 delay_among agent (group ∷ groups) above =
     option_or (slice_get (delays_for agent (group ∷ groups)) 0) (last_or None above)
 
+-- the member is a delay of so many microseconds
 abbrev pub IsDelayOf : rfc.Member → ℕ → Type 0
 IsDelayOf (rfc.Delay number) micros = IsDelay number (Some micros)
 IsDelayOf _ micros = ⊥
 
--- in microseconds, if there is one
+-- the delay in microseconds, if there is one, is that of the member
 abbrev pub IsDelayAs : Option rfc.Member → Option ℕ → Type 0
 IsDelayAs None delay = delay ≡ None
 IsDelayAs (Some member) delay = (micros : ℕ) × IsDelayOf member micros × (delay ≡ Some micros)
 
--- The robot has what the file states for the crawler, where the file has these merged groups, these delays
--- above them, and these sitemaps.
+-- The robot has what the file states for the crawler, where the file has these groups, these delays above
+-- them, and these sitemaps.
 -- - `rules`: its rules, in some order, are those of the crawler's groups, as `IsReadAs` states;
 -- - `delay`: its delay is the one that counts;
 -- - `sitemaps`: its sitemaps are the addresses, trimmed, in order.

@@ -1,15 +1,14 @@
 //! Whether a file is in the extended grammar, and whether verdicts on it, for paths and queries in normal
 //! form, are those of the standard, if reserved octets stay; if not, because of which line.
-ghost use Rattle.std.specs.Prelude.{◌≡◌, ◌↔◌, ◌<◌, ◌≤◌, ◌==◌, ◌∷◌, ℕ, Bool, Contains, IfOk, List, codes, map};
-ghost use Rattle.std.specs.Prelude.{false, length, take, true};
+ghost use Rattle.std.specs.Prelude.{◌≡◌, ◌↔◌, ◌≤◌, ◌∷◌, ℕ, Bool, Contains, IfOk, List, codes, false, length};
+ghost use Rattle.std.specs.Prelude.{map, take, true};
 ghost use Rattle.texting_robots.specs.Callers.{IsFileRejected, IsRobotOfFile, IsVerdict, RobotValue, escaped};
 ghost use Rattle.texting_robots.specs.Callers.{agents_in, lines_read, unplaced, by_value, file_bodies};
 ghost use Rattle.texting_robots.specs.Callers.{file_limit, file_lines, placed_rules};
-ghost use Rattle.rfc9309.specs.Matching.{IsRfcVerdict, all_stay, normal_uri, octets, has_dollar};
-ghost use Rattle.rfc9309.specs.Matching.{is_unreserved};
+ghost use Rattle.rfc9309.specs.Matching.{IsRfcVerdict, all_stay, normal_uri, octets};
 ghost use Rattle.rfc9309.specs.Rfc9309.{standard_rules, Group, IsFile};
-ghost use Rattle.std.specs.{Char.digit_value, Char.is_ascii_hexdigit, List.list_any, List.position_from};
-ghost use Rattle.rfc9309.specs.Comparable.{begins_odd_escape, has_odd_escape};
+ghost use Rattle.std.specs.{List.list_any, List.position_from};
+ghost use Rattle.rfc9309.specs.Comparable.{begins_odd_escape};
 ghost use Rattle.rfc9309.specs.Conformance.{by_lines, conformance_of, first_mixed, first_mixed_for};
 ghost use Rattle.rfc9309.specs.Conformance.{first_other, front_of, line_apart, first_split, has_syntax};
 ghost use Rattle.rfc9309.specs.Conformance.{has_mark_or_none, has_verdicts, is_all, is_apart};
@@ -18,6 +17,7 @@ ghost use Rattle.rfc9309.specs.Conformance.{is_open, is_read_whole};
 
 use crate::grammar::{is_agent_line, is_line_below, is_rule_line, value_in};
 use bstr::ByteSlice;
+use safe_output::bytes::{has, hex_value, needs_no_escape, somewhere};
 use std::alloc::{AllocError, Global};
 use texting_robots::Site;
 use texting_robots::parser::{Line, file_bodies, file_lines};
@@ -32,7 +32,8 @@ pub enum Conformance {
     OtherLine(usize),
     /// The file is in the grammar; because of this line, verdicts may not be the standard's.
     Syntax(usize),
-    /// And the verdict on each path and query in normal form is the standard's, if reserved octets stay.
+    /// The file is in the grammar, and the verdict on each path and query in normal form is the standard's,
+    /// if reserved octets stay.
     Verdicts,
 }
 
@@ -63,6 +64,7 @@ pub enum Above {
     Split,
 }
 
+/// The number of the first line that isn't in the grammar.
 fn first_other(bodies: &[&[u8]]) -> Option<usize>
     ensures { result ≡ first_other false 1 (map (λ body. body.now) bodies.now) }
 {
@@ -83,24 +85,14 @@ fn has_mark_or_none(text: &[u8]) -> bool
     text.starts_with(b"\xEF\xBB\xBF") || !matches!(text, [0xEF | 0xBB | 0xBF, ..])
 }
 
-fn has_nul(text: &[u8]) -> bool
-    ensures { result ≡ list_any (λ b. b == 0) text.now }
-{
-    text.iter().any(|byte| *byte == 0)
-}
-
+/// All of the file is read, it has no NUL, and its byte order mark is complete.
 fn is_read_whole(file: &[u8]) -> bool
     ensures { result ≡ is_read_whole file.now }
 {
-    file.len() <= FILE_LIMIT && !has_nul(file) && has_mark_or_none(file)
+    file.len() <= FILE_LIMIT && !has(0, file) && has_mark_or_none(file)
 }
 
-fn needs_no_escape(byte: u8) -> bool
-    ensures { result ≡ is_unreserved byte }
-{
-    byte.is_ascii_alphanumeric() || matches!(byte, b'-' | b'.' | b'_' | b'~')
-}
-
+/// The text begins with an escape that isn't in normal form.
 fn begins_odd_escape(text: &[u8]) -> bool
     ensures { result ≡ begins_odd_escape text.now }
 {
@@ -114,31 +106,7 @@ fn begins_odd_escape(text: &[u8]) -> bool
     }
 }
 
-fn hex_value(digit: u8) -> u8
-    requires { is_ascii_hexdigit digit ≡ true }
-    ensures value { result ≡ digit_value digit }
-    ensures bound { result < 16 }
-{
-    match digit {
-        b'0'..=b'9' => digit - b'0',
-        b'A'..=b'F' => digit - b'A' + 10,
-        _ => digit - b'a' + 10,
-    }
-}
-
-fn has_odd_escape(path: &[u8]) -> bool
-    ensures { result ≡ has_odd_escape path.now }
-{
-    let mut rest = path;
-    while let [_, later @ ..] = rest {
-        if begins_odd_escape(rest) {
-            return true;
-        }
-        rest = later;
-    }
-    false
-}
-
+/// Some octet is percent-encoded in the normal form, but not by this library.
 fn has_odd_octet(path: &[u8]) -> bool
     ensures { result ≡ list_any is_odd_octet path.now }
 {
@@ -146,12 +114,7 @@ fn has_odd_octet(path: &[u8]) -> bool
         .any(|byte| matches!(*byte, b'\\' | b'^' | b'{' | b'|' | b'}'))
 }
 
-fn has_dollar(text: &[u8]) -> bool
-    ensures { result ≡ has_dollar text.now }
-{
-    text.iter().any(|byte| *byte == b'$')
-}
-
+/// The path without the `$` at its end, if it has one.
 fn front_of<'a>(path: &'a [u8]) -> &'a [u8]
     ensures { result.now ≡ front_of path.now }
 {
@@ -161,19 +124,22 @@ fn front_of<'a>(path: &'a [u8]) -> &'a [u8]
     }
 }
 
+/// This library compares the path as the standard does.
 fn is_plain_path(path: &[u8]) -> bool
     ensures { result ≡ is_plain_path path.now }
 {
     let front = front_of(path);
-    !has_odd_octet(front) && !has_odd_escape(front) && !has_dollar(front)
+    !has_odd_octet(front) && !somewhere(front, begins_odd_escape) && !has(b'$', front)
 }
 
+/// No white space is trimmed, and the rule isn't too long when escaped.
 fn is_read_as_written(path: &[u8]) -> bool
     ensures { result ≡ is_read_as_written path.now }
 {
     path.trim() == path && (!path.ends_with(b"$") || path.len() <= 1365)
 }
 
+/// A rule that may be compared otherwise here than by the standard.
 fn is_apart(body: &[u8]) -> bool
     ensures { result ≡ is_apart body.now }
 {
@@ -195,6 +161,7 @@ fn first_apart(bodies: &[&[u8]]) -> Option<usize>
     None
 }
 
+/// What is above the line after this one.
 fn next_above(above: Above, line: Line<'_>) -> Above
     ensures { result ≡ next_above above (by_value line.entry) }
 {
@@ -207,6 +174,7 @@ fn next_above(above: Above, line: Line<'_>) -> Above
     }
 }
 
+/// The number of the first rule below user-agent lines with delays between them.
 fn first_split(lines: &[Line<'_>]) -> Option<usize>
     ensures { result ≡ first_split Above.Rule 1 (map by_value lines.now) }
 {
@@ -220,6 +188,7 @@ fn first_split(lines: &[Line<'_>]) -> Option<usize>
     None
 }
 
+/// An Allow of everything, such as an empty Disallow.
 fn is_open(line: Line<'_>) -> bool
     ensures { result ≡ is_open (by_value line.entry) }
 {
@@ -240,6 +209,7 @@ fn is_any_open(lines: &[Line<'_>]) -> bool
     false
 }
 
+/// The pattern matches every path.
 #[tactic(auto, using(crate::proofs::ConformanceLemmas::all_escaped))]
 fn is_all(value: &str) -> bool
     ensures { result ≡ is_all (escaped value.now) }
@@ -247,6 +217,7 @@ fn is_all(value: &str) -> bool
     value == "/" || value == "*"
 }
 
+/// The line of the crawler's first Disallow of everything, if it has an Allow of everything too.
 fn first_mixed(site: &Site, agent: &str) -> Option<usize>
     ensures { result ≡ first_mixed (placed_rules agent.now (file_lines site.now)) }
 {
@@ -262,6 +233,7 @@ fn first_mixed(site: &Site, agent: &str) -> Option<usize>
     if allows { denying } else { None }
 }
 
+/// What `first_mixed` finds for the first of the crawlers that has such a line.
 fn first_mixed_for(site: &Site, agents: &[&str]) -> Option<usize>
     ensures { result ≡ first_mixed_for (map (λ agent. agent.now) agents.now) (file_lines site.now) }
 {
@@ -274,6 +246,7 @@ fn first_mixed_for(site: &Site, agents: &[&str]) -> Option<usize>
     None
 }
 
+/// What `first_mixed` finds for `*`, or else for the first crawler in the file that has such a line.
 fn first_mixed_of(
     alloc: Global,
     site: &Site,
@@ -293,6 +266,7 @@ fn first_mixed_of(
     Ok(first_mixed_for(site, &site.agents(alloc)?))
 }
 
+/// The number of a line because of which a verdict may not be the standard's.
 #[tactic(auto, unfolding(crate::specs::Conformance::line_apart))]
 fn line_apart(alloc: Global, site: &Site, bodies: &[&[u8]]) -> Result<Option<usize>, AllocError>
     requires { map (λ body. body.now) bodies.now ≡ file_bodies site.now }
@@ -310,6 +284,7 @@ fn line_apart(alloc: Global, site: &Site, bodies: &[&[u8]]) -> Result<Option<usi
     first_mixed_of(alloc, site, &lines)
 }
 
+/// What a file is that `is_read_whole` holds of.
 fn by_lines(alloc: Global, site: &Site, bodies: &[&[u8]]) -> Result<Conformance, AllocError>
     requires { map (λ body. body.now) bodies.now ≡ file_bodies site.now }
     ensures { IfOk result (λ conformance. conformance
@@ -324,7 +299,7 @@ fn by_lines(alloc: Global, site: &Site, bodies: &[&[u8]]) -> Result<Conformance,
     }
 }
 
-/// What the file is; the site has been read from it.
+/// What the file is by RFC 9309; the site has been read from it.
 pub fn conformance_of(alloc: Global, file: &[u8], site: &Site) -> Result<Conformance, AllocError>
     requires { site.now ≡ take file_limit file.now }
     ensures { IfOk result (λ conformance. conformance ≡ conformance_of file.now) }

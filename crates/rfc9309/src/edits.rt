@@ -14,7 +14,7 @@ pub fn rules_of_others_change_nothing()
         → IsFileRejected agent (take file_limit file) → IsFileRejected agent (take file_limit other) }
 {}
 
-/// Two files that differ so.
+/// Two files that differ in such a rule.
 pub fn example_of_an_edit()
     ensures { example }
 {}

@@ -1,16 +1,16 @@
 //! Whether a line is one of the extended grammar. The content of a line is its bytes without the terminator.
-ghost use Rattle.std.specs.Prelude.{◌≡◌, ◌≤◌, ◌==◌, length, reverse};
-ghost use Rattle.std.specs.List.{list_all, list_any, position_or_len};
-ghost use Rattle.std.specs.Str.{is_utf8, str_eq_ignore_ascii_case};
+ghost use Rattle.std.specs.Prelude.{◌≡◌};
+ghost use Rattle.std.specs.{List.list_all, List.list_any, Str.str_eq_ignore_ascii_case};
+ghost use Rattle.safe_output.specs.Bytes.{is_blank};
 ghost use Rattle.rfc9309.specs.Conformance.{is_line_below};
-ghost use Rattle.rfc9309.specs.HasForm.{are_some, has_byte, has_form, is_blank, is_comment_byte, lower};
-ghost use Rattle.rfc9309.specs.HasForm.{is_comment_text, is_digit, is_identifier_byte, is_keyed};
-ghost use Rattle.rfc9309.specs.HasForm.{is_number, is_other_name, is_pattern, is_product_token};
-ghost use Rattle.rfc9309.specs.HasForm.{is_value_byte, is_value_text, stripped, text_after, text_before};
-ghost use Rattle.rfc9309.specs.HasForm.{text_from, value_in, trim_blanks_start};
+ghost use Rattle.rfc9309.specs.LineTest.{are_some, has_form, is_comment_byte, is_comment_text, is_digit};
+ghost use Rattle.rfc9309.specs.LineTest.{is_identifier_byte, is_keyed, is_number, is_other_name, is_pattern};
+ghost use Rattle.rfc9309.specs.LineTest.{is_product_token, is_value_byte, is_value_text, lower, value_in};
 ghost use Rattle.rfc9309.specs.LineForms.{Agent, Delay, Empty, Other, Rule, Sitemap};
 
-/// The field names that are recognized.
+use safe_output::bytes::{after_byte, before_byte, has, is_utf8, trim_blanks};
+
+/// The field names that this library recognizes. Lines with others are ignored.
 const NAMES: &[&str] = &[
     "user-agent",
     "useragent",
@@ -27,82 +27,11 @@ const NAMES: &[&str] = &[
     "crawldelay",
 ];
 
-fn place(stop: u8, text: &[u8]) -> usize
-    ensures value { result ≡ position_or_len (λ b. b == stop) text.now }
-    ensures within { result ≤ length text.now }
-{
-    text.iter().take_while(|byte| !(**byte == stop)).count()
-}
-
-#[tactic(auto, using(crate::proofs::ConformanceLemmas::before_place))]
-fn before<'a>(stop: u8, text: &'a [u8]) -> &'a [u8]
-    ensures { result.now ≡ text_before stop text.now }
-{
-    &text[..place(stop, text)]
-}
-
-fn from<'a>(stop: u8, text: &'a [u8]) -> &'a [u8]
-    ensures { result.now ≡ text_from stop text.now }
-{
-    &text[place(stop, text)..]
-}
-
-fn after<'a>(stop: u8, text: &'a [u8]) -> &'a [u8]
-    ensures { result.now ≡ text_after stop text.now }
-{
-    match from(stop, text) {
-        [_, rest @ ..] => rest,
-        [] => &[],
-    }
-}
-
-fn has(stop: u8, text: &[u8]) -> bool
-    ensures { result ≡ has_byte stop text.now }
-{
-    text.iter().any(|byte| *byte == stop)
-}
-
-fn trim_blanks_start<'a>(text: &'a [u8]) -> &'a [u8]
-    ensures { result.now ≡ trim_blanks_start text.now }
-{
-    let mut rest = text;
-    while let [b' ' | b'\t', later @ ..] = rest {
-        rest = later;
-    }
-    rest
-}
-
-fn trim_blanks_end<'a>(text: &'a [u8]) -> &'a [u8]
-    ensures { result.now ≡ reverse (trim_blanks_start (reverse text.now)) }
-{
-    let mut rest = text;
-    while let [before @ .., b' ' | b'\t'] = rest {
-        rest = before;
-    }
-    rest
-}
-
-#[tactic(auto, using(crate::proofs::ConformanceLemmas::trailing_reversed))]
-fn stripped<'a>(text: &'a [u8]) -> &'a [u8]
-    ensures { result.now ≡ stripped text.now }
-{
-    trim_blanks_end(trim_blanks_start(text))
-}
-
-/// The value, between the colon and a comment.
+/// The value of a line, between the first colon and a comment, trimmed.
 pub(crate) fn value_in<'a>(body: &'a [u8]) -> &'a [u8]
     ensures { result.now ≡ value_in body.now }
 {
-    stripped(before(b'#', after(b':', body)))
-}
-
-fn is_utf8(text: &[u8]) -> bool
-    ensures { result ≡ is_utf8 text.now }
-{
-    match std::str::from_utf8(text) {
-        Ok(_) => true,
-        Err(_) => false,
-    }
+    trim_blanks(before_byte(b'#', after_byte(b':', body)))
 }
 
 fn are_comment_bytes(text: &[u8]) -> bool
@@ -111,6 +40,7 @@ fn are_comment_bytes(text: &[u8]) -> bool
     text.iter().all(|byte| *byte >= b' ' || *byte == b'\t')
 }
 
+/// The text may come after the `#` of a comment.
 fn is_comment(text: &[u8]) -> bool
     ensures { result ≡ is_comment_text text.now }
 {
@@ -123,6 +53,7 @@ fn are_value_bytes(text: &[u8]) -> bool
     text.iter().all(|byte| *byte > b' ' && *byte != b'#')
 }
 
+/// UTF-8 without spaces, control characters other than DEL, and `#`.
 fn is_value(text: &[u8]) -> bool
     ensures { result ≡ is_value_text text.now }
 {
@@ -175,11 +106,14 @@ fn is_pattern(value: &[u8]) -> bool
     }
 }
 
+/// Digits, or digits around a point.
 fn is_number(value: &[u8]) -> bool
     ensures { result ≡ is_number value.now }
 {
     are_digits(value)
-        || (has(b'.', value) && are_digits(before(b'.', value)) && are_digits(after(b'.', value)))
+        || (has(b'.', value)
+            && are_digits(before_byte(b'.', value))
+            && are_digits(after_byte(b'.', value)))
 }
 
 fn is_any_of(names: &[&str], name: &[u8]) -> bool
@@ -190,25 +124,27 @@ fn is_any_of(names: &[&str], name: &[u8]) -> bool
         .any(|known| name.eq_ignore_ascii_case(known.as_bytes()))
 }
 
+/// An identifier that isn't a field name which this library recognizes.
 fn is_other_name(name: &[u8]) -> bool
     ensures { result ≡ is_other_name name.now }
 {
     is_identifier(name) && !is_any_of(NAMES, name)
 }
 
+/// The line's field name is `word`, in lower or upper case, and its comment, if it has one, is allowed.
 fn is_keyed(word: &str, body: &[u8]) -> bool
     requires { lower word.now ≡ word.now }
     ensures { result ≡ is_keyed word.now body.now }
 {
     has(b':', body)
-        && stripped(before(b':', body)).eq_ignore_ascii_case(word.as_bytes())
-        && is_comment(after(b'#', after(b':', body)))
+        && trim_blanks(before_byte(b':', body)).eq_ignore_ascii_case(word.as_bytes())
+        && is_comment(after_byte(b'#', after_byte(b':', body)))
 }
 
 fn is_empty_line(body: &[u8]) -> bool
     ensures { result ≡ has_form Empty body.now }
 {
-    are_blank(before(b'#', body)) && is_comment(after(b'#', body))
+    are_blank(before_byte(b'#', body)) && is_comment(after_byte(b'#', body))
 }
 
 pub(crate) fn is_agent_line(body: &[u8]) -> bool
@@ -238,10 +174,12 @@ fn is_sitemap_line(body: &[u8]) -> bool
 fn is_other_line(body: &[u8]) -> bool
     ensures { result ≡ has_form Other body.now }
 {
-    has(b':', body) && is_other_name(stripped(before(b':', body))) && is_comment(after(b':', body))
+    has(b':', body)
+        && is_other_name(trim_blanks(before_byte(b':', body)))
+        && is_comment(after_byte(b':', body))
 }
 
-/// A line other than a user-agent line; `below`: a user-agent line is above it.
+/// A line of the grammar other than a user-agent line; a rule only if a user-agent line is above (`below`).
 #[tactic(auto, unfolding(crate::specs::Conformance::is_line_below))]
 pub(crate) fn is_line_below(below: bool, body: &[u8]) -> bool
     ensures { result ≡ is_line_below below body.now }

@@ -8,9 +8,10 @@ mod grammar;
 pub mod verdict;
 
 ghost use Rattle.std.specs.Prelude.{◌≡◌, ℕ, All, true, List, codes, take};
-ghost use Rattle.std.specs.{List.AllZip};
-ghost use Rattle.rfc9309.specs.{LineForms.AreForms, LineForms.Form, LineForms.HasForm, HasForm.has_form};
-ghost use Rattle.rfc9309.specs.StandardRobot.{IsReadAs, IsFileWith, IsRejectedAs, IsRobotAs};
+ghost use Rattle.std.specs.List.{AllZip};
+ghost use Rattle.rfc9309.specs.LineForms.{AreForms, Form, HasForm};
+ghost use Rattle.rfc9309.specs.StandardRobot.{IsReadAs, IsRejectedAs, IsRobotAs};
+ghost use Rattle.rfc9309.specs.{LineTest.has_form, Rfc9309.IsFileWith};
 ghost use Rattle.texting_robots.specs.Executable.{file_lines, rules_for, sitemaps_in};
 ghost use Rattle.texting_robots.specs.Robot.{IsFileRejected, IsRobotOfFile, RobotValue, file_limit};
 ghost use Rattle.texting_robots.specs.{Cut.IsBodyByte, Trim.IsTrimOf};
@@ -21,22 +22,22 @@ ghost use Rattle.rfc9309.specs.Sample as sample;
 ///
 /// - `read`: the rules that this library finds for a crawler are, in order, those that the grammar's groups
 /// have for it, each changed as `IsReadAs` states.
-/// - `once`: all ways to parse a file result in the same groups after merging.
+/// - `once`: a file has one list of groups.
 /// - `sitemaps`: the library's sitemaps are, in order, the addresses of the sitemap lines, trimmed.
 /// - `listed`: the grammar yields exactly one list of sitemap addresses for a file.
-/// - `bare`: a file that follows the standard's own grammar follows the extended one.
+/// - `bare`: a file that follows the standard's own grammar follows the extended one, with its groups merged.
 pub fn standard_files_are_read_so()
     ensures read { (text : List ℕ) (groups : List rfc.Group) (agent : List ℕ) → rfc.IsFile groups text
-        → AllZip IsReadAs (rfc.rules_for agent (rfc.merged groups)) (rules_for agent (file_lines text)) }
+        → AllZip IsReadAs (rfc.rules_for agent groups) (rules_for agent (file_lines text)) }
     ensures once { (text : List ℕ) (groups others : List rfc.Group) → rfc.IsFile groups text
-        → rfc.IsFile others text → rfc.merged groups ≡ rfc.merged others }
+        → rfc.IsFile others text → groups ≡ others }
     ensures sitemaps { (text : List ℕ) (addresses : List (List ℕ)) → rfc.ListsSitemaps addresses text
         → AllZip IsTrimOf (sitemaps_in (file_lines text)) addresses }
     ensures listed { (text : List ℕ) (groups : List rfc.Group) → rfc.IsFile groups text
         → (addresses : List (List ℕ)) × rfc.ListsSitemaps addresses text
         × ((others : List (List ℕ)) → rfc.ListsSitemaps others text → others ≡ addresses) }
     ensures bare { (text : List ℕ) (groups : List rfc.Group) → rfc.IsRobotstxt groups text
-        → rfc.IsFile groups text }
+        → rfc.IsFile (rfc.merged groups) text }
 {}
 
 /// What `Robot::new` returns for a file whose first 512,000 bytes follow the extended grammar, apart from
@@ -53,10 +54,10 @@ pub fn standard_robots()
         (robot : RobotValue) → IsFileWith numbers groups (take file_limit file)
         → rfc.ListsSitemaps addresses (take file_limit file)
         → IsRobotOfFile agent (take file_limit file) robot
-        → IsRobotAs agent (rfc.merged groups) numbers addresses robot }
+        → IsRobotAs agent groups numbers addresses robot }
     ensures rejected { (agent file : List ℕ) (groups : List rfc.Group)
         → rfc.IsFile groups (take file_limit file)
-        → IsFileRejected agent (take file_limit file) → IsRejectedAs agent (rfc.merged groups) }
+        → IsFileRejected agent (take file_limit file) → IsRejectedAs agent groups }
     ensures delays { (text : List ℕ) (groups : List rfc.Group) → rfc.IsFile groups text
         → (numbers : List (List ℕ)) × IsFileWith numbers groups text }
     ensures forms { (agent file : List ℕ) (forms : List Form) (robot : RobotValue)
@@ -64,7 +65,7 @@ pub fn standard_robots()
         → (groups : List rfc.Group) × (numbers : List (List ℕ)) × (addresses : List (List ℕ))
         × IsFileWith numbers groups (take file_limit file)
         × rfc.ListsSitemaps addresses (take file_limit file)
-        × IsRobotAs agent (rfc.merged groups) numbers addresses robot }
+        × IsRobotAs agent groups numbers addresses robot }
 {}
 
 /// The two samples follow the grammars of `standard_files_are_read_so`, and between them they use every
@@ -73,7 +74,7 @@ pub fn standard_samples_are_files()
     ensures bare { rfc.IsRobotstxt sample.bare_groups sample.bare_text }
     ensures wide { rfc.IsFile sample.wide_groups sample.wide_text }
     ensures sitemaps { rfc.ListsSitemaps sample.wide_sitemaps sample.wide_text }
-    ensures rules { rfc.rules_for (codes "BOT") (rfc.merged sample.wide_groups) ≡ sample.wide_rules }
+    ensures rules { rfc.rules_for (codes "BOT") sample.wide_groups ≡ sample.wide_rules }
 {}
 
 /// When a text follows the extended grammar, by its lines:
@@ -95,15 +96,16 @@ pub fn line_forms_make_files()
 
 /// The standard's own grammar as it is printed, and by lines:
 ///
-/// - `lines`: each file of the grammar is one by lines, with the same groups.
-/// - `printed`: each file by lines is one of the grammar, with its merged groups.
-/// - `delays`: the standard's rules for a crawler are those of the groups of the lines without delays.
+/// - `lines`: each file of the grammar is one by lines, with its groups merged.
+/// - `printed`: each file by lines is one of the grammar, with the same groups.
+/// - `delays`: if groups are those of a file's lines, leaving out the delays and merging them gives those of
+/// the lines without delays.
 pub fn grammar_is_by_lines()
     ensures lines { (groups : List rfc.Group) (text : List ℕ) → rfc.IsRobotstxt groups text
-        → rfc.IsRobotstxtByLines groups text }
+        → rfc.IsRobotstxtByLines (rfc.merged groups) text }
     ensures printed { (groups : List rfc.Group) (text : List ℕ) → rfc.IsRobotstxtByLines groups text
-        → rfc.IsRobotstxt (rfc.merged groups) text }
-    ensures delays { (agent : List ℕ) (groups : List rfc.Group) (items : List rfc.Item)
-        → rfc.merged groups ≡ rfc.groups_of items
-        → rfc.standard_rules agent groups ≡ rfc.rules_for agent (rfc.standard_groups items) }
+        → rfc.IsRobotstxt groups text }
+    ensures delays { (groups : List rfc.Group) (entries : List rfc.Entry)
+        → groups ≡ rfc.groups_of entries
+        → rfc.merged (rfc.without_delays groups) ≡ rfc.standard_groups entries }
 {}

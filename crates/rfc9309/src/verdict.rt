@@ -4,7 +4,7 @@ ghost use Rattle.std.specs.Prelude.{◌≡◌, ◌↔◌, ℕ, Bool, true, false
 ghost use Rattle.{std.specs.List.AllZip, std.specs.List.list_any, texting_robots.specs.Escape.is_escaped};
 ghost use Rattle.rfc9309.specs.Comparable.{AreComparable, IsPlainPath, is_normal};
 ghost use Rattle.rfc9309.specs.Matching.{IsMatch, IsRfcVerdict, Reading, all_stay, normal_uri, octets};
-ghost use Rattle.rfc9309.specs.StandardRobot.{IsReadAs, IsFileWith};
+ghost use Rattle.rfc9309.specs.{Rfc9309.IsFileWith, StandardRobot.IsReadAs};
 ghost use Rattle.texting_robots.specs.Callers.{IsRobotOfFile, IsVerdict, Matches, RobotValue, Rule, escaped};
 ghost use Rattle.texting_robots.specs.Callers.{file_limit, unplaced};
 ghost use Rattle.rfc9309.specs.Examples as example;
@@ -13,8 +13,7 @@ ghost use Rattle.rfc9309.specs.Rfc9309 as rfc;
 /// On normal forms, what a pattern of this library matches is what the standard's rule matches, whichever
 /// reserved octets are percent-encoded:
 ///
-/// - `matching`: a rule's path matches a URI by the standard exactly if it does here
-///   when escaped.
+/// - `matching`: a rule's path matches a URI by the standard exactly if it does here when escaped.
 /// - `octets`: the octets of the rule are those of this pattern.
 /// - `written`: if nothing is escaped, these are the octets of the path as written.
 pub fn normal_paths_match_so()
@@ -33,7 +32,9 @@ pub fn normal_uris_are_those()
     ensures { (uri : List ℕ) → (normal_uri all_stay uri ≡ uri) ↔ (is_normal uri ≡ true) }
 {}
 
-/// The verdict of this library is that of the standard:
+/// The verdict of this library is that of the standard, if `AreComparable` holds of the rules and the URI.
+/// Here `stays` says which reserved octets stay in a normal form, and `count` gives the octets of a rule, by
+/// which one of several matches is chosen:
 ///
 /// - `rules`: for rules that are read from rules of the grammar.
 /// - `robot`: for the robot of a file that follows the extended grammar, as `Robot::new` makes it, and the
@@ -46,9 +47,9 @@ pub fn verdicts_agree()
     ensures robot { (stays : Reading) (count : List ℕ → ℕ) (agent file uri : List ℕ)
         (groups : List rfc.Group) (numbers : List (List ℕ)) (robot : RobotValue) (answer : Bool)
         → IsFileWith numbers groups (take file_limit file) → IsRobotOfFile agent (take file_limit file) robot
-        → AreComparable stays count (rfc.rules_for agent (rfc.merged groups)) uri
+        → AreComparable stays count (rfc.rules_for agent groups) uri
         → IsVerdict (unplaced robot.rules) uri answer
-        ↔ IsRfcVerdict stays count (rfc.rules_for agent (rfc.merged groups)) uri answer }
+        ↔ IsRfcVerdict stays count (rfc.rules_for agent groups) uri answer }
 {}
 
 /// The tables of the standard, and what isn't in normal form, and may be matched otherwise here.

@@ -5,6 +5,7 @@ ghost use Rattle.robots_verdict.specs.Input.{are_utf8, cr, line_from, split};
 ghost use Rattle.robots_verdict.specs.{Internal.IsFirstLf, Internal.IsOneLine, Internal.value_of, Report.IsReport};
 
 use crate::fault::Fault;
+use safe_output::bytes::as_text;
 use std::alloc::Global;
 
 /// An input whose header is UTF-8.
@@ -82,10 +83,7 @@ fn text_of<'a>(bytes: &'a [u8]) -> Result<&'a str, Fault>
     ensures ok { IfOk result (λ text. (text.now ≡ bytes.now) × (is_utf8 bytes.now ≡ true)) }
     ensures fault { IfErr result (λ fault. (fault ≡ Fault.HeaderNotUtf8) × (is_utf8 bytes.now ≡ false)) }
 {
-    match std::str::from_utf8(bytes) {
-        Ok(text) => Ok(text),
-        Err(_) => Err(Fault::HeaderNotUtf8),
-    }
+    as_text(bytes).ok_or(Fault::HeaderNotUtf8)
 }
 
 fn texts_of<'a>(alloc: Global, urls: &[&'a [u8]]) -> Result<Vec<&'a str>, Fault>

@@ -8,7 +8,8 @@ use Rattle.texting_robots.specs.Callers.{LineValue, PlacedRule, is_named, placed
 use Rattle.texting_robots.specs.Callers.{sitemaps_in}
 use Rattle.texting_robots.specs.Group.{is_agent}
 use Rattle.robots_warnings.specs.declared.site_patterns.TheConstants.{STATIC_FILES, WELL_KNOWN}
-use Rattle.robots_warnings.specs.Rules.{begins_oddly, has_dollar_inside, somewhere}
+use Rattle.robots_warnings.specs.Rules.{begins_oddly, has_dollar_inside}
+use Rattle.safe_output.specs.{Bytes.somewhere}
 use Rattle.robots_warnings.specs.{Positions.begin_with_one, Crawlers.meant, Crawlers.other_group}
 
 -- ---- Rules that leave nothing, or nearly nothing, of a site to a crawler.

@@ -5,7 +5,8 @@ use Rattle.std.specs.Prelude.{◌≡◌, ◌+◌, ◌==◌, not, ◌||◌, ◌&&
 use Rattle.std.specs.{Str.byte, List.list_any}
 use Rattle.texting_robots.specs.Callers.{Allow, Label, LineValue, PlacedRule, AreRulesFor, placed_rules}
 use Rattle.texting_robots.specs.{Statement.IsStatement, declared.parser.statement.Kind.TheVariants.Disallow}
-use Rattle.robots_warnings.specs.{Closed.is_whole_site, FieldNames.trim_blanks_start}
+use Rattle.safe_output.specs.{Bytes.trim_blanks_start}
+use Rattle.robots_warnings.specs.{Closed.is_whole_site}
 
 -- ---- Empty Disallows. Each is an Allow of `/` here, and no rule for RFC 9309 and Google.
 

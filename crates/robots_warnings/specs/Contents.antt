@@ -1,9 +1,9 @@
 -- What the content of a directive has besides its value: white space, a comment, and the text of a delay. Raw
 -- values are those of directives with a colon.
-use Rattle.std.specs.Prelude.{ℕ, ◌==◌, nat_eq, Bool, not, ◌||◌, ◌&&◌, List, codes, drop, length}
-use Rattle.std.specs.{List.ends_with, List.position_or_len, List.starts_with, Str.byte}
-use Rattle.robots_warnings.specs.FieldNames.{trim_blanks_end, trim_blanks_start}
-use Rattle.robots_warnings.specs.{Rules.after_byte, Rules.before_byte, Closed.is_whole_site, File.hash}
+use Rattle.std.specs.Prelude.{ℕ, ◌==◌, nat_eq, Bool, not, ◌||◌, ◌&&◌, List, codes, length}
+use Rattle.std.specs.{List.ends_with, List.starts_with, Str.byte}
+use Rattle.safe_output.specs.Bytes.{after_byte, before_byte, from_byte, trim_blanks}
+use Rattle.robots_warnings.specs.{Closed.is_whole_site, File.hash}
 
 -- what is between the first colon and the comment
 abbrev pub tail_of : List ℕ → List ℕ
@@ -11,11 +11,11 @@ tail_of body = after_byte (byte ":") (before_byte hash body)
 
 -- the comment, which starts with the first `#`; empty if there is none
 abbrev pub comment_of : List ℕ → List ℕ
-comment_of body = drop (position_or_len (λ b. b == hash) body) body
+comment_of body = from_byte hash body
 
 -- the tail without spaces and tabs at both ends
 abbrev pub raw_value : List ℕ → List ℕ
-raw_value tail = trim_blanks_end (trim_blanks_start tail)
+raw_value tail = trim_blanks tail
 
 -- a comment directly follows the value, which isn't empty
 abbrev pub is_cut : (value tail comment : List ℕ) → Bool

@@ -2,7 +2,6 @@ pub mod File
 pub mod Table
 pub mod Facts
 pub mod Urls
-pub mod FieldNames
 pub mod Rules
 pub mod Positions
 pub mod Contents

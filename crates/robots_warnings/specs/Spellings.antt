@@ -5,7 +5,8 @@ use Rattle.std.specs.{Char.digit_value, Char.is_ascii_hexdigit, Char.to_ascii_up
 use Rattle.texting_robots.specs.Callers.{Allow, Disallow, LineValue}
 use Rattle.robots_warnings.specs.declared.spellings.Spelling.{Spelling}
 use Rattle.robots_warnings.specs.declared.spellings.Spelling.TheVariants.{Plain, Standard}
-use Rattle.robots_warnings.specs.Rules.{is_delimiter, needs_no_escape}
+use Rattle.robots_warnings.specs.{Rules.is_delimiter}
+use Rattle.safe_output.specs.{Bytes.needs_no_escape}
 
 abbrev pub is_escape : ℕ → ℕ → ℕ → Bool
 is_escape first high low = first == byte "%" && (is_ascii_hexdigit high && is_ascii_hexdigit low)

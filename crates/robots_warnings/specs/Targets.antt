@@ -5,7 +5,8 @@ use Rattle.std.specs.{List.starts_with, Str.byte}
 use Rattle.percent_encoding.specs.{Percent.percent_encode, declared.ascii_set.AsciiSet.AsciiSet}
 use Rattle.url.specs.{Parts.Parts, Parser.parse_url}
 use Rattle.texting_robots.specs.{Address.is_web, Prepared.prepared, Prepared.with_delimiter}
-use Rattle.robots_warnings.specs.Rules.{after_byte, before_byte, begins_lone_percent, from_first, somewhere}
+use Rattle.safe_output.specs.Bytes.{after_byte, before_byte, from_first, somewhere}
+use Rattle.robots_warnings.specs.{Rules.begins_lone_percent}
 use Rattle.robots_warnings.specs.{Spellings.spelled, declared.targets.TheConstants.IN_TARGETS}
 use Rattle.robots_warnings.specs.{declared.spellings.Spelling.TheVariants.Standard}
 use Rattle.robots_warnings.specs.Urls.{begins_as_url, is_unparsable}

@@ -9,14 +9,15 @@ use crate::positions::{
     Preceding, are_joined, is_above_agents, is_empty_group, is_ignored, is_split, name_star,
 };
 use crate::rules::{
-    has, has_dollar_inside, has_dot_segment, has_more_after_dollar, has_odd_character,
-    has_odd_start, has_question_marks, has_quote_at_end, has_wildcard, holds_otherwise,
-    is_expression, is_quoted, is_url_in_path, is_utf8, somewhere,
+    has_dollar_inside, has_dot_segment, has_more_after_dollar, has_odd_character, has_odd_start,
+    has_question_marks, has_quote_at_end, has_wildcard, holds_otherwise, is_expression, is_quoted,
+    is_url_in_path,
 };
 use crate::several_values::{has_tag, several_values};
 use crate::table::Cause;
 use crate::tokens::{is_product_token, is_usual_name};
 use crate::urls::{begins_as_url, has_odd_host, is_absolute_url};
+use safe_output::bytes::{has, is_utf8, somewhere};
 use std::alloc::{AllocError, Global};
 use texting_robots::labels::{LabeledLine, Membership};
 

@@ -3,9 +3,9 @@
 ghost use Rattle.std.specs.Prelude.{◌≡◌};
 ghost use Rattle.robots_warnings.specs.Contents.{comment_of, is_cut, is_cut_to_root, raw_value, tail_of};
 
-use crate::field_names::{trim_blanks_end, trim_blanks_start};
-use crate::rules::{after_byte, before_byte, begins_oddly, has, is_utf8, place};
+use crate::rules::begins_oddly;
 use crate::site_patterns::is_whole_site;
+use safe_output::bytes::{after_byte, before_byte, has, is_utf8, place, trim_blanks};
 
 /// The tail, which is between the first colon and the comment, and the comment, which starts with `#` or is
 /// empty.
@@ -20,7 +20,7 @@ pub fn split_content<'a>(body: &'a [u8]) -> (&'a [u8], &'a [u8])
 fn raw_value<'a>(tail: &'a [u8]) -> &'a [u8]
     ensures { result.now ≡ raw_value tail.now }
 {
-    trim_blanks_end(trim_blanks_start(tail))
+    trim_blanks(tail)
 }
 
 pub(crate) fn has_odd_space(value: &[u8], tail: &[u8]) -> bool {

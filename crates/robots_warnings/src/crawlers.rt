@@ -8,11 +8,10 @@ ghost use Rattle.robots_warnings.specs.Crawlers.{most_edits, name_at_vendor, nam
 ghost use Rattle.robots_warnings.specs.Crawlers.{value_at_vendor, wrong_names};
 ghost use Rattle.robots_warnings.specs.Internal.{row_value};
 
-use crate::file::first;
 use crate::table::Cause;
 use crate::tokens::token_front;
-use crate::urls::as_text;
 use crate::warning::{Detail, Found, Warning};
+use safe_output::bytes::{as_text, first};
 use std::alloc::{AllocError, Global};
 use strsim::generic_damerau_levenshtein;
 use texting_robots::labels::LabeledLine;

@@ -4,8 +4,8 @@ ghost use Rattle.std.specs.{BTreeSet.contains, Ordering.nat_cmp};
 ghost use Rattle.texting_robots.specs.Callers.{by_value, label_by_value};
 ghost use Rattle.robots_warnings.specs.Conflicts.{is_empty_at, is_empty_disallow};
 
-use crate::field_names::trim_blanks_start;
 use crate::numbers::{LineNumbers, insert_if};
+use safe_output::bytes::trim_blanks_start;
 use std::alloc::{AllocError, Global};
 use std::collections::BTreeSet;
 use texting_robots::labels::LabeledLine;

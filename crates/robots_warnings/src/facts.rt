@@ -2,8 +2,8 @@
 ghost use Rattle.std.specs.Prelude.{◌≡◌};
 ghost use Rattle.robots_warnings.specs.Facts.{is_too_large, mark, without_start};
 
-use crate::file::{counted, first, is_blank};
-use crate::rules::has;
+use crate::file::{counted, is_blank};
+use safe_output::bytes::{first, has};
 use texting_robots::labels::LabeledLine;
 use texting_robots::parser::Line;
 use texting_robots::robot::FILE_LIMIT;

@@ -1,13 +1,11 @@
 //! Field names: which one was probably intended in an ignored line, and what is unusual in a directive.
-ghost use Rattle.std.specs.Prelude.{◌≡◌};
-ghost use Rattle.robots_warnings.specs.FieldNames.{trim_blanks_end, trim_blanks_start};
-
-use crate::file::first;
-use crate::rules::{after_byte, before_byte, has, somewhere};
 use crate::several_values::begins_unseen;
 use crate::table::Cause;
 use crate::tokens::is_token_byte;
 use crate::urls::begins_as_url;
+use safe_output::bytes::{
+    after_byte, before_byte, first, has, somewhere, trim_blanks, trim_blanks_start,
+};
 use std::alloc::{AllocError, Global};
 use strsim::generic_levenshtein;
 use texting_robots::parser::{Kind, field_names};
@@ -54,28 +52,8 @@ const KINDS: [Kind; 5] = [
     Kind::CrawlDelay,
 ];
 
-pub(crate) fn trim_blanks_start<'a>(text: &'a [u8]) -> &'a [u8]
-    ensures { result.now ≡ trim_blanks_start text.now }
-{
-    let mut rest = text;
-    while let [b' ' | b'\t', after @ ..] = rest {
-        rest = after;
-    }
-    rest
-}
-
-pub(crate) fn trim_blanks_end<'a>(text: &'a [u8]) -> &'a [u8]
-    ensures { result.now ≡ trim_blanks_end text.now }
-{
-    let mut rest = text;
-    while let [before @ .., b' ' | b'\t'] = rest {
-        rest = before;
-    }
-    rest
-}
-
 fn name_before<'a>(byte: u8, body: &'a [u8]) -> &'a [u8] {
-    trim_blanks_end(trim_blanks_start(before_byte(byte, body)))
+    trim_blanks(before_byte(byte, body))
 }
 
 fn name_in<'a>(body: &'a [u8]) -> &'a [u8] {
@@ -158,7 +136,7 @@ fn directive_in(
 }
 
 fn has_host(body: &[u8]) -> bool {
-    let value = trim_blanks_end(trim_blanks_start(after_byte(b':', before_byte(b'#', body))));
+    let value = trim_blanks(after_byte(b':', before_byte(b'#', body)));
     begins_as_url(value)
         || (!value.is_empty()
             && value.iter().all(|byte| byte.is_ascii_alphanumeric()

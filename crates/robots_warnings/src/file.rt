@@ -3,15 +3,10 @@ ghost use Rattle.std.specs.Prelude.{◌≡◌, IfOk, map, take};
 ghost use Rattle.texting_robots.specs.Callers.{file_limit, label_by_value};
 ghost use Rattle.robots_warnings.specs.File.{labels_for};
 
+use safe_output::bytes::first;
 use std::alloc::{AllocError, Global};
 use texting_robots::labels::{LabeledLine, labeled_lines};
 use texting_robots::robot::FILE_LIMIT;
-
-pub(crate) fn first(count: usize, text: &[u8]) -> &[u8]
-    ensures { result.now ≡ take count text.now }
-{
-    &text[..count.min(text.len())]
-}
 
 /// The bytes within the size limit, which are those that a robot reads.
 pub fn counted<'a>(file: &'a [u8]) -> &'a [u8]

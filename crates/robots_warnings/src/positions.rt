@@ -7,7 +7,7 @@ use crate::facts::has_text;
 use crate::field_names::begins_with;
 use crate::file::is_blank;
 use crate::numbers::push_if;
-use crate::rules::{has, somewhere};
+use safe_output::bytes::{has, somewhere};
 use std::alloc::{AllocError, Global};
 use texting_robots::labels::{LabeledLine, Membership};
 use texting_robots::parser::Line;

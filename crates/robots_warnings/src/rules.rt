@@ -1,75 +1,12 @@
 //! Conditions on the value of an Allow or a Disallow line.
-ghost use Rattle.std.specs.Prelude.{◌≡◌, ◌<◌, ◌≤◌, ◌==◌, ℕ, Bool, List, length, true};
-ghost use Rattle.std.specs.Char.{digit_value, is_ascii_hexdigit};
-ghost use Rattle.std.specs.{Fn.FnReturnsAt, List.position_or_len, Str.byte, Str.is_utf8};
-ghost use Rattle.robots_warnings.specs.Rules.{after_byte, before_byte, begins_lone_percent, begins_oddly};
-ghost use Rattle.robots_warnings.specs.Rules.{from_first, has, has_dollar_inside, is_delimiter};
-ghost use Rattle.robots_warnings.specs.Rules.{needs_no_escape, somewhere};
+ghost use Rattle.std.specs.Prelude.{◌≡◌, true};
+ghost use Rattle.robots_warnings.specs.Rules.{begins_lone_percent, begins_oddly, has_dollar_inside};
+ghost use Rattle.robots_warnings.specs.{Rules.is_delimiter};
 
-use crate::urls::{as_text, begins_as_url};
-use memchr::memchr;
-
-/// Whether the text contains the byte.
-pub fn has(byte: u8, text: &[u8]) -> bool
-    ensures { result ≡ has byte text.now }
-{
-    text.iter().any(|other| *other == byte)
-}
-
-#[tactic(auto, using(texting_robots::proofs::Shared::found_or_end))]
-pub(crate) fn place(byte: u8, text: &[u8]) -> usize
-    ensures value { result ≡ position_or_len (λ b. b == byte) text.now }
-    ensures within { result ≤ length text.now }
-{
-    memchr(byte, text).unwrap_or(text.len())
-}
-
-/// The text before the byte, or all of it if there is none.
-pub fn before_byte(byte: u8, text: &[u8]) -> &[u8]
-    ensures { result.now ≡ before_byte byte text.now }
-{
-    &text[..place(byte, text)]
-}
-
-/// The text after the byte; empty if there is none.
-pub fn after_byte(byte: u8, text: &[u8]) -> &[u8]
-    ensures { result.now ≡ after_byte byte text.now }
-{
-    match &text[place(byte, text)..] {
-        [_, after @ ..] => after,
-        [] => &[],
-    }
-}
-
-pub(crate) fn from_first<'a, F: Fn(&[u8]) -> bool>(text: &'a [u8], test: F) -> &'a [u8]
-    requires { F.IsAlwaysCallable test }
-    ensures { (p : List ℕ → Bool) → ((x : List ℕ) (r : Bool) → FnReturnsAt F.Fn test x r → r ≡ p x)
-        → result.now ≡ from_first p text.now }
-{
-    let mut rest = text;
-    while let [_, after @ ..] = rest {
-        if test(rest) {
-            return rest;
-        }
-        rest = after;
-    }
-    rest
-}
-
-/// Whether the test holds for the rest of the text from some byte on.
-pub fn somewhere<F: Fn(&[u8]) -> bool>(text: &[u8], test: F) -> bool
-    requires { F.IsAlwaysCallable test }
-    ensures { (p : List ℕ → Bool) → ((x : List ℕ) (r : Bool) → FnReturnsAt F.Fn test x r → r ≡ p x)
-        → result ≡ somewhere p text.now }
-{
-    !from_first(text, test).is_empty()
-}
-
-pub(crate) fn is_utf8(value: &[u8]) -> bool
-    ensures { result ≡ is_utf8 value.now }
-{
-    as_text(value).is_some()
-}
+use crate::urls::begins_as_url;
+use safe_output::bytes::{
+    after_byte, before_byte, from_first, has, hex_value, needs_no_escape, somewhere,
+};
 
 pub(crate) fn begins_oddly(value: &[u8]) -> bool
     ensures { result ≡ begins_oddly value.now }
@@ -187,28 +124,10 @@ pub(crate) fn has_more_after_dollar(value: &[u8]) -> bool {
     !after_byte(b'$', value).is_empty() && !has_dollar_inside(value)
 }
 
-pub(crate) fn needs_no_escape(byte: u8) -> bool
-    ensures { result ≡ needs_no_escape byte }
-{
-    byte.is_ascii_alphanumeric() || has(byte, b"-._~")
-}
-
 pub(crate) fn is_delimiter(byte: u8) -> bool
     ensures { result ≡ is_delimiter byte }
 {
     has(byte, b":/?[]@!&()+,;=")
-}
-
-pub(crate) fn hex_value(digit: u8) -> u8
-    requires { is_ascii_hexdigit digit ≡ true }
-    ensures value { result ≡ digit_value digit }
-    ensures bound { result < 16 }
-{
-    match digit {
-        b'0'..=b'9' => digit - b'0',
-        b'A'..=b'F' => digit - b'A' + 10,
-        _ => digit - b'a' + 10,
-    }
 }
 
 pub(crate) fn begins_odd_escape(text: &[u8]) -> bool {

@@ -1,7 +1,7 @@
 //! Values of a rule or a sitemap that seem to be several ones.
 
-use crate::rules::{from_first, somewhere};
 use crate::table::Cause;
+use safe_output::bytes::{from_first, somewhere};
 
 fn begins_wide_space(text: &[u8]) -> bool {
     matches!(

@@ -4,7 +4,8 @@ ghost use Rattle.robots_warnings.specs.Closed.{are_signs, begins_name_end, is_an
 ghost use Rattle.robots_warnings.specs.Closed.{is_name_end, is_root, is_star_or_dollar, is_whole_site};
 ghost use Rattle.robots_warnings.specs.Closed.{matches_no_path, opens_little, without_stars};
 
-use crate::rules::{begins_oddly, has_dollar_inside, somewhere};
+use crate::rules::{begins_oddly, has_dollar_inside};
+use safe_output::bytes::somewhere;
 
 /// How the names of static files end.
 pub(crate) const STATIC_FILES: [&str; 15] = [

@@ -1,7 +1,7 @@
 //! Sitemaps that a file lists twice.
 
 use crate::conflicts::{Places, add_first};
-use crate::urls::as_text;
+use safe_output::bytes::as_text;
 use std::alloc::{AllocError, Global};
 use std::collections::HashMap;
 use texting_robots::labels::LabeledLine;

@@ -6,10 +6,9 @@ ghost use Rattle.robots_warnings.specs.Spellings.{is_escape, is_unescaped, spell
 use crate::checks::is_in_scope_of;
 use crate::numbers::push_if;
 use crate::repeated::{Seen, add_rule, nothing};
-use crate::rules::{
-    begins_delimiter, begins_odd_escape, hex_value, is_delimiter, needs_no_escape, somewhere,
-};
+use crate::rules::{begins_delimiter, begins_odd_escape, is_delimiter};
 use crate::values::{Value, Values};
+use safe_output::bytes::{hex_value, needs_no_escape, somewhere};
 use std::alloc::{AllocError, Global};
 use texting_robots::labels::LabeledLine;
 use texting_robots::parser::Line;

@@ -5,10 +5,11 @@ ghost use Rattle.robots_warnings.specs.Targets.{after_authority, asked_target, b
 ghost use Rattle.robots_warnings.specs.Targets.{begins_path_or_query, has_dot_segment, has_odd_target, is_asked_as_written};
 ghost use Rattle.robots_warnings.specs.Targets.{normal_target, normal_text, requested_target, written_target};
 
-use crate::rules::{after_byte, before_byte, begins_lone_percent, from_first, somewhere};
+use crate::rules::begins_lone_percent;
 use crate::spellings::{Spelling, spelled};
 use crate::urls::{begins_as_url, is_parsable_url};
 use percent_encoding::{AsciiSet, NON_ALPHANUMERIC, ascii_set, percent_encode};
+use safe_output::bytes::{after_byte, before_byte, from_first, somewhere};
 use std::alloc::{AllocError, Global};
 use texting_robots::match_target;
 use url::{ParseError, Position, Url};

@@ -3,8 +3,8 @@ ghost use Rattle.std.specs.Prelude.{◌≡◌, ◌≤◌, length};
 ghost use Rattle.std.specs.List.{before_first, position_or_len};
 ghost use Rattle.robots_warnings.specs.Crawlers.{ends_token, is_token_byte};
 
-use crate::rules::somewhere;
 use crate::urls::begins_in_any_case;
+use safe_output::bytes::somewhere;
 
 /// White space at the start or the end.
 pub fn has_space_around(text: &str) -> bool {

@@ -1,9 +1,8 @@
 //! Conditions on URLs and paths.
-ghost use Rattle.std.specs.Prelude.{◌≡◌, ◌&&◌, IfOk, MatchOption, false, not, true};
-ghost use Rattle.std.specs.Str.{is_utf8};
+ghost use Rattle.std.specs.Prelude.{◌≡◌, ◌&&◌, IfOk, not};
 ghost use Rattle.robots_warnings.specs.Urls.{begins_as_url, begins_in_any_case, is_unparsable};
 
-use crate::file::first;
+use safe_output::bytes::{as_text, first};
 use std::alloc::{AllocError, Global};
 use url::{ParseError, Url};
 
@@ -18,17 +17,6 @@ pub fn begins_as_url(text: &[u8]) -> bool
     ensures { result ≡ begins_as_url text.now }
 {
     begins_in_any_case(b"http://", text) || begins_in_any_case(b"https://", text)
-}
-
-/// If it is UTF-8.
-pub fn as_text<'a>(value: &'a [u8]) -> Option<&'a str>
-    ensures { MatchOption result (is_utf8 value.now ≡ false)
-        (λ text. (is_utf8 value.now ≡ true) × (text.now ≡ value.now)) }
-{
-    match std::str::from_utf8(value) {
-        Ok(text) => Some(text),
-        Err(_) => None,
-    }
 }
 
 fn is_unparsable(alloc: Global, text: &str) -> Result<bool, AllocError>

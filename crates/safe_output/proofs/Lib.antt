@@ -1,3 +1,4 @@
+pub mod BytesLemmas
 pub mod StreamsLemmas
 pub mod SanitizeLemmas
 pub mod EscapeLemmas

@@ -1,3 +1,4 @@
+pub mod Bytes
 pub mod Streams
 pub mod Lines
 pub mod Sanitize

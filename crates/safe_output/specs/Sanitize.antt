@@ -6,7 +6,7 @@ use Rattle.std.specs.Str.{IsUtf8, byte, chars}
 use Rattle.std.specs.{Char.is_control, Int.is_in_range, List.list_all, List.starts_with}
 use Rattle.bstr.specs.Utf8.{Decoded, pieces}
 use Rattle.texting_robots.specs.Callers.{escaped}
-use Rattle.safe_output.specs.Lines.{lf}
+use Rattle.safe_output.specs.{Bytes.somewhere, Lines.lf}
 
 -- a bidirectional control character
 abbrev pub turns_text : ℕ → Bool
@@ -28,12 +28,11 @@ abbrev pub is_printable_byte : Bool → ℕ → Bool
 is_printable_byte has_lines byte = nat_lt byte 0x80 && is_printable has_lines byte
 
 -- `##[`, with which a command begins in a workflow on GitHub, such as `##[error]`, anywhere in a line
-abbrev pub command_start : List ℕ
-command_start = codes "##["
+abbrev pub begins_command : List ℕ → Bool
+begins_command text = starts_with nat_eq text (codes "##[")
 
 abbrev pub has_command : List ℕ → Bool
-has_command [] = false
-has_command (b ∷ text) = starts_with nat_eq (b ∷ text) command_start || has_command text
+has_command text = somewhere begins_command text
 
 abbrev pub is_other : ℕ → Bool
 is_other b = not (nat_eq 35 b)

@@ -1,10 +1,11 @@
 //! Sanitizes text: escapes invalid UTF-8, what is unsafe to display, and starts of commands.
 ghost use Rattle.std.specs.Prelude.{◌≡◌, ◌++◌, OnOk, encode_utf8_all, flat_map, string_bytes};
 ghost use Rattle.std.specs.{List.list_all, Str.chars, Io.StartsWith};
-ghost use Rattle.safe_output.specs.Sanitize.{has_command, is_printable, is_printable_byte, safe_chunk};
-ghost use Rattle.safe_output.specs.Sanitize.{safe_in, sanitized, sanitized_in, turns_text};
+ghost use Rattle.safe_output.specs.Sanitize.{begins_command, has_command, is_printable, is_printable_byte};
+ghost use Rattle.safe_output.specs.Sanitize.{safe_chunk, safe_in, sanitized, sanitized_in, turns_text};
 ghost use Rattle.safe_output.specs.Sanitize.{without_commands, without_hash};
 
+use crate::bytes::somewhere;
 use bstr::decode_utf8;
 use std::alloc::AllocError;
 use std::str::from_utf8;
@@ -80,18 +81,18 @@ pub(crate) fn push_chunks(
     Ok(())
 }
 
-/// Whether `##[` occurs, with which a command of a workflow on GitHub begins.
+/// Whether a command of a workflow on GitHub begins here.
+fn begins_command(text: &[u8]) -> bool
+    ensures { result ≡ begins_command text.now }
+{
+    text.starts_with(b"##[")
+}
+
+/// Whether `##[` occurs.
 pub(crate) fn has_command(text: &[u8]) -> bool
     ensures { result ≡ has_command text.now }
 {
-    let mut rest = text;
-    while let [_, later @ ..] = rest {
-        if rest.starts_with(b"##[") {
-            return true;
-        }
-        rest = later;
-    }
-    false
+    somewhere(text, begins_command)
 }
 
 fn push_without_hash(text: &mut String, char: char) -> Result<(), AllocError>

@@ -5,32 +5,31 @@ use Rattle.std.specs.Str.{chars, is_utf8}
 use lib.Utf8.{encode}
 use Rattle.texting_robots.specs.Internal.{Cut.cut, Line.line_of, Statement.statement_of, Delay.delay_of}
 use Rattle.bstr.specs.{Trim.kept_end, Trim.kept_start, Utf8.pieces_from, Utf8.spans_from}
+use Rattle.rfc9309.proofs.EntryLemmas.{lines_both, lines_robotstxt, wide_lines}
+use Rattle.rfc9309.proofs.HasFormLemmas.{agent_passes, delay_passes, form_passes, keyed_passes, pattern_with}
 use Rattle.rfc9309.proofs.{FileLemmas.addresses_are, FileLemmas.file_read, Sources.written}
-use Rattle.rfc9309.proofs.ItemLemmas.{lines_both, lines_robotstxt, wide_lines}
-use Rattle.rfc9309.proofs.HasFormLemmas.{agent_passes, delay_passes, form_passes, keyed_passes}
-use Rattle.rfc9309.proofs.HasFormLemmas.{pattern_with}
 use Rattle.rfc9309.specs.LineForms.{Empty, Other, Sitemap}
 use Rattle.rfc9309.specs.Sample.{cr, cr_lf, lf, path}
 use Rattle.rfc9309.specs.Rfc9309 as rfc
 use Rattle.rfc9309.specs.Sample as sample
 use Rattle.rfc9309.proofs.standard_samples_are_files.Goals as goal
 
-record Row (Line : rfc.Item → List ℕ → Type 0) : Type 0 where
-  item : rfc.Item
+record Row (Line : rfc.Entry → List ℕ → Type 0) : Type 0 where
+  entry : rfc.Entry
   line : List ℕ
-  is : Line item line
+  is : Line entry line
 
-module _ {Line : rfc.Item → List ℕ → Type 0} where
-  abbrev row : (item : rfc.Item) (line : List ℕ) → Line item line → Row Line
-  row item line is = record { item = item; line = line; is = is }
+module _ {Line : rfc.Entry → List ℕ → Type 0} where
+  abbrev row : (entry : rfc.Entry) (line : List ℕ) → Line entry line → Row Line
+  row entry line is = record { entry = entry; line = line; is = is }
 
-  abbrev items_in : List (Row Line) → List rfc.Item
-  items_in all = map (λ row. row.item) all
+  abbrev entries_in : List (Row Line) → List rfc.Entry
+  entries_in all = map (λ row. row.entry) all
 
   abbrev text_in : List (Row Line) → List ℕ
   text_in all = flat_map (λ row. row.line) all
 
-  rows : (all : List (Row Line)) → rfc.AreLines Line (items_in all) (text_in all)
+  rows : (all : List (Row Line)) → rfc.AreLines Line (entries_in all) (text_in all)
   rows [] = refl
   rows (row ∷ all) = (row.line, _, refl, row.is, rows all)
 
@@ -68,7 +67,7 @@ bare =
       is_pattern = inl (pattern_with 47 47 [] refl refl, refl);
       is_line = keyed_passes lf feed (codes "disallow") (codes "disallow: /") refl;
     }) ∷ [] in
-    record { items = items_in lines; are_lines = rows lines; none_above = refl; written = refl }
+    record { entries = entries_in lines; are_lines = rows lines; none_above = refl; written = refl }
 
 -- with a byte order mark, and no terminator after the last line
 is_file : rfc.IsFile sample.wide_groups sample.wide_text
@@ -89,23 +88,25 @@ is_file =
     )))
     ∷ row (rfc.InGroup delay) _ (inr (inr (delay_passes lf feed (codes "Crawl-delay: 1.5") refl)))
     ∷ row rfc.Nothing _ (inr (form_passes lf feed Other (codes "Host: a # b") refl)) ∷ [] in
-    let wide = wide_lines bare.items sample.bare_text bare.are_lines in
-    record {
-      bom = 0xEF ∷ 0xBB ∷ 0xBF ∷ [];
-      rest = drop 3 sample.wide_text;
-      nl = lf;
-      whole = refl;
-      is_bom = inr refl;
-      is_nl = inr feed;
-      is_content = record {
-        items = items_in lines ++ bare.items;
-        are_lines =
-            lines_both rfc.IsLine (items_in lines) bare.items (text_in lines) sample.bare_text (rows lines)
-            wide;
-        none_above = refl;
-        written = rw (bare.none_above, ← bare.written) refl;
-      };
-    }
+    let wide = wide_lines bare.entries sample.bare_text bare.are_lines in (
+      codes "2" ∷ [],
+      record {
+        bom = 0xEF ∷ 0xBB ∷ 0xBF ∷ [];
+        rest = drop 3 sample.wide_text;
+        nl = lf;
+        whole = refl;
+        is_bom = inr refl;
+        is_nl = inr feed;
+        is_content = record {
+          entries = entries_in lines ++ bare.entries;
+          are_lines =
+              lines_both rfc.IsLine (entries_in lines) bare.entries (text_in lines) sample.bare_text
+              (rows lines) wide;
+          above = refl;
+          written = rw (bare.none_above, ← bare.written) refl;
+        };
+      },
+    )
 
 pub returns : goal.returns
 unfolding cut line_of statement_of delay_of written kept_end kept_start spans_from pieces_from is_utf8 chars

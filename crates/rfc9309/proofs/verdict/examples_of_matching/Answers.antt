@@ -1,6 +1,5 @@
-use Rattle.std.proofs.Common.{arith}
-use Rattle.std.proofs.Common.{◌≡◌, ◌++◌, ◌∷◌, List, [], ℕ, codes, false, true, refl}
-use Rattle.texting_robots.specs.{Escape.escaped}
+use Rattle.std.proofs.Common.{arith, ◌≡◌, ◌++◌, ◌∷◌, List, [], ℕ, codes, false, true, refl}
+use Rattle.texting_robots.specs.Escape.{escaped}
 use Rattle.texting_robots.proofs.Shared.{matches, matching, not_matching}
 use Rattle.rfc9309.specs.Matching.{IsMatch, Reading, filled, normal_from, normal_path, normal_uri}
 use Rattle.rfc9309.specs.Matching.{without_end}

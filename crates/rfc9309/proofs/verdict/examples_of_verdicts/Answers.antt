@@ -3,16 +3,15 @@ use Rattle.std.proofs.Common.{get_or, length, map, nat_lt, refl, ap, arith, subs
 use Rattle.std.specs.List.{AllByRecursion as Each, AllZip, Contains, list_all}
 use Rattle.std.specs.{Char.is_ascii_graphic, Prelude.slice_index}
 use Rattle.std.proofs.lemmas.Bool.{and_parts, eqb-false, ltb-true}
-use Rattle.texting_robots.specs.{Escape.escaped, Rules.PlacedRule, Rules.unplaced, Trim.IsTrimOf}
-use Rattle.texting_robots.specs.Verdict.{IsVerdict}
+use Rattle.texting_robots.specs.Rules.{PlacedRule, unplaced}
+use Rattle.texting_robots.specs.{Escape.escaped, Trim.IsTrimOf, Verdict.IsVerdict}
 use Rattle.texting_robots.proofs.Shared.{allowed_by, answered, deciding_rule, graphic_trim, trimmed_is_trim}
 use Rattle.rfc9309.specs.Comparable.{AreComparable, IsPathOf, IsPlainPath}
-use Rattle.rfc9309.specs.Examples.{mixed_rules, page_rules}
-use Rattle.rfc9309.specs.StandardRobot.{IsReadAs}
-use Rattle.rfc9309.specs.Matching.{IsRfcVerdict, Reading, all_stay, as_in_table, filled, has_dollar}
-use Rattle.rfc9309.specs.Matching.{is_ended, normal_from, normal_path, normal_uri, octets, without_end}
-use Rattle.rfc9309.proofs.{SyntaxLemmas.passing, ValueLemmas.visible_trim}
+use Rattle.rfc9309.specs.Matching.{IsRfcVerdict, Reading, all_stay, as_in_table, filled, has_dollar, is_ended}
+use Rattle.rfc9309.specs.Matching.{normal_from, normal_path, normal_uri, octets, without_end}
+use Rattle.rfc9309.specs.{Examples.mixed_rules, Examples.page_rules, StandardRobot.IsReadAs}
 use Rattle.rfc9309.proofs.VerdictLemmas.{each_contains, verdicts_agree}
+use Rattle.rfc9309.proofs.{SyntaxLemmas.passing, ValueLemmas.visible_trim}
 use Rattle.rfc9309.specs.Rfc9309 as rfc
 use Rattle.rfc9309.proofs.verdict.examples_of_verdicts.Goals as goal
 

@@ -1,5 +1,4 @@
-use Rattle.rfc9309.proofs.NormalLemmas.{matches_so}
-use Rattle.rfc9309.proofs.VerdictLemmas.{octets_are, octets_written}
+use Rattle.rfc9309.proofs.{NormalLemmas.matches_so, VerdictLemmas.octets_are, VerdictLemmas.octets_written}
 use Rattle.rfc9309.proofs.verdict.normal_paths_match_so.Goals as goal
 
 pub returns : goal.returns

@@ -2,7 +2,7 @@
 use Rattle.std.proofs.Common.{[], ◌≡◌, ℕ, ◌<◌, ◌==◌, Bool, List, ◌∷◌, arith, drop, if◌then◌else◌, inl, inr}
 use Rattle.std.proofs.Common.{length, not, refl}
 use Rattle.std.proofs.lemmas.Bool.{cases_Bool, Decides.nat_tests}
-use Rattle.robots_warnings.specs.Rules.{from_first, somewhere}
+use Rattle.safe_output.specs.Bytes.{from_first, somewhere}
 
 -- all of the text, if the test holds for it, or the same for all but its first byte
 pub from_first_next : (test : List ℕ → Bool) (text : List ℕ) → 0 < length text

@@ -1,9 +1,9 @@
 use Rattle.std.proofs.Common.{◌≡◌, length}
-use Rattle.rfc9309.specs.Comparable.{has_odd_escape}
-use Rattle.rfc9309.proofs.conformance.has_odd_escape.Given as goal
+use Rattle.safe_output.specs.Bytes.{trim_blanks, trim_blanks_end}
+use Rattle.safe_output.proofs.bytes.trim_blanks.Given as goal
 
 abbrev pub invariant-loop-rest : goal.invariant-loop-rest
-invariant-loop-rest l = has_odd_escape l.rest ≡ has_odd_escape l.path
+invariant-loop-rest l = trim_blanks_end l.rest ≡ trim_blanks l.text
 
 abbrev pub decreases-loop-rest : goal.decreases-loop-rest
 decreases-loop-rest l = length l.rest

@@ -1,5 +1,5 @@
 use Rattle.std.proofs.lemmas.{Bool.false_from_ne_true, Str.IsUtf8-from_is_utf8, Str.is_utf8-from_IsUtf8}
-use Rattle.robots_warnings.proofs.urls.as_text.Goals as goal
+use Rattle.safe_output.proofs.bytes.as_text.Goals as goal
 
 pub returns-in-Ok : goal.returns-in-Ok
 returns-in-Ok c = (is_utf8-from_IsUtf8 c.args.value.now c.in-Ok.ensures.cases.1, c.in-Ok.ensures.cases.0)

@@ -1,7 +1,7 @@
 use Rattle.std.proofs.Common.{◌≡◌, ℕ, Bool, List, length}
 use Rattle.std.specs.Fn.{FnReturnsAt}
-use Rattle.robots_warnings.specs.Rules.{from_first}
-use Rattle.robots_warnings.proofs.rules.from_first.Given as goal
+use Rattle.safe_output.specs.Bytes.{from_first}
+use Rattle.safe_output.proofs.bytes.from_first.Given as goal
 
 abbrev pub invariant-loop-rest : goal.invariant-loop-rest
 invariant-loop-rest g l =

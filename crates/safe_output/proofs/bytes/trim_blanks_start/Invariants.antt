@@ -1,6 +1,6 @@
 use Rattle.std.proofs.Common.{◌≡◌, length}
-use Rattle.rfc9309.specs.HasForm.{trim_blanks_start}
-use Rattle.rfc9309.proofs.grammar.trim_blanks_start.Given as goal
+use Rattle.safe_output.specs.Bytes.{trim_blanks_start}
+use Rattle.safe_output.proofs.bytes.trim_blanks_start.Given as goal
 
 abbrev pub invariant-loop-rest : goal.invariant-loop-rest
 invariant-loop-rest l = trim_blanks_start l.rest ≡ trim_blanks_start l.text

@@ -1,6 +1,6 @@
 use Rattle.std.proofs.{Common.arith, Common.rules, lemmas.Grind.common_steps}
-use Rattle.robots_warnings.proofs.{StepLemmas.from_first_next}
-use Rattle.robots_warnings.proofs.rules.from_first.Goals as goal
+use Rattle.safe_output.proofs.{BytesLemmas.from_first_next}
+use Rattle.safe_output.proofs.bytes.from_first.Goals as goal
 
 pub returns-then-test : goal.returns-then-test
 returns-then-test g c = λ p computes.

@@ -1,9 +1,0 @@
-use Rattle.std.proofs.Common.{◌≡◌, length}
-use Rattle.robots_warnings.specs.FieldNames.{trim_blanks_start}
-use Rattle.robots_warnings.proofs.field_names.trim_blanks_start.Given as goal
-
-abbrev pub invariant-loop-rest : goal.invariant-loop-rest
-invariant-loop-rest l = trim_blanks_start l.rest ≡ trim_blanks_start l.text
-
-abbrev pub decreases-loop-rest : goal.decreases-loop-rest
-decreases-loop-rest l = length l.rest

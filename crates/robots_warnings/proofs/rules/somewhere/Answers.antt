@@ -1,8 +1,0 @@
-use Rattle.std.proofs.{Common.arith, lemmas.Grind.common_steps}
-use Rattle.robots_warnings.proofs.{StepLemmas.somewhere_first}
-use Rattle.robots_warnings.proofs.rules.somewhere.Goals as goal
-
-pub returns : goal.returns
-returns g c = λ p computes.
-    let found = c.from_first.ensures p computes in
-    grind (arith, common_steps, somewhere_first)
