@@ -173,21 +173,23 @@ forms_make_file text forms are =
     let all = entries_from forms _ (rest ++ nl) each ended in
     let (numbers, above) = all.are_free are.below in (
       rfc.groups_of all.entries,
-      numbers,
-      record {
-        bom = bom;
-        rest = rest;
-        nl = nl;
-        whole = whole;
-        is_bom = is_bom;
-        is_nl = last;
-        is_content = record {
-          entries = all.entries;
-          are_lines = all.are_lines;
-          above = above;
-          written = refl;
-        };
-      },
+      (
+        numbers,
+        record {
+          bom = bom;
+          rest = rest;
+          nl = nl;
+          whole = whole;
+          is_bom = is_bom;
+          is_nl = last;
+          is_content = record {
+            entries = all.entries;
+            are_lines = all.are_lines;
+            above = above;
+            written = refl;
+          };
+        },
+      ),
     )
 
 free_next : (form : Form) (forms others : List Form) → (AreFree forms → AreFree others)

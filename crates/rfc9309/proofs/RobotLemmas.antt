@@ -99,7 +99,7 @@ pub forms_robot : (agent file : List ℕ) (forms : List Form) (robot : RobotValu
     × IsRobotAs agent groups numbers addresses robot
 forms_robot agent file forms robot are is =
     let text = take file_limit file in
-    let (groups, numbers, made) = forms_make_file text forms are in
+    let (groups, (numbers, made)) = forms_make_file text forms are in
     let (addresses, lists) = (file_with text numbers groups made).lists in (
       groups,
       numbers,
