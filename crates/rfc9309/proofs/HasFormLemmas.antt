@@ -233,6 +233,7 @@ digits : (text : List ℕ) → are_some is_digit text ≡ true → rfc.IsDigits 
 digits text h = grind (arith, digit, passing)
 
 number : (value : List ℕ) → is_number value ≡ true → rfc.IsNumber value
+unfolding is_number
 number value is = elim (or_cases _ _ is) [
   | inl whole ↦ inl (digits value whole)
   | inr parts ↦

@@ -103,7 +103,10 @@ pub stripped_is : (front kept back : List ℕ) → Each rfc.IsWs front → Each 
 stripped_is front [] back before all after =
     ap trim_blanks_end (leading_gone front back before
     ∙ rw append-nil at (leading_gone back [] after))
-stripped_is front (b ∷ kept) back before all after = grind (arith, leading_gone, trailing_gone)
+stripped_is front (b ∷ kept) back before all after =
+    let solid : trim_blanks_start (b ∷ (kept ++ back)) ≡ b ∷ (kept ++ back) = rw all.0 refl in
+    ap trim_blanks_end (leading_gone front (b ∷ (kept ++ back)) before ∙ solid)
+    ∙ trailing_gone (b ∷ kept) back all after
 
 pub solid_char : (b : ℕ) → IsCharByte b → IsSolid b
 solid_char b is = grind (arith, nat_tests)

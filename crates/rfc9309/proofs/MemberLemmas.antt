@@ -221,6 +221,7 @@ all_digits (d ∷ ds) is = (
 )
 
 whole_numbered : (digits : List ℕ) → rfc.IsDigits digits → Numbered digits
+unfolding is_number
 whole_numbered [] is = absurd is
 whole_numbered (d ∷ ds) is =
     let digits = all_digits (d ∷ ds) is in
@@ -237,6 +238,7 @@ whole_numbered (d ∷ ds) is =
 
 parts_numbered : (units fraction : List ℕ) → rfc.IsDigits units → rfc.IsDigits fraction
     → Numbered (units ++ (codes "." ++ fraction))
+unfolding is_number
 parts_numbered [] fraction is following = absurd is
 parts_numbered (d ∷ ds) fraction is following =
     let units = all_digits (d ∷ ds) is in

@@ -70,7 +70,7 @@ is_pattern [] = true
 is_pattern (b ∷ text) = (b == 0x2F || b == 0x2A) && is_value_text text
 
 -- digits, or digits around a point
-abbrev pub is_number : List ℕ → Bool
+unfoldable pub is_number : List ℕ → Bool
 is_number value =
     are_some is_digit value
     || (has 0x2E value && (are_some is_digit (before_byte 0x2E value)

@@ -107,6 +107,7 @@ fn is_pattern(value: &[u8]) -> bool
 }
 
 /// Digits, or digits around a point.
+#[tactic(auto, unfolding(crate::specs::LineTest::is_number))]
 fn is_number(value: &[u8]) -> bool
     ensures { result ≡ is_number value.now }
 {

@@ -13,6 +13,7 @@ use Rattle.rfc9309.specs.Sample.{cr, cr_lf, lf, path}
 use Rattle.rfc9309.specs.Rfc9309 as rfc
 use Rattle.rfc9309.specs.Sample as sample
 use Rattle.rfc9309.proofs.standard_samples_are_files.Goals as goal
+use Rattle.rfc9309.specs.LineTest.{is_number}
 
 record Row (Line : rfc.Entry → List ℕ → Type 0) : Type 0 where
   entry : rfc.Entry
@@ -71,7 +72,7 @@ bare =
 
 -- with a byte order mark, and no terminator after the last line
 is_file : rfc.IsFile sample.wide_groups sample.wide_text
-unfolding is_utf8 chars encode
+unfolding is_utf8 chars encode is_number
 is_file =
     let (address, sitemap) = form_passes lf feed Sitemap (codes "Sitemap: https://a/s") refl in
     let disallow : rfc.Member = rfc.Disallow (codes "*.gif$") in
