@@ -9,15 +9,16 @@ use Rattle.std.proofs.Common.{All}
 use Rattle.std.proofs.lemmas.List.Elements.{All-contains, All-map, All-weaker, Contains-append_right}
 use Rattle.std.proofs.lemmas.List.Elements.{filter_map-append}
 use Rattle.std.proofs.lemmas.List.{get_or-map, length-map, Folds.list_any-append}
-use Rattle.std.proofs.lemmas.Bool.{and_parts, cases_Bool, false≢true, ne_eqb, Decides.nat_tests}
+use Rattle.std.proofs.lemmas.Bool.{and_parts, or_parts, cases_Bool, false≢true, ne_eqb, Decides.nat_tests}
 use Rattle.std.proofs.lemmas.Map.Text.{is_eq-slice_cmp, hash_set_updates_text}
 use Rattle.texting_robots.specs.Callers.{AreSitemapsOf, Label, LineValue, PlacedRule, escaped, file_lines}
 use Rattle.texting_robots.specs.Callers.{sitemaps_in}
 use Rattle.texting_robots.specs.Escape.{is_escaped}
 use Rattle.texting_robots.specs.Line.{AreFileLinesOf, nul_as_lf}
 use Rattle.texting_robots.proofs.Shared.{each_text_has_its_lines, of_lines, sitemaps_are_computed}
-use Rattle.robots_warnings.specs.Closed.{closes, are_signs, is_closing, is_rival, is_star_or_dollar}
-use Rattle.robots_warnings.specs.Closed.{is_literally, is_whole_site, line_closing_site, opened_path}
+use Rattle.robots_warnings.specs.Closed.{closes, are_signs, first_closing, first_line, is_closing, is_rival}
+use Rattle.robots_warnings.specs.Closed.{is_literally, is_star_or_dollar, is_whole_site, leaves_closed}
+use Rattle.robots_warnings.specs.Closed.{line_closing_site, opened_path}
 use Rattle.robots_warnings.specs.{Message.WarningValue, File.lines_of, Internal.IsAt, Internal.Rules.Patterns}
 use Rattle.robots_warnings.specs.Warnings.{HasClosed, IsAbout, IsTold, is_closing_cause}
 use Rattle.robots_warnings.specs.Means.{Closes, Means}
@@ -98,6 +99,16 @@ closes_if is_exempt rules needed placed value closing same is =
   where
     at_least : (m n : ℕ) (rival : Bool) → rival ≡ nat_lt n m → nat_le m n ≡ not rival
     at_least m n rival is = rw is (grind (arith, nat_tests))
+
+pub none_closing : (is_exempt : List ℕ → Bool) (rules : List PlacedRule) → list_any is_closing rules ≡ false
+    → first_closing is_exempt rules ≡ None
+none_closing is_exempt rules none = none_in rules none
+  where
+    none_in : (some : List PlacedRule) → list_any is_closing some ≡ false
+        → first_line (closes (leaves_closed is_exempt) rules) some ≡ None
+    none_in [] none = refl
+    none_in (placed ∷ some) none =
+        let (first, later) = or_parts (is_closing placed) _ none in rw first (none_in some later)
 
 abbrev row_of : List LineValue → Bor (List ℕ) → Option ℕ × Bor (List ℕ)
 row_of lines agent = (line_closing_site lines agent.now, agent)
