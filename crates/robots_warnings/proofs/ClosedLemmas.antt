@@ -1,11 +1,15 @@
 -- Closed sites, product tokens, and the tables of warnings.
 use Rattle.std.specs.{Prelude.slice_get, Prelude.Any, Prelude.MatchOption, Global.Global}
 use Rattle.std.specs.{HashSet.contains_text, String.string_eq, List.filter_map, List.list_any, Str.byte}
+use Rattle.std.specs.List.{before_first, position_or_len}
+use Rattle.std.proofs.lemmas.List.{length-take, take_all}
+use Rattle.robots_warnings.specs.Crawlers.{ends_token, is_near}
 use Rattle.std.specs.{Str.str_to_ascii_lowercase, BTreeSet.BTreeSet, BTreeSet.Updates, BTreeSet.contains}
 use Rattle.std.proofs.Common.{[], ◌≡◌, ℕ, ◌+◌, ◌==◌, Bool, false, true, List, ◌∷◌, ap, arith, inl, inr, refl}
 use Rattle.std.proofs.Common.{suc, sym, ◌∙◌, ◌&&◌, ◌||◌, nat_le, nat_lt, not, ◌++◌, Bor, Option, String, cond}
 use Rattle.std.proofs.Common.{length, map, slice_index_or, string_bytes, bytes_eq, zero, None, Some, Contains}
-use Rattle.std.proofs.Common.{All}
+use Rattle.std.proofs.Common.{All, if◌then◌else◌}
+use Rattle.std.specs.Option.{option_or}
 use Rattle.std.proofs.lemmas.List.Elements.{All-contains, All-map, All-weaker, Contains-append_right}
 use Rattle.std.proofs.lemmas.List.Elements.{filter_map-append}
 use Rattle.std.proofs.lemmas.List.{get_or-map, length-map, Folds.list_any-append}
@@ -108,7 +112,11 @@ none_closing is_exempt rules none = none_in rules none
         → first_line (closes (leaves_closed is_exempt) rules) some ≡ None
     none_in [] none = refl
     none_in (placed ∷ some) none =
-        let (first, later) = or_parts (is_closing placed) _ none in rw first (none_in some later)
+        let (first, later) = or_parts (is_closing placed) _ none in
+        let rival = list_any (is_rival (leaves_closed is_exempt) placed.rule.0) rules in
+        let rest = first_line (closes (leaves_closed is_exempt) rules) some in
+        ap (λ closing. option_or (if closing && not rival then Some placed.line else None) rest) first
+        ∙ none_in some later
 
 abbrev row_of : List LineValue → Bor (List ℕ) → Option ℕ × Bor (List ℕ)
 row_of lines agent = (line_closing_site lines agent.now, agent)
@@ -226,3 +234,16 @@ pub part_in : {R X : Type 0} (part : R → X) {rows : List R} {at : ℕ} {row : 
     → IsAt rows at row → map part rows ≡ all → part row ≡ slice_index_or all at other
 part_in part {rows} {at} {row} other is same =
     sym (at_place part rows at row other is.found) ∙ ap (λ all. slice_index_or all at other) same
+
+-- ---- Names of crawlers.
+
+pub near_whole : (value name : List ℕ) → length (before_first ends_token value) ≡ length value
+    → (is_near value name || false) ≡ (is_near value name || is_near (before_first ends_token value) name)
+near_whole value name whole =
+    let same : before_first ends_token value ≡ value = take_all (position_or_len ends_token value) value
+    (omega (arith, length-take (position_or_len ends_token value) value, whole)) in
+    either_same (is_near value name) ∙ ap (λ start. is_near value name || is_near start name) (sym same)
+  where
+    either_same : (is : Bool) → (is || false) ≡ (is || is)
+    either_same true = refl
+    either_same false = refl
