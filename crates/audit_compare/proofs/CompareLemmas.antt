@@ -15,7 +15,7 @@ use Rattle.audit_core.proofs.{AuditLemmas.none_of}
 use Rattle.audit_compare.specs.declared.compared.{Compared.Compared, RuleChanges.RuleChanges}
 use Rattle.audit_compare.specs.Compare.{AreChanges, IsCompared, are_none, changes_in, has_rule}
 use Rattle.audit_compare.specs.Compare.{is_same_rule}
-use Rattle.audit_compare.specs.Compare.{is_unchanged, rules_lacked, rules_only_in}
+use Rattle.audit_compare.specs.Compare.{is_unchanged, rules_lacked}
 
 abbrev Includes : List Rule → List Rule → Type 0
 Includes rules others = (rule : Rule) → Contains rules rule → Contains others rule
@@ -65,37 +65,35 @@ none_lacked others (first ∷ rules) none rule has =
         subst (Contains (unplaced others)) at (has_in others first.rule found)
     by true found none (suc k, below, at) later = later none (k, omega arith, at)
 
-pub same_rules_decide_alike : (agent : List ℕ) (older newer : List LineValue) (text : List ℕ) (allowed : Bool)
-    → rules_only_in older newer agent ≡ [] → rules_only_in newer older agent ≡ []
-    → IsVerdict (rules_for agent older) text allowed ↔ IsVerdict (rules_for agent newer) text allowed
-same_rules_decide_alike agent older newer text allowed removed added =
-    let before = rules_for agent older in
-    let after = rules_for agent newer in
-    let there : Includes before after =
-    none_lacked (placed_rules agent newer) (placed_rules agent older) removed in
-    let back : Includes after before =
-    none_lacked (placed_rules agent older) (placed_rules agent newer) added in
-    (verdict_alike before after text allowed there back, verdict_alike after before text allowed back there)
+module _ (older newer : List PlacedRule) where
+  pub decide_alike : (text : List ℕ) (allowed : Bool) → rules_lacked newer older ≡ []
+      → rules_lacked older newer ≡ []
+      → IsVerdict (unplaced older) text allowed ↔ IsVerdict (unplaced newer) text allowed
+  decide_alike text allowed removed added =
+      let there = none_lacked newer older removed in
+      let back = none_lacked older newer added in (
+        verdict_alike (unplaced older) (unplaced newer) text allowed there back,
+        verdict_alike (unplaced newer) (unplaced older) text allowed back there,
+      )
 
-module _ (agent : List ℕ) (older newer : List LineValue) (rules : RuleChanges)
-    (are : AreChanges older newer agent rules) (none : are_none rules ≡ true) where
-  pub decide_alike : (text : List ℕ) (allowed : Bool)
-      → IsVerdict (rules_for agent older) text allowed ↔ IsVerdict (rules_for agent newer) text allowed
-  decide_alike text allowed =
+  unchanged_alike : (rules : RuleChanges) → AreChanges older newer rules → are_none rules ≡ true
+      → (text : List ℕ) (allowed : Bool)
+      → IsVerdict (unplaced older) text allowed ↔ IsVerdict (unplaced newer) text allowed
+  unchanged_alike rules are none text allowed =
       let (first, second) = and_parts _ (length rules.added.items == 0) none in
-      same_rules_decide_alike agent older newer text allowed (sym are.removed_are ∙ none_of _ first)
-      (sym are.added_are ∙ none_of _ second)
+      decide_alike text allowed (sym are.removed_are ∙ none_of _ first) (sym are.added_are ∙ none_of _ second)
 
-  pub same_verdicts : HaveSameVerdicts (codes "/") (rules_for agent older) (rules_for agent newer)
-  same_verdicts text allowed = decide_alike (47 ∷ text) allowed
+  pub same_verdicts : (rules : RuleChanges) → AreChanges older newer rules → are_none rules ≡ true
+      → HaveSameVerdicts (codes "/") (unplaced older) (unplaced newer)
+  same_verdicts rules are none text allowed = unchanged_alike rules are none (47 ∷ text) allowed
 
 pub reported_alike : (urls : List (List ℕ)) (older newer : List LineValue) (agent : List ℕ)
     (compared : Compared) (text : List ℕ) (allowed : Bool) → IsCompared urls older newer agent compared
     → is_unchanged compared ≡ true
     → IsVerdict (rules_for agent older) text allowed ↔ IsVerdict (rules_for agent newer) text allowed
 reported_alike urls older newer agent compared text allowed is said =
-    decide_alike agent older newer compared.rules is.rules_are (and_parts _ (are_none compared.rules) said).1
-    text allowed
+    unchanged_alike (placed_rules agent older) (placed_rules agent newer) compared.rules is.rules_are
+    (and_parts _ (are_none compared.rules) said).1 text allowed
 
 pub both_lines : (one two : List LabeledLine)
     → lines_of (map label_by_value (one ++ two))

@@ -1,28 +1,31 @@
 -- An example of a verdict that changes.
 use Rattle.std.proofs.Common.{◌≡◌, ◌∙◌, ℕ, List, [], ◌∷◌, ap, refl, string_bytes, subst}
-use Rattle.texting_robots.specs.Callers.{LineValue, PlacedRule, RobotValue, lines_read, placed_rules}
+use Rattle.texting_robots.specs.Callers.{LineValue, PlacedRule, RobotValue, placed_rules}
 use Rattle.texting_robots.specs.{Decision.IsDecisionOn, declared.decision.Decision.Decision}
-use Rattle.audit_core.specs.{Target.asked_target, Internal.IsReading}
+use Rattle.audit_core.specs.{Target.asked_target, Internal.IsCrawlerIn}
+use Rattle.audit_core.specs.declared.audit.Crawler.{Crawler}
 use Rattle.audit_core.specs.{declared.audit.Reading.TheVariants.Accepted}
 use Rattle.audit_core.proofs.{AuditLemmas.ruling_made}
 use Rattle.audit_compare.specs.declared.every_url.{Example.Example, Verdicts.Verdicts}
 use Rattle.audit_compare.specs.EveryUrl.{AreVerdicts, IsExample, lines_of_group, name_at_vendor}
 use Rattle.audit_compare.specs.EveryUrl.{rules_at_vendor}
 
-decided : (agent file url : List ℕ) (robot : RobotValue) (decision : Decision)
-    → IsReading agent file (Accepted robot) → IsDecisionOn robot.rules (asked_target url) decision
-    → IsDecisionOn (placed_rules agent (lines_read file)) (asked_target url) decision
-decided agent file url robot decision of by =
-    (ruling_made (url ∷ []) file agent robot (record { url = url; decision = decision } ∷ []) of
-    (record { url_is = refl; decided = by }, tt)).1.0.decided
+decided : (file url : List ℕ) (crawler : Crawler) (robot : RobotValue) (decision : Decision)
+    → IsCrawlerIn file crawler → crawler.reading ≡ Accepted robot
+    → IsDecisionOn robot.rules (asked_target url) decision
+    → IsDecisionOn crawler.rules.items (asked_target url) decision
+decided file url crawler robot decision of is by =
+    rw of.rules_are
+    (ruling_made (url ∷ []) file crawler.agent.now robot (record { url = url; decision = decision } ∷ [])
+    (rw is at of.reading_is) (record { url_is = refl; decided = by }, tt)).1.0.decided
 
-pub example_read : (one older other newer : List ℕ) (was is : RobotValue) (example : Example)
-    → IsReading one older (Accepted was) → IsReading other newer (Accepted is)
-    → IsExample was.rules is.rules example
-    → IsExample (placed_rules one (lines_read older)) (placed_rules other (lines_read newer)) example
-example_read one older other newer was is example old new found = record {
-  was = decided one older (string_bytes example.path) was example.older old found.was;
-  is = decided other newer (string_bytes example.path) is example.newer new found.is;
+pub example_read : (one other : List ℕ) (older newer : Crawler) (was is : RobotValue) (example : Example)
+    → IsCrawlerIn one older → IsCrawlerIn other newer → older.reading ≡ Accepted was
+    → newer.reading ≡ Accepted is → IsExample was.rules is.rules example
+    → IsExample older.rules.items newer.rules.items example
+example_read one other older newer was is example old new old_is new_is found = record {
+  was = decided one (string_bytes example.path) older was example.older old old_is found.was;
+  is = decided other (string_bytes example.path) newer is example.newer new new_is found.is;
   differ = found.differ;
 }
 

@@ -29,10 +29,10 @@ rules_lacked others rules = filter (λ (placed : PlacedRule). not (has_rule othe
 abbrev pub rules_only_in : List LineValue → List LineValue → List ℕ → List PlacedRule
 rules_only_in lines others agent = rules_lacked (placed_rules agent others) (placed_rules agent lines)
 
--- the rules of the crawler that one of the files lacks
-pub record AreChanges (older newer : List LineValue) (agent : List ℕ) (rules : RuleChanges) : Type 0 where
-  pub removed_are : rules.removed.items ≡ rules_only_in older newer agent
-  pub added_are : rules.added.items ≡ rules_only_in newer older agent
+-- those of the rules that the other file lacks
+pub record AreChanges (older newer : List PlacedRule) (rules : RuleChanges) : Type 0 where
+  pub removed_are : rules.removed.items ≡ rules_lacked newer older
+  pub added_are : rules.added.items ≡ rules_lacked older newer
 
 abbrev pub is_in_line_of : List PlacedRule → Option ℕ → Bool
 is_in_line_of rules line = list_any (λ (placed : PlacedRule). option_eq nat_eq line (Some placed.line)) rules
@@ -71,7 +71,7 @@ pub record IsCompared (urls : List (List ℕ)) (older newer : List LineValue) (a
   pub agent_is : compared.agent.now ≡ agent
   pub older_is : IsAgentAudit urls older agent compared.older
   pub newer_is : IsAgentAudit urls newer agent compared.newer
-  pub rules_are : AreChanges older newer agent compared.rules
+  pub rules_are : AreChanges (placed_rules agent older) (placed_rules agent newer) compared.rules
   pub changes_are : AreUrlChanges compared.rules compared.older.verdicts compared.newer.verdicts
       compared.changes.items
   pub verdicts_are : AreVerdicts (placed_rules agent older) (placed_rules agent newer) compared.verdicts

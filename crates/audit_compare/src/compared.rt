@@ -1,17 +1,17 @@
 //! What two versions of a file mean for a crawler.
 ghost use Rattle.std.specs.Prelude.{◌≡◌, ◌++◌, IfErr, IfOk, OnOk, map};
-ghost use Rattle.texting_robots.specs.Callers.{lines_read, placed_rules};
+ghost use Rattle.texting_robots.specs.Callers.{lines_read};
 ghost use Rattle.audit_compare.specs.Compare.{AreChanges, AreUrlChanges, IsCompared, are_none, is_in_line_of};
 ghost use Rattle.audit_compare.specs.Compare.{change_on, changed, is_same_decision};
-ghost use Rattle.audit_compare.specs.EveryUrl.{AreVerdicts};
+ghost use Rattle.audit_compare.specs.Internal.{AreVerdictsFor};
 ghost use Rattle.robots_warnings.specs.Read.{IsRead};
 
 use crate::every_url::{Verdicts, verdicts_for};
-use crate::rule_sets::{RuleSet, rules_lacked};
+use crate::rule_sets::rules_lacked;
 use crate::vendor::{VendorChange, at_vendor};
-use audit_core::audit::{AgentAudit, Verdict, audit_for};
+use audit_core::audit::{AgentAudit, Crawler, Verdict, audit_for};
 use audit_core::error::Error;
-use robots_rules::rule::{Rule, rules_of};
+use robots_rules::rule::Rule;
 use robots_warnings::read::FileRead;
 use std::alloc::{AllocError, Global};
 use texting_robots::robot::Decision;
@@ -44,23 +44,11 @@ pub struct Compared<'a> {
     pub vendor: Option<VendorChange>,
 }
 
-fn rule_changes(
-    alloc: Global,
-    agent: &str,
-    older: &FileRead<'_>,
-    newer: &FileRead<'_>,
-) -> Result<RuleChanges, AllocError>
-    requires older { IsRead older.now }
-    requires newer { IsRead newer.now }
-    ensures { IfOk result (AreChanges (lines_read older.now.bytes.now) (lines_read newer.now.bytes.now)
-        agent.now) }
+fn rule_changes(alloc: Global, older: &[Rule], newer: &[Rule]) -> Result<RuleChanges, AllocError>
+    ensures { IfOk result (AreChanges older.now newer.now) }
 {
-    let old_rules = rules_of(alloc, &older.site, agent)?;
-    let new_rules = rules_of(alloc, &newer.site, agent)?;
-    let old_set = RuleSet::of(alloc, &old_rules)?;
-    let new_set = RuleSet::of(alloc, &new_rules)?;
-    let removed = rules_lacked(&new_set, old_rules);
-    let added = rules_lacked(&old_set, new_rules);
+    let removed = rules_lacked(alloc, newer, older)?;
+    let added = rules_lacked(alloc, older, newer)?;
     Ok(RuleChanges { removed, added })
 }
 
@@ -135,24 +123,19 @@ pub(crate) fn are_none(rules: &RuleChanges) -> bool
 /// What becomes of the verdicts of all URLs. They are the same if the rules are.
 fn verdicts_of(
     alloc: Global,
-    agent: &str,
-    older: &FileRead<'_>,
-    newer: &FileRead<'_>,
+    older: &Crawler<'_>,
+    newer: &Crawler<'_>,
     rules: &RuleChanges,
     budget: usize,
 ) -> Result<Verdicts, Error>
-    requires older { IsRead older.now }
-    requires newer { IsRead newer.now }
-    requires rules { AreChanges (lines_read older.now.bytes.now) (lines_read newer.now.bytes.now) agent.now
-        rules.now }
-    ensures ok { IfOk result (AreVerdicts (placed_rules agent.now (lines_read older.now.bytes.now))
-        (placed_rules agent.now (lines_read newer.now.bytes.now))) }
+    requires { AreChanges older.now.rules.items newer.now.rules.items rules.now }
+    ensures ok { IfOk result (AreVerdictsFor older.now newer.now) }
     ensures error { IfErr result (λ error. error ≡ Error.Memory) }
 {
     if are_none(rules) {
         return Ok(Verdicts::Same);
     }
-    verdicts_for(alloc, (agent, agent), older, newer, budget)
+    verdicts_for(alloc, older, newer, budget)
 }
 
 /// The budget bounds how long rules are compared on all URLs, and an eighth of it how long those of each file
@@ -171,11 +154,13 @@ pub(crate) fn compared_for<'a>(
         (lines_read older.now.bytes.now) (lines_read newer.now.bytes.now) agent.now) }
     ensures error { IfErr result (λ error. error ≡ Error.Memory) }
 {
-    let older_audit = audit_for(alloc, agent, older, urls, budget / 8)?;
-    let newer_audit = audit_for(alloc, agent, newer, urls, budget / 8)?;
-    let rules = rule_changes(alloc, agent, older, newer)?;
+    let old = Crawler::new(alloc, agent, older)?;
+    let new = Crawler::new(alloc, agent, newer)?;
+    let older_audit = audit_for(alloc, &old, older, urls, budget / 8)?;
+    let newer_audit = audit_for(alloc, &new, newer, urls, budget / 8)?;
+    let rules = rule_changes(alloc, &old.rules, &new.rules)?;
     let changes = changes_between(alloc, &rules, &older_audit, &newer_audit)?;
-    let verdicts = verdicts_of(alloc, agent, older, newer, &rules, budget)?;
+    let verdicts = verdicts_of(alloc, &old, &new, &rules, budget)?;
     let vendor = at_vendor(alloc, agent, older, newer, budget)?;
     Ok(Compared {
         agent,

@@ -1,16 +1,12 @@
 //! Whether the verdict of any URL changes for a crawler.
 ghost use Rattle.std.specs.Prelude.{◌≡◌, IfErr, IfOk};
 ghost use Rattle.std.specs.Option.{IfSome};
-ghost use Rattle.texting_robots.specs.Callers.{lines_read, placed_rules};
-ghost use Rattle.audit_compare.specs.EveryUrl.{AreVerdicts, IsExample, is_same};
-ghost use Rattle.robots_warnings.specs.Read.{IsRead};
+ghost use Rattle.audit_compare.specs.{EveryUrl.IsExample, EveryUrl.is_same, Internal.AreVerdictsFor};
 
-use audit_core::audit::{Reading, read_for};
+use audit_core::audit::{Crawler, Reading};
 use audit_core::error::Error;
 use audit_core::target::decision_on;
 use robots_rules::compare::{Comparison, compare};
-use robots_rules::rule::rules_of;
-use robots_warnings::read::FileRead;
 use std::alloc::Global;
 use texting_robots::Robot;
 use texting_robots::robot::Decision;
@@ -85,36 +81,28 @@ fn is_accepted(reading: &Reading) -> bool {
     matches!(reading, Reading::Accepted(_))
 }
 
-/// What becomes of the verdicts if the rules are those for these names. That they change is only said with an
-/// example, and of that both robots are asked.
+/// What becomes of the verdicts if the rules are those of the second crawler. That they change is only said
+/// with an example, and of that both robots are asked.
 pub(crate) fn verdicts_for(
     alloc: Global,
-    agents: (&str, &str),
-    older: &FileRead<'_>,
-    newer: &FileRead<'_>,
+    older: &Crawler<'_>,
+    newer: &Crawler<'_>,
     budget: usize,
 ) -> Result<Verdicts, Error>
-    requires older { IsRead older.now }
-    requires newer { IsRead newer.now }
-    ensures ok { IfOk result (AreVerdicts
-        (placed_rules agents.entry.0.now (lines_read older.now.bytes.now))
-        (placed_rules agents.entry.1.now (lines_read newer.now.bytes.now))) }
+    ensures ok { IfOk result (AreVerdictsFor older.now newer.now) }
     ensures error { IfErr result (λ error. error ≡ Error.Memory) }
 {
-    let was = read_for(alloc, agents.0, older)?;
-    let is = read_for(alloc, agents.1, newer)?;
-    let old_rules = rules_of(alloc, &older.site, agents.0)?;
-    let new_rules = rules_of(alloc, &newer.site, agents.1)?;
     let mut left = budget;
-    let text = match compare(alloc, b"/", &old_rules, &new_rules, &mut left)? {
-        Comparison::Same if is_accepted(&was) == is_accepted(&is) => return Ok(Verdicts::Same),
+    let (was, is) = (&older.reading, &newer.reading);
+    let text = match compare(alloc, b"/", &older.rules, &newer.rules, &mut left)? {
+        Comparison::Same if is_accepted(was) == is_accepted(is) => return Ok(Verdicts::Same),
         Comparison::Differ(text) => text,
         _ => Vec::new(alloc),
     };
-    let Reading::Accepted(was) = &was else {
+    let Reading::Accepted(was) = was else {
         return Ok(Verdicts::Undecided);
     };
-    let Reading::Accepted(is) = &is else {
+    let Reading::Accepted(is) = is else {
         return Ok(Verdicts::Undecided);
     };
     match example_among(alloc, was, is, &text)? {

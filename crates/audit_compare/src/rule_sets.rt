@@ -1,7 +1,6 @@
 //! A crawler's rules as a set, for the comparison with the rules of another file.
 ghost use Rattle.std.specs.Prelude.{◌≡◌, ℕ, IfOk, List};
 ghost use Rattle.std.specs.BTreeSet.{contains_text};
-ghost use Rattle.texting_robots.specs.Callers.{PlacedRule};
 ghost use Rattle.audit_compare.specs.Compare.{has_rule, rules_lacked};
 ghost use Rattle.audit_compare.specs.Internal.{HasRules, contains_rule};
 
@@ -11,7 +10,7 @@ use std::collections::BTreeSet;
 
 /// The patterns of rules, by kind.
 #[derive(Drop)]
-pub(crate) struct RuleSet {
+struct RuleSet {
     allowed: BTreeSet<String>,
     denied: BTreeSet<String>,
 }
@@ -35,7 +34,7 @@ fn patterns_of(
 }
 
 impl RuleSet {
-    pub(crate) fn of(alloc: Global, rules: &[Rule]) -> Result<Self, AllocError>
+    fn of(alloc: Global, rules: &[Rule]) -> Result<Self, AllocError>
         ensures { IfOk result (HasRules rules.now) }
     {
         let allowed = patterns_of(alloc, rules, true)?;
@@ -43,7 +42,7 @@ impl RuleSet {
         Ok(RuleSet { allowed, denied })
     }
 
-    pub(crate) fn contains(&self, rule: &Rule) -> bool
+    fn contains(&self, rule: &Rule) -> bool
         ensures { result ≡ contains_rule self.now rule.now.rule }
     {
         if rule.is_allow {
@@ -54,12 +53,28 @@ impl RuleSet {
     }
 }
 
-/// Those of the rules that the set lacks, in order.
-pub(crate) fn rules_lacked(set: &RuleSet, rules: Vec<Rule>) -> Vec<Rule>
-    ensures { (others : List PlacedRule) → HasRules others set.now
-        → result.items ≡ rules_lacked others rules.items }
+fn copy_of(alloc: Global, rule: &Rule) -> Result<Rule, AllocError>
+    ensures { IfOk result (λ copy. copy ≡ rule.now) }
 {
-    let mut rules = rules;
-    rules.retain(|rule| !set.contains(rule));
+    Ok(Rule {
+        pattern: String::from_str(alloc, &rule.pattern)?,
+        is_allow: rule.is_allow,
+        line: rule.line,
+    })
+}
+
+/// Those of the rules that the others lack, in order.
+pub(crate) fn rules_lacked(
+    alloc: Global,
+    others: &[Rule],
+    rules: &[Rule],
+) -> Result<Vec<Rule>, AllocError>
+    ensures { IfOk result (λ lacked. lacked.items ≡ rules_lacked others.now rules.now) }
+{
+    let set = RuleSet::of(alloc, others)?;
     rules
+        .iter()
+        .filter(|rule| !set.contains(rule))
+        .map(|rule| copy_of(alloc, rule))
+        .try_collect(alloc)
 }

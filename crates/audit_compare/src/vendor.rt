@@ -6,6 +6,7 @@ ghost use Rattle.audit_compare.specs.EveryUrl.{AreAtVendor, is_here, is_same_at_
 ghost use Rattle.audit_compare.specs.EveryUrl.{lines_of_group};
 
 use crate::every_url::{Verdicts, is_same, verdicts_for};
+use audit_core::audit::Crawler;
 use audit_core::error::Error;
 use robots_warnings::crawlers::other_group;
 use robots_warnings::read::FileRead;
@@ -78,7 +79,9 @@ pub(crate) fn at_vendor(
     let new_name = name_at_vendor(newer, agent);
     let old_file = file_of_group(old_name, older, &empty);
     let new_file = file_of_group(new_name, newer, &empty);
-    let verdicts = verdicts_for(alloc, (old_name, new_name), old_file, new_file, budget)?;
+    let old = Crawler::new(alloc, old_name, old_file)?;
+    let new = Crawler::new(alloc, new_name, new_file)?;
+    let verdicts = verdicts_for(alloc, &old, &new, budget)?;
     Ok(Some(VendorChange {
         older: String::from_str(alloc, old_name)?,
         newer: String::from_str(alloc, new_name)?,

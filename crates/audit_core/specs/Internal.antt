@@ -7,6 +7,7 @@ use Rattle.texting_robots.specs.Callers.{lines_read, placed_rules}
 use Rattle.robots_warnings.specs.{Conflicts.is_empty_at, Means.is_style, Message.WarningValue}
 use Rattle.robots_warnings.specs.Warnings.{HasClosed, HasOverruling, url_warnings}
 use Rattle.audit_core.specs.{Audit.IsSo, Together.is_needless, Together.needless_line}
+use Rattle.audit_core.specs.declared.audit.Crawler.{Crawler}
 use Rattle.audit_core.specs.declared.audit.Reading.{Reading, TheVariants.Accepted, TheVariants.Rejected}
 
 -- the crawler's robot for the file, without sitemaps, or the line of the crawler's first overlong rule
@@ -17,6 +18,11 @@ IsReading agent file (Rejected line) = IsFirstOverlong (placed_rules agent (line
 -- about a needless rule, or about style
 abbrev pub is_plain : WarningValue → Bool
 is_plain warning = is_style warning.cause || is_needless warning.cause
+
+-- the crawler's rules, and how the file is read for it
+pub record IsCrawlerIn (file : List ℕ) (crawler : Crawler) : Type 0 where
+  pub rules_are : crawler.rules.items ≡ placed_rules crawler.agent.now (lines_read file)
+  pub reading_is : IsReading crawler.agent.now file crawler.reading
 
 -- such warnings are appended, and those of needless rules are in these lines
 pub record AddsNeedless (lines : List ℕ) (old new : List WarningValue) : Type 0 where

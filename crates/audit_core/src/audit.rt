@@ -6,7 +6,7 @@ ghost use Rattle.texting_robots.specs.Callers.{label_by_value, lines_read};
 ghost use Rattle.audit_core.specs.Audit.{IsAgentAudit, IsAuditOf, IsRuling, IsVerdictOn};
 ghost use Rattle.audit_core.specs.Audit.{all_allowed, allows_all, labeling_agent};
 ghost use Rattle.audit_core.specs.Audit.{labels_requested, rejects_some};
-ghost use Rattle.audit_core.specs.{Request.requested_by, Internal.AreFoundFor, Internal.IsReading};
+ghost use Rattle.audit_core.specs.{Request.requested_by, Internal.AreFoundFor, Internal.IsCrawlerIn, Internal.IsReading};
 ghost use Rattle.audit_core.specs.{Reach.IsReach};
 ghost use Rattle.robots_rules.specs.Needless.{numbers_of};
 ghost use Rattle.robots_warnings.specs.Read.{IsRead};
@@ -106,7 +106,7 @@ pub enum Reading {
 }
 
 /// How the file is read for the crawler.
-pub fn read_for(alloc: Global, agent: &str, read: &FileRead<'_>) -> Result<Reading, Error>
+fn read_for(alloc: Global, agent: &str, read: &FileRead<'_>) -> Result<Reading, Error>
     requires { IsRead read.now }
     ensures ok { IfOk result (IsReading agent.now read.now.bytes.now) }
     ensures error { IfErr result (λ error. error ≡ Error.Memory) }
@@ -115,6 +115,32 @@ pub fn read_for(alloc: Global, agent: &str, read: &FileRead<'_>) -> Result<Readi
         Ok(robot) => Ok(Reading::Accepted(robot)),
         Err(RobotError::Overlong(line)) => Ok(Reading::Rejected(line)),
         Err(RobotError::Memory) => Err(Error::Memory),
+    }
+}
+
+/// A crawler, and what a file has for it.
+#[derive(Drop)]
+pub struct Crawler<'a> {
+    pub agent: &'a str,
+    /// In file order.
+    pub rules: Vec<Rule>,
+    pub reading: Reading,
+}
+
+impl<'a> Crawler<'a> {
+    pub fn new(alloc: Global, agent: &'a str, read: &FileRead<'_>) -> Result<Self, Error>
+        requires { IsRead read.now }
+        ensures agent { IfOk result (λ crawler. crawler.agent.now ≡ agent.entry.now) }
+        ensures ok { IfOk result (IsCrawlerIn read.now.bytes.now) }
+        ensures error { IfErr result (λ error. error ≡ Error.Memory) }
+    {
+        let rules = rules_of(alloc, &read.site, agent)?;
+        let reading = read_for(alloc, agent, read)?;
+        Ok(Crawler {
+            agent,
+            rules,
+            reading,
+        })
     }
 }
 
@@ -150,56 +176,47 @@ pub(crate) fn ruling<'a>(
     }
 }
 
-/// What a crawler, for which the file is read so and has these rules, may fetch. It is `Part` if its vendor
-/// applies another group.
+/// What the crawler may fetch. It is `Part` if its vendor applies another group.
 fn reach_for(
     alloc: Global,
     vendor: AtVendor,
-    reading: &Reading,
-    rules: &[Rule],
+    crawler: &Crawler<'_>,
     budget: usize,
 ) -> Result<(Reach, Vec<usize>), AllocError>
-    ensures reach { IfOk result (λ found. IsReach rules.now found.0 found.1.items) }
+    ensures reach { IfOk result (λ found. IsReach crawler.now.rules.items found.0 found.1.items) }
     ensures own { IfOk result (λ found. (vendor ≡ AtVendor.Same) ⊎ (found.0 ≡ Reach.Part)) }
 {
-    match reading {
+    match &crawler.reading {
         Reading::Accepted(robot) if vendor == AtVendor::Same => {
-            reach_of(alloc, robot, rules, budget)
+            reach_of(alloc, robot, &crawler.rules, budget)
         }
         _ => Ok((Reach::Part, Vec::new(alloc))),
     }
 }
 
-fn count_of(rules: &[Rule]) -> usize
-    ensures { result ≡ length rules.now }
-{
-    rules.len()
-}
-
-/// What the file, which is read so for the crawler, means for it.
-fn agent_audit<'a>(
+/// What the file means for one crawler. The budget bounds how long its rules are compared on all paths.
+pub fn audit_for<'a>(
     alloc: Global,
-    agent: &'a str,
-    reading: &Reading,
+    crawler: &Crawler<'a>,
     read: &FileRead<'_>,
     urls: &[&'a str],
     budget: usize,
 ) -> Result<AgentAudit<'a>, Error>
     requires read { IsRead read.now }
-    requires reading { IsReading agent.now read.now.bytes.now reading.now }
+    requires crawler { IsCrawlerIn read.now.bytes.now crawler.now }
     ensures ok { IfOk result (λ audit. IsAgentAudit (map (λ url. url.now) urls.now)
-        (lines_read read.now.bytes.now) agent.now audit) }
+        (lines_read read.now.bytes.now) crawler.now.agent.now audit) }
     ensures error { IfErr result (λ error. error ≡ Error.Memory) }
 {
-    let rules = rules_of(alloc, &read.site, agent)?;
+    let agent = crawler.agent;
     let vendor = at_vendor(agent, &read.site);
-    let (reach, allows) = reach_for(alloc, vendor, reading, &rules, budget)?;
-    let (rejected, verdicts) = ruling(alloc, reading, urls)?;
+    let (reach, allows) = reach_for(alloc, vendor, crawler, budget)?;
+    let (rejected, verdicts) = ruling(alloc, &crawler.reading, urls)?;
     Ok(AgentAudit {
         agent,
         group: group_of(agent, &read.site),
         group_line: naming_line(agent, &read.site, &read.labels),
-        rules: count_of(&rules),
+        rules: crawler.rules.len(),
         reach,
         allows,
         vendor,
@@ -210,53 +227,39 @@ fn agent_audit<'a>(
     })
 }
 
-/// What the file means for one crawler. The budget bounds how long its rules are compared on all paths.
-pub fn audit_for<'a>(
-    alloc: Global,
-    agent: &'a str,
-    read: &FileRead<'_>,
-    urls: &[&'a str],
-    budget: usize,
-) -> Result<AgentAudit<'a>, Error>
-    requires { IsRead read.now }
-    ensures ok { IfOk result (λ audit. IsAgentAudit (map (λ url. url.now) urls.now)
-        (lines_read read.now.bytes.now) agent.now audit) }
-    ensures error { IfErr result (λ error. error ≡ Error.Memory) }
-{
-    let reading = read_for(alloc, agent, read)?;
-    agent_audit(alloc, agent, &reading, read, urls, budget)
-}
-
-/// The same. `star` is how the file is read for `*`.
+/// The same for the crawler with this name, which may be `star`.
 fn audit_beside<'a>(
     alloc: Global,
     agent: &'a str,
-    star: &Reading,
+    star: &Crawler<'a>,
     read: &FileRead<'_>,
     urls: &[&'a str],
     budget: usize,
 ) -> Result<AgentAudit<'a>, Error>
     requires read { IsRead read.now }
-    requires star { IsReading (codes "*") read.now.bytes.now star.now }
+    requires star { IsCrawlerIn read.now.bytes.now star.now }
+    requires name { star.now.agent.now ≡ codes "*" }
     ensures ok { IfOk result (λ audit. IsAgentAudit (map (λ url. url.now) urls.now)
         (lines_read read.now.bytes.now) agent.now audit) }
     ensures error { IfErr result (λ error. error ≡ Error.Memory) }
 {
     if agent == "*" {
-        return agent_audit(alloc, agent, star, read, urls, budget);
+        return audit_for(alloc, star, read, urls, budget);
     }
-    audit_for(alloc, agent, read, urls, budget)
+    let crawler = Crawler::new(alloc, agent, read)?;
+    audit_for(alloc, &crawler, read, urls, budget)
 }
 
 fn agent_audits<'a>(
     alloc: Global,
     agents: &[&'a str],
-    star: &Reading,
+    star: &Crawler<'a>,
     read: &FileRead<'_>,
     urls: &[&'a str],
 ) -> Result<Vec<AgentAudit<'a>>, Error>
     requires read { IsRead read.now }
-    requires star { IsReading (codes "*") read.now.bytes.now star.now }
+    requires star { IsCrawlerIn read.now.bytes.now star.now }
+    requires name { star.now.agent.now ≡ codes "*" }
     ensures ok { IfOk result (λ audits. AllZip (IsAgentAudit (map (λ url. url.now) urls.now)
         (lines_read read.now.bytes.now)) (map (λ agent. agent.now) agents.now) audits.items) }
     ensures error { IfErr result (λ error. error ≡ Error.Memory) }
@@ -320,7 +323,7 @@ fn audit_read<'a>(
     ensures error { IfErr result (λ error. error ≡ Error.Memory) }
 {
     let names = agents_requested(alloc, &request.agents, &read.labels)?;
-    let star = read_for(alloc, "*", read)?;
+    let star = Crawler::new(alloc, "*", read)?;
     let agents = agent_audits(alloc, &names, &star, read, &request.urls)?;
     let needless = needless_rules(
         alloc,
@@ -328,7 +331,7 @@ fn audit_read<'a>(
         read.facts.is_too_large,
         &read.site,
     )?;
-    let mut warnings = all_warnings(alloc, request, &names, &star, read, &needless)?;
+    let mut warnings = all_warnings(alloc, request, &names, &star.reading, read, &needless)?;
     let syntax = conformance_of(alloc, read.bytes, &read.site)?;
     choose(&request.only, &request.ignored, &mut warnings);
     Ok((agents, warnings, syntax))

@@ -2,7 +2,7 @@
 ghost use Rattle.std.specs.Prelude.{◌≡◌, IfOk, false, take, true};
 ghost use Rattle.texting_robots.specs.Callers.{IsRejected, IsRobotWithoutSitemaps, file_limit, lines_read};
 ghost use Rattle.robots_warnings.specs.{Crawlers.other_group, Read.IsRead};
-ghost use Rattle.audit_core.specs.Internal.{IsReading};
+ghost use Rattle.audit_core.specs.Internal.{IsCrawlerIn};
 ghost use Rattle.audit_expect.specs.Expectations.{Holds, HoldsIn};
 ghost use Rattle.audit_expect.specs.Internal.Expectations.{IsJudgmentOn, expectation_value, fails, fails_at};
 ghost use Rattle.audit_expect.specs.Internal.Expectations.{fails_at_vendor, is_unexpected};
@@ -11,7 +11,7 @@ use crate::expect::Expectation;
 use crate::normal_form::written_form;
 use crate::other_reading::other_decisions;
 use crate::patterns::{OnPaths, holds, on_paths};
-use audit_core::audit::{Reading, read_for};
+use audit_core::audit::{Crawler, Reading};
 use audit_core::error::Error;
 use audit_core::target::decision_on;
 use robots_rules::rule::rules_of;
@@ -55,34 +55,44 @@ pub(crate) struct Checked<'a> {
 
 fn on_pattern(
     alloc: Global,
-    agent: &str,
     expectation: &Expectation<'_>,
+    crawler: &Crawler<'_>,
     read: &FileRead<'_>,
 ) -> Result<Judgment, AllocError>
     requires read { IsRead read.now }
-    requires accepted { ¬ IsRejected agent.now (lines_read read.now.bytes.now) }
+    requires crawler { IsCrawlerIn read.now.bytes.now crawler.now }
+    requires accepted { ¬ IsRejected crawler.now.agent.now (lines_read read.now.bytes.now) }
     requires pattern { expectation.now.is_pattern ≡ true }
-    ensures { IfOk result (IsJudgmentOn read.now.bytes.now agent.now (expectation_value expectation.now)) }
+    ensures { IfOk result (IsJudgmentOn read.now.bytes.now crawler.now.agent.now
+        (expectation_value expectation.now)) }
 {
-    let rules = rules_of(alloc, &read.site, agent)?;
-    let copy = rules_of(alloc, &read.site, agent)?;
-    let found = on_paths(alloc, expectation.allowed, expectation.url, &rules, copy)?;
+    let copy = rules_of(alloc, &read.site, crawler.agent)?;
+    let found = on_paths(
+        alloc,
+        expectation.allowed,
+        expectation.url,
+        &crawler.rules,
+        copy,
+    )?;
     Ok(Judgment::Everywhere(found))
 }
 
 fn decided_on(
     alloc: Global,
-    agent: &str,
     expectation: &Expectation<'_>,
+    crawler: &Crawler<'_>,
     robot: &Robot,
     read: &FileRead<'_>,
 ) -> Result<Judgment, Error>
     requires read { IsRead read.now }
-    requires robot { IsRobotWithoutSitemaps agent.now (take file_limit read.now.bytes.now) robot.now }
-    ensures { IfOk result (IsJudgmentOn read.now.bytes.now agent.now (expectation_value expectation.now)) }
+    requires crawler { IsCrawlerIn read.now.bytes.now crawler.now }
+    requires robot { IsRobotWithoutSitemaps crawler.now.agent.now (take file_limit read.now.bytes.now)
+        robot.now }
+    ensures { IfOk result (IsJudgmentOn read.now.bytes.now crawler.now.agent.now
+        (expectation_value expectation.now)) }
 {
     if expectation.is_pattern {
-        return Ok(on_pattern(alloc, agent, expectation, read)?);
+        return Ok(on_pattern(alloc, expectation, crawler, read)?);
     }
     let url = expectation.url;
     let form = written_form(alloc, url)?;
@@ -90,24 +100,24 @@ fn decided_on(
         return Ok(Judgment::Rewritten);
     };
     let decision = decision_on(alloc, robot, url)?;
-    let (other, normal) = other_decisions(alloc, agent, url, read, &target)?;
+    let (other, normal) = other_decisions(alloc, crawler.agent, url, read, &target)?;
     Ok(Judgment::Decided(decision, other, normal))
 }
 
 fn judgment_on(
     alloc: Global,
-    agent: &str,
     expectation: &Expectation<'_>,
-    reading: &Reading,
+    crawler: &Crawler<'_>,
     read: &FileRead<'_>,
 ) -> Result<Judgment, Error>
     requires read { IsRead read.now }
-    requires reading { IsReading agent.now read.now.bytes.now reading.now }
-    ensures { IfOk result (IsJudgmentOn read.now.bytes.now agent.now (expectation_value expectation.now)) }
+    requires crawler { IsCrawlerIn read.now.bytes.now crawler.now }
+    ensures { IfOk result (IsJudgmentOn read.now.bytes.now crawler.now.agent.now
+        (expectation_value expectation.now)) }
 {
-    match reading {
+    match &crawler.reading {
         Reading::Rejected(line) => Ok(Judgment::Rejected(*line)),
-        Reading::Accepted(robot) => decided_on(alloc, agent, expectation, robot, read),
+        Reading::Accepted(robot) => decided_on(alloc, expectation, crawler, robot, read),
     }
 }
 
@@ -128,24 +138,25 @@ fn at_vendor<'a>(
     if group.is_empty() {
         return Ok(AtVendor::Nobody);
     }
-    let reading = read_for(alloc, group, read)?;
-    let judgment = judgment_on(alloc, group, expectation, &reading, read)?;
+    let crawler = Crawler::new(alloc, group, read)?;
+    let judgment = judgment_on(alloc, expectation, &crawler, read)?;
     Ok(AtVendor::Group(group, judgment))
 }
 
-/// What the file says about an expectation. `reading` is how it is read for the crawler.
+/// What the file says about an expectation, which is about this crawler.
 pub(crate) fn checked_on<'a>(
     alloc: Global,
     expectation: &Expectation<'a>,
-    reading: &Reading,
+    crawler: &Crawler<'_>,
     read: &'a FileRead<'_>,
 ) -> Result<Checked<'a>, Error>
     requires read { IsRead read.now }
-    requires reading { IsReading expectation.now.agent.now read.now.bytes.now reading.now }
+    requires crawler { IsCrawlerIn read.now.bytes.now crawler.now }
+    requires agent { crawler.now.agent.now ≡ expectation.now.agent.now }
     ensures { IfOk result (λ checked. fails checked ≡ false
         → Holds read.now.bytes.now (expectation_value expectation.now)) }
 {
-    let judgment = judgment_on(alloc, expectation.agent, expectation, reading, read)?;
+    let judgment = judgment_on(alloc, expectation, crawler, read)?;
     let vendor = at_vendor(alloc, expectation, read)?;
     Ok(Checked {
         expectation: *expectation,

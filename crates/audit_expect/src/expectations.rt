@@ -1,16 +1,16 @@
 //! Expectations checked against a robots.txt file, and the report on those that fail.
 ghost use Rattle.std.specs.Prelude.{◌≡◌, All, IfOk, OnOk, false, length, map};
-ghost use Rattle.audit_core.specs.Internal.{IsReading};
+ghost use Rattle.audit_core.specs.Internal.{IsCrawlerIn};
 ghost use Rattle.robots_warnings.specs.Read.{IsRead};
 ghost use Rattle.audit_expect.specs.Expectations.{AreFailuresOf, Holds, holding_words};
-ghost use Rattle.audit_expect.specs.Internal.Expectations.{IsReadFor, expectation_value, fails};
+ghost use Rattle.audit_expect.specs.Internal.Expectations.{expectation_value, fails};
 
 use crate::any::about_each;
 use crate::checks::{AtVendor, Checked, Judgment, checked_on, fails, fails_at, is_unexpected};
 use crate::entries::without_entries;
 use crate::expect::{Expectation, expectations_in, is_any};
 use crate::patterns::OnPaths;
-use audit_core::audit::{Reading, read_for};
+use audit_core::audit::Crawler;
 use audit_core::error::{EntryKind, Error};
 use audit_core::findings::{Findings, add, message};
 use audit_core::target::asked_target;
@@ -24,28 +24,22 @@ use std::fmt::Write;
 use texting_robots::robot::Decision;
 use texting_robots::site::Site;
 
-#[derive(Drop)]
-struct AgentReading<'a> {
-    agent: &'a str,
-    reading: Reading,
-}
-
 /// The file isn't parsed again if the crawler is the one before.
-fn reading_for<'a>(
+fn crawler_for<'a>(
     alloc: Global,
-    before: AgentReading<'a>,
+    before: Crawler<'a>,
     agent: &'a str,
     read: &FileRead<'_>,
-) -> Result<AgentReading<'a>, Error>
+) -> Result<Crawler<'a>, Error>
     requires read { IsRead read.now }
-    requires before { IsReading before.agent.now read.now.bytes.now before.reading }
-    ensures { IfOk result (IsReadFor agent.entry.now read.now.bytes.now) }
+    requires before { IsCrawlerIn read.now.bytes.now before }
+    ensures agent { IfOk result (λ crawler. crawler.agent.now ≡ agent.entry.now) }
+    ensures crawler { IfOk result (IsCrawlerIn read.now.bytes.now) }
 {
     if before.agent == agent {
         return Ok(before);
     }
-    let reading = read_for(alloc, agent, read)?;
-    Ok(AgentReading { agent, reading })
+    Crawler::new(alloc, agent, read)
 }
 
 /// What decides. `target` is what is compared here, as for those below, and `name` a word for it.
@@ -272,15 +266,11 @@ fn failures<'a>(
     ensures { IfOk result (λ found. length found.items ≡ 0
         → All (Holds read.now.bytes.now) (map expectation_value expectations.now)) }
 {
-    let reading = read_for(alloc, "*", read)?;
-    let mut latest = AgentReading {
-        agent: "*",
-        reading,
-    };
+    let mut latest = Crawler::new(alloc, "*", read)?;
     let mut found = Vec::new(alloc);
     for expectation in expectations {
-        latest = reading_for(alloc, latest, expectation.agent, read)?;
-        let checked = checked_on(alloc, expectation, &latest.reading, read)?;
+        latest = crawler_for(alloc, latest, expectation.agent, read)?;
+        let checked = checked_on(alloc, expectation, &latest, read)?;
         add_if_failing(alloc, report, &mut found, &checked)?;
     }
     end_names(report)?;

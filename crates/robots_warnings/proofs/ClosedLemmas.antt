@@ -1,23 +1,28 @@
 -- Closed sites, product tokens, and the tables of warnings.
 use Rattle.std.specs.{Prelude.slice_get, Prelude.Any, Prelude.MatchOption, Global.Global}
 use Rattle.std.specs.{HashSet.contains_text, String.string_eq, List.filter_map, List.list_any, Str.byte}
+use Rattle.std.specs.List.{before_first, position_or_len}
+use Rattle.std.proofs.lemmas.List.{length-take, take_all}
+use Rattle.robots_warnings.specs.Crawlers.{ends_token, is_near}
 use Rattle.std.specs.{Str.str_to_ascii_lowercase, BTreeSet.BTreeSet, BTreeSet.Updates, BTreeSet.contains}
 use Rattle.std.proofs.Common.{[], ◌≡◌, ℕ, ◌+◌, ◌==◌, Bool, false, true, List, ◌∷◌, ap, arith, inl, inr, refl}
 use Rattle.std.proofs.Common.{suc, sym, ◌∙◌, ◌&&◌, ◌||◌, nat_le, nat_lt, not, ◌++◌, Bor, Option, String, cond}
 use Rattle.std.proofs.Common.{length, map, slice_index_or, string_bytes, bytes_eq, zero, None, Some, Contains}
-use Rattle.std.proofs.Common.{All}
+use Rattle.std.proofs.Common.{All, if◌then◌else◌}
+use Rattle.std.specs.Option.{option_or}
 use Rattle.std.proofs.lemmas.List.Elements.{All-contains, All-map, All-weaker, Contains-append_right}
 use Rattle.std.proofs.lemmas.List.Elements.{filter_map-append}
 use Rattle.std.proofs.lemmas.List.{get_or-map, length-map, Folds.list_any-append}
-use Rattle.std.proofs.lemmas.Bool.{and_parts, cases_Bool, false≢true, ne_eqb, Decides.nat_tests}
+use Rattle.std.proofs.lemmas.Bool.{and_parts, or_parts, cases_Bool, false≢true, ne_eqb, Decides.nat_tests}
 use Rattle.std.proofs.lemmas.Map.Text.{is_eq-slice_cmp, hash_set_updates_text}
 use Rattle.texting_robots.specs.Callers.{AreSitemapsOf, Label, LineValue, PlacedRule, escaped, file_lines}
 use Rattle.texting_robots.specs.Callers.{sitemaps_in}
 use Rattle.texting_robots.specs.Escape.{is_escaped}
 use Rattle.texting_robots.specs.Line.{AreFileLinesOf, nul_as_lf}
 use Rattle.texting_robots.proofs.Shared.{each_text_has_its_lines, of_lines, sitemaps_are_computed}
-use Rattle.robots_warnings.specs.Closed.{closes, are_signs, is_closing, is_rival, is_star_or_dollar}
-use Rattle.robots_warnings.specs.Closed.{is_literally, is_whole_site, line_closing_site, opened_path}
+use Rattle.robots_warnings.specs.Closed.{closes, are_signs, first_closing, first_line, is_closing, is_rival}
+use Rattle.robots_warnings.specs.Closed.{is_literally, is_star_or_dollar, is_whole_site, leaves_closed}
+use Rattle.robots_warnings.specs.Closed.{line_closing_site, opened_path}
 use Rattle.robots_warnings.specs.{Message.WarningValue, File.lines_of, Internal.IsAt, Internal.Rules.Patterns}
 use Rattle.robots_warnings.specs.Warnings.{HasClosed, IsAbout, IsTold, is_closing_cause}
 use Rattle.robots_warnings.specs.Means.{Closes, Means}
@@ -98,6 +103,20 @@ closes_if is_exempt rules needed placed value closing same is =
   where
     at_least : (m n : ℕ) (rival : Bool) → rival ≡ nat_lt n m → nat_le m n ≡ not rival
     at_least m n rival is = rw is (grind (arith, nat_tests))
+
+pub none_closing : (is_exempt : List ℕ → Bool) (rules : List PlacedRule) → list_any is_closing rules ≡ false
+    → first_closing is_exempt rules ≡ None
+none_closing is_exempt rules none = none_in rules none
+  where
+    none_in : (some : List PlacedRule) → list_any is_closing some ≡ false
+        → first_line (closes (leaves_closed is_exempt) rules) some ≡ None
+    none_in [] none = refl
+    none_in (placed ∷ some) none =
+        let (first, later) = or_parts (is_closing placed) _ none in
+        let rival = list_any (is_rival (leaves_closed is_exempt) placed.rule.0) rules in
+        let rest = first_line (closes (leaves_closed is_exempt) rules) some in
+        ap (λ closing. option_or (if closing && not rival then Some placed.line else None) rest) first
+        ∙ none_in some later
 
 abbrev row_of : List LineValue → Bor (List ℕ) → Option ℕ × Bor (List ℕ)
 row_of lines agent = (line_closing_site lines agent.now, agent)
@@ -215,3 +234,16 @@ pub part_in : {R X : Type 0} (part : R → X) {rows : List R} {at : ℕ} {row : 
     → IsAt rows at row → map part rows ≡ all → part row ≡ slice_index_or all at other
 part_in part {rows} {at} {row} other is same =
     sym (at_place part rows at row other is.found) ∙ ap (λ all. slice_index_or all at other) same
+
+-- ---- Names of crawlers.
+
+pub near_whole : (value name : List ℕ) → length (before_first ends_token value) ≡ length value
+    → (is_near value name || false) ≡ (is_near value name || is_near (before_first ends_token value) name)
+near_whole value name whole =
+    let same : before_first ends_token value ≡ value = take_all (position_or_len ends_token value) value
+    (omega (arith, length-take (position_or_len ends_token value) value, whole)) in
+    either_same (is_near value name) ∙ ap (λ start. is_near value name || is_near start name) (sym same)
+  where
+    either_same : (is : Bool) → (is || false) ≡ (is || is)
+    either_same true = refl
+    either_same false = refl

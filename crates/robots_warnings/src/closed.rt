@@ -97,6 +97,13 @@ fn closes(needed: usize, rule: &SiteRule<'_>) -> bool
     is_closing(rule) && rule.value.len() >= needed
 }
 
+fn has_closing(rules: &[SiteRule<'_>]) -> bool
+    ensures { result ≡ list_any is_closing rules.now }
+{
+    rules.iter().any(|rule| is_closing(rule))
+}
+
+#[tactic(auto, using(crate::proofs::ClosedLemmas::none_closing))]
 fn first_closing(
     alloc: Global,
     exempt: &Patterns,
@@ -104,6 +111,9 @@ fn first_closing(
 ) -> Result<Option<usize>, AllocError>
     ensures { IfOk result (λ line. line ≡ first_closing (contains_text exempt.now) rules.now) }
 {
+    if !has_closing(rules) {
+        return Ok(None);
+    }
     let needed = needed(alloc, exempt, rules)?;
     for rule in rules {
         if closes(needed, rule) {
@@ -231,21 +241,18 @@ fn is_major(let_in: bool, site: &Site, agent: &str) -> bool {
         || (!let_in && (agent == "*" || !site.is_named(agent)))
 }
 
-/// The line that closes the home page alone. Reported only for search engines, `*`, and crawlers that aren't
-/// named.
+/// The line that closes the home page alone to the crawler in this row. Reported only for search engines, `*`,
+/// and crawlers that aren't named.
 fn line_closing_home(
     alloc: Global,
-    exempt: &Patterns,
     site: &Site,
-    agent: &str,
+    row: Row<'_>,
 ) -> Result<Option<usize>, AllocError> {
-    if !is_major(false, site, agent) || is_elsewhere(alloc, site, agent)? {
+    let (closing, agent) = row;
+    if closing.is_some() || !is_major(false, site, agent) || is_elsewhere(alloc, site, agent)? {
         return Ok(None);
     }
     let rules = own_rules(alloc, site, agent)?;
-    if first_closing(alloc, exempt, &rules)?.is_some() {
-        return Ok(None);
-    }
     Ok(first_closing_home(&rules))
 }
 
@@ -279,18 +286,13 @@ fn site_rows<'a>(
     Ok(rows)
 }
 
-/// The lines that close the home page alone.
-fn home_rows<'a>(
-    alloc: Global,
-    exempt: &Patterns,
-    site: &Site,
-    agents: &[&'a str],
-) -> Result<Vec<Row<'a>>, AllocError> {
-    let mut rows = Vec::new(alloc);
-    for agent in agents {
-        rows.push((line_closing_home(alloc, exempt, site, agent)?, *agent))?;
+/// The lines that close the home page alone. The rows are those of `site_rows`.
+fn home_rows<'a>(alloc: Global, site: &Site, rows: &[Row<'a>]) -> Result<Vec<Row<'a>>, AllocError> {
+    let mut homes = Vec::new(alloc);
+    for row in rows {
+        homes.push((line_closing_home(alloc, site, *row)?, row.1))?;
     }
-    Ok(rows)
+    Ok(homes)
 }
 
 /// How many other crawlers have this line.
@@ -411,7 +413,7 @@ pub(crate) fn warn_of_closed<'a>(
     let sites = site_rows(alloc, &exempt, site, known.agents)?;
     let mut closed = closing(alloc, let_in, site, &sites)?;
     found.append(&mut closed)?;
-    let homes = home_rows(alloc, &exempt, site, known.agents)?;
+    let homes = home_rows(alloc, site, &sites)?;
     let homes = of_homes(alloc, &closing(alloc, let_in, site, &homes)?)?;
     keep(found, &homes, known)?;
     Ok(())

@@ -1,8 +1,9 @@
 //! Known crawlers: which group the vendor of each applies to it, and which one a similar name may mean.
-ghost use Rattle.std.specs.Prelude.{◌≡◌, IfOk, map, option_map};
-ghost use Rattle.std.specs.{List.position_from};
+ghost use Rattle.std.specs.Prelude.{◌≡◌, ◌||◌, IfOk, map, option_map};
+ghost use Rattle.std.specs.List.{before_first, position_from};
 ghost use Rattle.texting_robots.specs.Callers.{by_value, file_lines};
-ghost use Rattle.robots_warnings.specs.Crawlers.{crawlers, first_at_vendor, gets_other, group_at_vendor};
+ghost use Rattle.robots_warnings.specs.Crawlers.{crawlers, ends_token, first_at_vendor, gets_other};
+ghost use Rattle.robots_warnings.specs.Crawlers.{group_at_vendor};
 ghost use Rattle.robots_warnings.specs.Crawlers.{ignores_star, is_known, is_meant, is_near, is_row_of, meant};
 ghost use Rattle.robots_warnings.specs.Crawlers.{most_edits, name_at_vendor, name_for, other_group};
 ghost use Rattle.robots_warnings.specs.Crawlers.{value_at_vendor, wrong_names};
@@ -267,15 +268,24 @@ pub fn is_near(alloc: Global, value: &[u8], name: &str) -> Result<bool, AllocErr
     Ok(generic_damerau_levenshtein(alloc, &value, &name)? <= most)
 }
 
+/// Whether the start of the value, if that isn't all of it, is near the name.
+#[tactic(auto, using(crate::proofs::ClosedLemmas::near_whole))]
+fn is_start_near(alloc: Global, value: &[u8], name: &str) -> Result<bool, AllocError>
+    ensures { IfOk result (λ answer. (is_near value.now name.now || answer)
+        ≡ (is_near value.now name.now || is_near (before_first ends_token value.now) name.now)) }
+{
+    let start = token_front(value);
+    if start.len() == value.len() {
+        return Ok(false);
+    }
+    is_near(alloc, start, name)
+}
+
 #[tactic(auto, unfolding(crate::specs::Crawlers::is_meant))]
 fn is_meant(alloc: Global, value: &[u8], other: &str, row: &Crawler) -> Result<bool, AllocError>
     ensures { IfOk result (λ answer. answer ≡ is_meant value.now other.now (row_value row.now)) }
 {
-    Ok(
-        row.0 == other
-            || is_near(alloc, value, row.0)?
-            || is_near(alloc, token_front(value), row.0)?,
-    )
+    Ok(row.0 == other || is_near(alloc, value, row.0)? || is_start_near(alloc, value, row.0)?)
 }
 
 fn is_known(name: &[u8]) -> bool

@@ -1,9 +1,7 @@
 -- Expectations as the code finds and handles them.
 use Rattle.std.specs.Prelude.{◌≡◌, ℕ, true, false, List, map, ◌⊎◌, Bool, ◌∷◌, Option, Some, None, Contains}
 use Rattle.std.specs.Prelude.{◌||◌, if◌then◌else◌, not, slice_index_or}
-use Rattle.audit_core.specs.{Internal.IsReading}
 use Rattle.audit_expect.specs.{declared.expect.Expectation.Expectation, declared.checks.Checked.Checked}
-use Rattle.audit_expect.specs.{declared.expectations.AgentReading.AgentReading}
 use Rattle.audit_expect.specs.Expect.{ExpectationValue}
 use Rattle.audit_expect.specs.Expectations.{HoldsFor}
 use Rattle.audit_expect.specs.declared.checks.{AtVendor.AtVendor, Judgment.Judgment}
@@ -52,11 +50,6 @@ fails checked =
 -- by this judgment the expectation fails, or it holds
 abbrev pub IsJudgmentOn : List ℕ → List ℕ → ExpectationValue → Judgment → Type 0
 IsJudgmentOn file agent one judgment = fails_at one.allowed judgment ≡ false → HoldsFor file agent one
-
--- how the file is read for this crawler
-pub record IsReadFor (agent file : List ℕ) (found : AgentReading) : Type 0 where
-  pub agent_is : found.agent.now ≡ agent
-  pub reading : IsReading agent file found.reading
 
 abbrev pub is_empty : List ℕ → Bool
 is_empty body = is_empty_disallow (line_of body) body

@@ -1,10 +1,7 @@
 use Rattle.std.proofs.Common.{◌∙◌, sym}
-use Rattle.texting_robots.specs.Callers.{lines_read}
 use Rattle.audit_compare.proofs.CompareLemmas.{same_verdicts}
 use Rattle.audit_compare.proofs.compared.verdicts_of.Goals as goal
 
 pub returns-then-are_none-clause-ok : goal.returns-then-are_none-clause-ok
-returns-then-are_none-clause-ok c =
-    same_verdicts c.args.agent.now (lines_read c.args.older.now.bytes.now)
-    (lines_read c.args.newer.now.bytes.now) c.args.rules.now c.requires.rules
-    (sym c.are_none.ensures ∙ c.if-are_none.true)
+returns-then-are_none-clause-ok c = λ one other was is.
+    same_verdicts _ _ c.args.rules.now c.requires (sym c.are_none.ensures ∙ c.if-are_none.true)

@@ -7,13 +7,17 @@ returns-then-is_here-clause-ok c = sym c.is_here.ensures ∙ c.if-is_here.true
 
 pub returns-clause-ok : goal.returns-clause-ok
 returns-clause-ok c =
-    let old = c.name_at_vendor-old_name.ensures in
-    let new = c.name_at_vendor-new_name.ensures in
+    let old = c.in_ok-old.ensures in
+    let new = c.in_ok-new.ensures in
+    let old_name = c.name_at_vendor-old_name.ensures in
+    let new_name = c.name_at_vendor-new_name.ensures in
     record {
-      older_is = c.in_ok-from_str.ensures.ok ∙ old;
-      newer_is = c.in_ok-from_str-2.ensures.ok ∙ new;
+      older_is = c.in_ok-from_str.ensures.ok ∙ old_name;
+      newer_is = c.in_ok-from_str-2.ensures.ok ∙ new_name;
       verdicts_are = verdicts_by _ _ _ _ _
-          (rules_read _ c.args.agent.now _ _ old c.file_of_group-old_file.ensures.lines)
-          (rules_read _ c.args.agent.now _ _ new c.file_of_group-new_file.ensures.lines)
-          c.in_ok-verdicts.ensures.ok;
+          (old.ok.rules_are
+          ∙ rules_read _ c.args.agent.now _ _ (old.agent ∙ old_name) c.file_of_group-old_file.ensures.lines)
+          (new.ok.rules_are
+          ∙ rules_read _ c.args.agent.now _ _ (new.agent ∙ new_name) c.file_of_group-new_file.ensures.lines)
+          (c.in_ok-verdicts.ensures.ok _ _ old.ok new.ok);
     }

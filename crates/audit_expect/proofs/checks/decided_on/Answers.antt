@@ -11,7 +11,7 @@ other_decisions-requires-clause-accepted c = robot_accepted c.args.read.now.byte
 
 pub returns : goal.returns
 returns c =
-    let judged = decided_as c.args.read.now.bytes.now c.args.agent.now
+    let judged = decided_as c.args.read.now.bytes.now c.args.crawler.now.agent.now
     (expectation_value c.args.expectation.now) c.args.robot.now c.in_ok-decision.decision c.in_ok-other.other
     c.in_ok-other.normal c.requires.robot in
     grind (arith, judged)

@@ -5,11 +5,9 @@ use Rattle.audit_expect.proofs.checks.on_pattern.Goals as goal
 
 pub on_paths-requires-clause-rules : goal.on_paths-requires-clause-rules
 on_paths-requires-clause-rules c =
-    rw (c.deref.ensures.value, c.in_ok-rules.ensures, c.requires.read.site_is)
-    (all_accepted c.args.agent.now _ c.requires.accepted)
+    rw (c.deref.ensures.value, c.requires.crawler.rules_are) (all_accepted _ _ c.requires.accepted)
 
 pub returns : goal.returns
 returns c =
-    decided_all c.args.read.now.bytes.now c.args.agent.now (expectation_value c.args.expectation.now) _
-    c.requires.accepted c.requires.pattern
-    (rw (c.deref.ensures.value, c.in_ok-rules.ensures, c.requires.read.site_is) at c.in_ok-found.ensures)
+    decided_all _ _ (expectation_value c.args.expectation.now) _ c.requires.accepted c.requires.pattern
+    (rw (c.deref.ensures.value, c.requires.crawler.rules_are) at c.in_ok-found.ensures)

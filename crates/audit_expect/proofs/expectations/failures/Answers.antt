@@ -1,6 +1,5 @@
-use Rattle.std.proofs.Common.{All, rules, subst, sym}
+use Rattle.std.proofs.Common.{All, rules, subst}
 use Rattle.std.proofs.lemmas.List.{take_all, Elements.All-map, Elements.All-more}
-use Rattle.audit_core.specs.Internal.{IsReading}
 use Rattle.audit_expect.specs.Expectations.{Holds}
 use Rattle.audit_expect.specs.Internal.Expectations.{expectation_value}
 use Rattle.audit_expect.specs.declared.expect.Expectation.{Expectation}
@@ -10,8 +9,7 @@ pub loop-expectation-preserved : goal.loop-expectation-preserved
 loop-expectation-preserved c =
     let file = c.args.read.now.bytes.now in
     record {
-      latest = subst (λ agent. IsReading agent file c.in_ok-latest.latest.reading)
-          (sym c.in_ok-latest.ensures.agent_is) c.in_ok-latest.ensures.reading;
+      latest = c.in_ok-latest.ensures.crawler;
       hold = λ none.
           let (before, passes) = c.in_ok-add_if_failing.ensures none in
           All-more (λ (one : Expectation). Holds file (expectation_value one)) _ _ _

@@ -3,7 +3,7 @@ use Rattle.texting_robots.specs.Callers.{file_lines, label_by_value, placed_rule
 use Rattle.audit_core.specs.Audit.{group_of, naming_line}
 use Rattle.robots_warnings.specs.{File.lines_of}
 use Rattle.audit_core.proofs.AuditLemmas.{delay_read}
-use Rattle.audit_core.proofs.audit.agent_audit.Goals as goal
+use Rattle.audit_core.proofs.audit.audit_for.Goals as goal
 
 pub naming_line-requires : goal.naming_line-requires
 naming_line-requires c =
@@ -12,18 +12,18 @@ naming_line-requires c =
 
 pub returns-clause-ok : goal.returns-clause-ok
 returns-clause-ok c =
-    let agent = c.args.agent.now in
+    let agent = c.args.crawler.now.agent.now in
+    let crawler = c.requires.crawler in
     let file = c.args.read.now.bytes.now in
     let site = c.requires.read.site_is in record {
       agent_is = refl;
       group_is = c.group_of.ensures ∙ ap (λ text. group_of agent (file_lines text)) site;
       line_is = c.naming_line.ensures ∙ ap (λ text. naming_line agent (file_lines text)) site;
-      rules_are = c.count_of.ensures ∙ ap length (c.deref-3.ensures.value ∙ c.in_ok-rules.ensures)
-          ∙ ap (λ text. length (placed_rules agent (file_lines text))) site;
-      reach_is = rw (c.deref.ensures.value, c.in_ok-rules.ensures, site) at c.in_ok-reach.ensures.reach;
+      rules_are = rw crawler.rules_are at c.len.ensures;
+      reach_is = rw crawler.rules_are at c.in_ok-reach.ensures.reach;
       vendor_is = rw site at c.at_vendor-vendor.ensures;
       reach_elsewhere = c.in_ok-reach.ensures.own;
       ignored_by_is = rw site at c.in_ok-ignored_by.ensures;
       delay_is = delay_read agent file _ (rw site at c.delay.ensures);
-      ruling = c.in_ok-rejected.ensures.ok agent file c.requires.reading;
+      ruling = c.in_ok-rejected.ensures.ok agent file crawler.reading_is;
     }
