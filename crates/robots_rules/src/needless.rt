@@ -1,10 +1,11 @@
-//! Which rules of a crawler are needless.
-ghost use Rattle.std.specs.Prelude.{◌≡◌, ◌≢◌, ◌++◌, ◌∷◌, [], IfOk, IfSome, IsPermutation, IsTrue, OnOk, false};
-ghost use Rattle.texting_robots.specs.Pattern.{dollar, star};
-ghost use Rattle.robots_rules.specs.Search.{AddsLines, AddsNear, AreApart, Grow, HasAll, IsOutcome, IsReducing, IsSettled};
-ghost use Rattle.robots_rules.specs.declared.needless.Reason.TheVariants.{NeverDecides, NotNeeded};
-ghost use Rattle.robots_rules.specs.Needless.{Covers, IsFound, IsReason, MatchesNothing, TakesPrecedence};
+//! Looks for needless rules of a crawler. Only that the verdicts stay is proved of it; `same` checks the whole
+//! file without the lines that are found.
+ghost use Rattle.std.specs.Prelude.{◌≡◌, ◌++◌, ◌<◌, [], IfOk, IsPermutation, OnOk, length};
+ghost use Rattle.texting_robots.specs.Callers.{unplaced};
+ghost use Rattle.robots_rules.specs.Same.{IsComparison};
+ghost use Rattle.robots_rules.specs.Search.{IsOutcome, IsReducedTo, others};
 
+use crate::witnesses::{Witnesses, is_needed_on_mixed, may_meet};
 use crate::compare::{Comparison, compare};
 use crate::rule::Rule;
 use std::alloc::{AllocError, Global};
@@ -56,62 +57,6 @@ enum Outcome {
     Undecided,
 }
 
-/// It takes precedence if both match.
-#[tactic(auto, using(crate::proofs::CompareLemmas::longer_precedes, crate::proofs::CompareLemmas::allow_precedes, crate::proofs::CompareLemmas::above_precedes))]
-fn precedes(other: &Rule, rule: &Rule) -> bool
-    ensures { IsTrue result → TakesPrecedence other.now rule.now }
-{
-    let len = other.pattern.len();
-    let rule_len = rule.pattern.len();
-    if len != rule_len {
-        return len > rule_len;
-    }
-    if other.is_allow != rule.is_allow {
-        return other.is_allow;
-    }
-    other.line < rule.line
-}
-
-fn is_special(byte: u8) -> bool
-    ensures { result ≡ false → (byte ≢ star) × (byte ≢ dollar) }
-{
-    byte == b'*' || byte == b'$'
-}
-
-/// The patterns differ before their first star or dollar. What that took to find is added to the steps.
-fn are_apart(one: &[u8], other: &[u8], steps: &mut usize) -> bool
-    ensures { IsTrue result → AreApart one.now other.now }
-{
-    for k in 0..one.len().min(other.len()) {
-        if is_special(one[k]) {
-            return false;
-        }
-        if is_special(other[k]) {
-            return false;
-        }
-        if one[k] != other[k] {
-            *steps = steps.saturating_add(k).saturating_add(8);
-            return true;
-        }
-    }
-    false
-}
-
-/// The pattern before its first star or dollar.
-fn head(pattern: &[u8]) -> &[u8] {
-    for k in 0..pattern.len() {
-        if is_special(pattern[k]) {
-            return &pattern[..k];
-        }
-    }
-    pattern
-}
-
-/// How many bytes a text needs that the pattern matches.
-fn least_len(pattern: &[u8]) -> usize {
-    pattern.iter().filter(|byte| !is_special(**byte)).count()
-}
-
 /// The same rule, or another one with its pattern.
 fn copied(alloc: Global, rule: &Rule, is_allow: bool) -> Result<Rule, AllocError>
     ensures { IfOk result (λ made. made ≡ record { rule = (rule.now.rule.0, is_allow); line = rule.now.line }) }
@@ -125,106 +70,99 @@ fn copied(alloc: Global, rule: &Rule, is_allow: bool) -> Result<Rule, AllocError
     })
 }
 
-fn matches_nothing(alloc: Global, budget: &mut usize, rule: &Rule) -> Result<bool, AllocError>
-    ensures { IfOk result (λ is. IsTrue is → MatchesNothing rule.now.rule.0) }
-{
+fn matches_nothing(alloc: Global, budget: &mut usize, rule: &Rule) -> Result<bool, AllocError> {
     let mut denials = Vec::new(alloc);
     denials.push(copied(alloc, rule, false)?)?;
-    match compare(alloc, b"", denials.as_slice(), &[], budget)? {
-        Comparison::Same => Ok(true),
-        _ => Ok(false),
-    }
+    let comparison = compare(alloc, b"", denials.as_slice(), &[], budget)?;
+    Ok(matches!(comparison, Comparison::Same))
 }
 
-fn covers(alloc: Global, budget: &mut usize, wide: &Rule, narrow: &Rule) -> Result<bool, AllocError>
-    ensures { IfOk result (λ is. IsTrue is → Covers wide.now.rule.0 narrow.now.rule.0) }
-{
-    let wide_bytes = wide.pattern.as_bytes();
-    let bytes = narrow.pattern.as_bytes();
-    if least_len(wide_bytes) > least_len(bytes) || !bytes.starts_with(head(wide_bytes)) {
-        return Ok(false);
+/// The first rule matches every text that the other one matches.
+fn covers(
+    alloc: Global,
+    budget: &mut usize,
+    wide: &Rule,
+    narrow: &Rule,
+) -> Result<bool, AllocError> {
+    if wide.pattern.as_str() == narrow.pattern.as_str() {
+        return Ok(true);
     }
     let mut one = Vec::new(alloc);
     one.push(copied(alloc, wide, false)?)?;
     let mut both = Vec::new(alloc);
     both.push(copied(alloc, wide, false)?)?;
     both.push(copied(alloc, narrow, false)?)?;
-    match compare(alloc, b"", both.as_slice(), one.as_slice(), budget)? {
-        Comparison::Same => Ok(true),
-        _ => Ok(false),
-    }
+    let comparison = compare(alloc, b"", both.as_slice(), one.as_slice(), budget)?;
+    Ok(matches!(comparison, Comparison::Same))
 }
 
+/// The line of the highest rule above the one at this place that matches every text that it matches.
 fn overruling_line(
     alloc: Global,
     budget: &mut usize,
-    others: &[Rule],
-    rule: &Rule,
-) -> Result<Option<usize>, AllocError>
-    ensures { IfOk result (λ found. IfSome found (λ line.
-        IsReason others.now rule.now (NeverDecides line))) }
-{
-    for other in others {
-        if precedes(other, rule) && covers(alloc, budget, other, rule)? {
+    rules: &[Rule],
+    at: usize,
+    shown: &Witnesses,
+) -> Result<Option<usize>, AllocError> {
+    let Some(rule) = rules.get(at) else {
+        return Ok(None);
+    };
+    for k in (0..rules.len()).rev() {
+        let other = &rules[k];
+        if k > at && shown.are_matched(other, budget) && covers(alloc, budget, other, rule)? {
             return Ok(Some(other.line));
         }
     }
     Ok(None)
 }
 
-/// It is another one of the same kind.
-fn can_stand_in(other: &Rule, rule: &Rule) -> bool
-    ensures line { IsTrue result → other.now.line ≢ rule.now.line }
-    ensures kind { IsTrue result → other.now.rule.1 ≡ rule.now.rule.1 }
-{
-    other.line != rule.line && other.is_allow == rule.is_allow
-}
-
+/// The line of the first rule of its kind that matches every text that the rule matches.
 fn covering_line(
     alloc: Global,
     budget: &mut usize,
     others: &[Rule],
     rule: &Rule,
-) -> Result<Option<usize>, AllocError>
-    ensures { IfOk result (λ found. IfSome found (λ line.
-        IsReason others.now rule.now (NotNeeded line))) }
-{
+    shown: &Witnesses,
+) -> Result<Option<usize>, AllocError> {
     for other in others {
-        if can_stand_in(other, rule) && covers(alloc, budget, other, rule)? {
+        if other.is_allow == rule.is_allow
+            && shown.are_matched(other, budget)
+            && covers(alloc, budget, other, rule)?
+        {
             return Ok(Some(other.line));
         }
     }
     Ok(None)
 }
 
-fn has_lower_disallow(others: &[Rule], rule: &Rule) -> bool {
-    for other in others {
-        if !other.is_allow && precedes(rule, other) {
-            return true;
-        }
-    }
-    false
+/// One of these is a Disallow that may match a text that the rule matches.
+fn has_lower_disallow(below: &[Rule], rule: &Rule) -> bool {
+    below
+        .iter()
+        .any(|other| !other.is_allow && may_meet(other, rule))
 }
 
-/// Why a rule is needless that is. None if that would take too long to find.
-fn reason_among(
+/// Why the rule at this place is needless, if it is. None if no reason is found.
+fn reason_for(
     alloc: Global,
     budget: &mut usize,
-    others: &[Rule],
-    rule: &Rule,
-) -> Result<Option<Reason>, AllocError>
-    ensures { IfOk result (λ found. IfSome found (IsReason others.now rule.now)) }
-{
-    if matches_nothing(alloc, budget, rule)? {
+    rules: &[Rule],
+    at: usize,
+    shown: &Witnesses,
+) -> Result<Option<Reason>, AllocError> {
+    let Some(rule) = rules.get(at) else {
+        return Ok(None);
+    };
+    if !shown.are_proper(rule, budget) && matches_nothing(alloc, budget, rule)? {
         return Ok(Some(Reason::MatchesNothing));
     }
-    if let Some(line) = overruling_line(alloc, budget, others, rule)? {
+    if let Some(line) = overruling_line(alloc, budget, rules, at, shown)? {
         return Ok(Some(Reason::NeverDecides(line)));
     }
-    if rule.is_allow && !has_lower_disallow(others, rule) {
+    if rule.is_allow && !has_lower_disallow(&rules[..at], rule) {
         return Ok(Some(Reason::AllowedAnyway));
     }
-    if let Some(line) = covering_line(alloc, budget, others, rule)? {
+    if let Some(line) = covering_line(alloc, budget, &rules[..at], rule, shown)? {
         return Ok(Some(Reason::NotNeeded(line)));
     }
     if rule.is_allow {
@@ -233,36 +171,11 @@ fn reason_among(
     Ok(None)
 }
 
-/// Adds the other one, if it may match a text that the rule matches.
-#[tactic(auto, using(crate::proofs::CompareLemmas::near_apart, crate::proofs::CompareLemmas::near_pushed))]
-fn push_near(
-    alloc: Global,
-    near: &mut Vec<Rule>,
-    steps: &mut usize,
-    other: &Rule,
-    rule: &Rule,
-) -> Result<(), AllocError>
-    ensures { OnOk result (AddsNear near.old.items near.new.items (other.now ∷ []) rule.now) }
+fn add_copies(alloc: Global, to: &mut Vec<Rule>, rules: &[Rule]) -> Result<(), AllocError>
+    ensures { OnOk result (to.new.items ≡ to.old.items ++ rules.now) }
 {
-    if are_apart(other.pattern.as_bytes(), rule.pattern.as_bytes(), steps) {
-        return Ok(());
-    }
-    near.push(copied(alloc, other, other.is_allow)?)?;
-    Ok(())
-}
-
-/// Adds those that may match a text that the rule matches.
-fn add_near(
-    alloc: Global,
-    near: &mut Vec<Rule>,
-    steps: &mut usize,
-    others: &[Rule],
-    rule: &Rule,
-) -> Result<(), AllocError>
-    ensures { OnOk result (AddsNear near.old.items near.new.items others.now rule.now) }
-{
-    for other in others {
-        push_near(alloc, near, steps, other, rule)?;
+    for rule in rules {
+        to.push(copied(alloc, rule, rule.is_allow)?)?;
     }
     Ok(())
 }
@@ -278,81 +191,82 @@ fn cost_of(rules: &[Rule]) -> usize {
     cost
 }
 
-/// What becomes of the rule among these others.
-fn outcome_among(
+/// All rules are compared with all but the one at this place.
+fn comparison_without(
     alloc: Global,
     budget: &mut usize,
-    near: Vec<Rule>,
-    rule: &Rule,
-) -> Result<Outcome, AllocError>
-    ensures { IfOk result (IsOutcome near.items rule.now) }
+    rules: &[Rule],
+    at: usize,
+) -> Result<Comparison, AllocError>
+    requires { at < length rules.now }
+    ensures { IfOk result (IsComparison [] (unplaced rules.now) (unplaced (others at rules.now))) }
 {
-    let count = near.len();
-    let mut all = near;
-    all.push(copied(alloc, rule, rule.is_allow)?)?;
-    let others = &all[..count];
-    *budget = budget.saturating_sub(cost_of(others));
+    let mut rest = Vec::new(alloc);
+    add_copies(alloc, &mut rest, &rules[..at])?;
+    add_copies(alloc, &mut rest, &rules[at + 1..])?;
+    *budget = budget.saturating_sub(cost_of(&rest));
     let most = *budget / 8;
     let mut left = most;
-    let comparison = compare(alloc, b"", &all, others, &mut left)?;
+    let comparison = compare(alloc, b"", rules, &rest, &mut left)?;
     *budget = budget.saturating_sub(most.saturating_sub(left));
-    match comparison {
-        Comparison::Same => {}
-        Comparison::Differ(_) => return Ok(Outcome::Stays),
-        Comparison::Undecided => return Ok(Outcome::Undecided),
-    }
-    match reason_among(alloc, budget, others, rule)? {
-        Some(reason) => Ok(Outcome::Goes(reason)),
-        None => Ok(Outcome::Undecided),
-    }
+    Ok(comparison)
 }
 
-/// The same, with the others that match none of its texts. `Allow: /` and an empty Disallow are meant as they
-/// are.
+/// What becomes of the rule at this place, of which the first one is the lowest. `Allow: /` and an empty
+/// Disallow are meant as they are.
 fn outcome_of(
     alloc: Global,
     budget: &mut usize,
     stays: &LineNumbers,
-    kept: &[Rule],
-    rest: &[Rule],
-    rule: &Rule,
+    rules: &[Rule],
+    at: usize,
 ) -> Result<Outcome, AllocError>
-    ensures { IfOk result (IsOutcome (kept.now ++ rest.now) rule.now) }
+    requires { at < length rules.now }
+    ensures { IfOk result (IsOutcome at rules.now) }
 {
+    let rule = &rules[at];
     if stays.contains(&rule.line) || rule.is_allow && rule.pattern.as_str() == "/" {
         return Ok(Outcome::Stays);
     }
     if *budget == 0 {
         return Ok(Outcome::Undecided);
     }
-    let mut near = Vec::new(alloc);
-    let mut steps = 0;
-    add_near(alloc, &mut near, &mut steps, kept, rule)?;
-    add_near(alloc, &mut near, &mut steps, rest, rule)?;
-    *budget = budget.saturating_sub(steps / 64);
-    outcome_among(alloc, budget, near, rule)
+    let shown = Witnesses::new(alloc, rule)?;
+    if shown.show(rules, at, budget) {
+        return Ok(Outcome::Stays);
+    }
+    let reason = reason_for(alloc, budget, rules, at, &shown)?;
+    let is_sure = matches!(
+        reason,
+        Some(Reason::MatchesNothing | Reason::NeverDecides(_))
+    );
+    if !is_sure && is_needed_on_mixed(alloc, rules, at, budget)? {
+        return Ok(Outcome::Stays);
+    }
+    match (comparison_without(alloc, budget, rules, at)?, reason) {
+        (Comparison::Same, Some(reason)) => Ok(Outcome::Goes(reason)),
+        (Comparison::Differ(_), _) => Ok(Outcome::Stays),
+        _ => Ok(Outcome::Undecided),
+    }
 }
 
-/// The highest rank first, and in file order if ranks are equal. The order decides which rules are found of
+/// The lowest rank first, and in file order if ranks are equal. The order decides which rules are found of
 /// those that aren't needless together.
 fn by_rank(rules: Vec<Rule>) -> Vec<Rule>
     ensures { IsPermutation rules.items result.items }
 {
     let mut sorted = rules;
     sorted.sort_unstable_by(|one, other| {
-        other
-            .pattern
+        one.pattern
             .len()
-            .cmp(&one.pattern.len())
-            .then(other.is_allow.cmp(&one.is_allow))
-            .then(one.line.cmp(&other.line))
+            .cmp(&other.pattern.len())
+            .then(one.is_allow.cmp(&other.is_allow))
+            .then(other.line.cmp(&one.line))
     });
     sorted
 }
 
-fn add_lines(numbers: &mut LineNumbers, rules: &[Rule]) -> Result<(), AllocError>
-    ensures { OnOk result (AddsLines numbers.old numbers.new rules.now) }
-{
+fn add_lines(numbers: &mut LineNumbers, rules: &[Rule]) -> Result<(), AllocError> {
     for rule in rules {
         numbers.insert(rule.line)?;
     }
@@ -367,41 +281,49 @@ fn reduced(
     rules: Vec<Rule>,
     progress: &mut Progress,
 ) -> Result<Vec<Rule>, AllocError>
-    ensures reducing { IfOk result (λ left.
-        IsReducing rules.items left.items progress.old.found progress.new.found) }
-    ensures stays { OnOk result (progress.new.stays ≡ progress.old.stays) }
+    ensures { IfOk result (λ left. IsReducedTo rules.items left.items) }
 {
-    let mut rest = by_rank(rules);
-    let mut kept = Vec::new(alloc);
-    while let Some(rule) = rest.pop() {
-        match outcome_of(alloc, budget, &progress.stays, &kept, &rest, &rule)? {
+    let mut left = by_rank(rules);
+    let mut at = 0;
+    for _ in 0..left.len() {
+        if at >= left.len() {
+            break;
+        }
+        match outcome_of(alloc, budget, &progress.stays, &left, at)? {
             Outcome::Goes(reason) => {
+                let rule = left.remove(at);
                 progress.found.insert(rule.line, reason)?;
             }
-            Outcome::Stays => kept.push(rule)?,
+            Outcome::Stays => at += 1,
             Outcome::Undecided => {
+                let rule = &left[at];
                 progress.undecided.insert(rule.line)?;
-                kept.push(rule)?;
-                kept.append(&mut rest)?;
-                return Ok(kept);
+                break;
             }
         }
     }
-    Ok(kept)
+    Ok(left)
 }
 
-/// Finds the needless ones of a crawler's rules. The lines of the others stay.
+fn by_line(rules: Vec<Rule>) -> Vec<Rule>
+    ensures { IsPermutation rules.items result.items }
+{
+    let mut sorted = rules;
+    sorted.sort_unstable_by(|one, other| one.line.cmp(&other.line));
+    sorted
+}
+
+/// The rules of a crawler, in file order, without those that are found to be needless. The lines of the others
+/// stay.
 pub(crate) fn settle(
     alloc: Global,
     budget: &mut usize,
     rules: Vec<Rule>,
     progress: &mut Progress,
-) -> Result<(), AllocError>
-    ensures settled { OnOk result (IsSettled rules.items progress.new.found progress.new.stays) }
-    ensures grow { OnOk result (Grow (IsFound rules.items) progress.old.found progress.new.found) }
-    ensures more { OnOk result (HasAll progress.new.stays progress.old.stays) }
+) -> Result<Vec<Rule>, AllocError>
+    ensures { IfOk result (λ left. IsReducedTo rules.items left.items) }
 {
     let left = reduced(alloc, budget, rules, progress)?;
     add_lines(&mut progress.stays, left.as_slice())?;
-    Ok(())
+    Ok(by_line(left))
 }
