@@ -1,9 +1,11 @@
 -- What the search keeps true: it takes rules away from a crawler's, and the verdicts stay.
-use Rattle.std.specs.Prelude.{◌≡◌, ◌+◌, ℕ, All, Bool, List, [], ◌++◌, drop, map, take}
+use Rattle.std.specs.Prelude.{◌≡◌, ◌≢◌, ◌+◌, ◌<◌, ◌≤◌, ◌⊎◌, ℕ, All, Bool, List, [], ◌++◌, drop, if◌then◌else◌}
+use Rattle.std.specs.Prelude.{length, map, take}
 use Rattle.std.specs.{BTreeMap.BTreeMap, BTreeMap.get, Option.is_some, Ordering.nat_cmp}
-use Rattle.texting_robots.specs.Callers.{IsRejected, LineValue, PlacedRule, file_bodies, file_lines, rules_for}
+use Rattle.texting_robots.specs.Callers.{IsRejected, LineValue, Matches, PlacedRule, Rule, file_bodies, file_lines}
+use Rattle.texting_robots.specs.Callers.{robots_file, rules_for}
 use Rattle.texting_robots.specs.Callers.{sitemaps_in, unplaced}
-use Rattle.robots_rules.specs.{Same.HaveSameVerdicts}
+use Rattle.robots_rules.specs.{Internal.rank_of, Same.HaveSameVerdicts}
 use Rattle.robots_rules.specs.declared.needless.{NeedlessRule.NeedlessRule, Outcome.Outcome}
 use Rattle.robots_rules.specs.{declared.needless.Reason.Reason}
 use Rattle.robots_rules.specs.declared.needless.Outcome.TheVariants as outcomes
@@ -21,6 +23,30 @@ others at rules = take at rules ++ drop (at + 1) rules
 abbrev pub IsOutcome : ℕ → List PlacedRule → Outcome → Type 0
 IsOutcome at rules (outcomes.Goes reason) = IsReducedTo rules (others at rules)
 IsOutcome at rules outcome = Unit {0}
+
+-- the first pattern matches every text that the second one matches, except perhaps `/robots.txt`, which is
+-- always allowed
+abbrev pub Covers : List ℕ → List ℕ → Type 0
+Covers wide narrow = (text : List ℕ) → text ≢ robots_file → Matches narrow text → Matches wide text
+
+-- no text is matched by both patterns
+abbrev pub AreApart : List ℕ → List ℕ → Type 0
+AreApart one other = (text : List ℕ) → Matches one text → ¬ Matches other text
+
+-- how many bytes a rule of the other kind has to have, so that the rule doesn't decide in its place
+abbrev pub least_rival : Rule → ℕ
+least_rival rule = if rule.1 then length rule.0 + 1 else length rule.0
+
+-- it doesn't decide where the rule would, were it deleted, unless it is shorter
+abbrev pub IsNoRival : ℕ → PlacedRule → PlacedRule → Type 0
+IsNoRival least rule other = other.rule.1 ≢ rule.rule.1 → least ≤ length other.rule.0
+    → rank_of other.rule < rank_of rule.rule → AreApart other.rule.0 rule.rule.0
+
+-- if the other one of these rules matches every text that the rule matches, the rule changes no verdict
+abbrev pub Replaces : List PlacedRule → PlacedRule → PlacedRule → Type 0
+Replaces rules rule other =
+    (rank_of rule.rule ≤ rank_of other.rule)
+    ⊎ ((other.rule.1 ≡ rule.rule.1) × All (IsNoRival (least_rival other.rule) rule) rules)
 
 -- a reason for each line of a needless rule
 abbrev pub Reasons : Type 0

@@ -8,8 +8,8 @@ ghost use Rattle.robots_rules.specs.Needless.{nothing};
 
 use crate::blocks::{add_lost, keep_blocks};
 use crate::needless::{BUDGET, LineNumbers, NeedlessRule, Progress, Reason, settle};
-use crate::same::{Settled, accept, is_same_without, left_begin_with_mark};
 use crate::rule::rules_of;
+use crate::same::{Settled, accept, is_same_without, left_begin_with_mark};
 use std::alloc::{AllocError, Global};
 use std::collections::{BTreeMap, BTreeSet};
 use std::marker::Model;

@@ -1,13 +1,14 @@
 //! Looks for needless rules of a crawler. Only that the verdicts stay is proved of it; `same` checks the whole
 //! file without the lines that are found.
-ghost use Rattle.std.specs.Prelude.{◌≡◌, ◌++◌, ◌<◌, [], IfOk, IsPermutation, OnOk, length};
+ghost use Rattle.std.specs.Prelude.{◌≡◌, ◌≢◌, ◌++◌, ◌<◌, [], All, IfOk, IsPermutation, IsTrue, OnOk, false, length};
+ghost use Rattle.texting_robots.specs.Pattern.{dollar, star};
 ghost use Rattle.texting_robots.specs.Callers.{unplaced};
 ghost use Rattle.robots_rules.specs.Same.{IsComparison};
-ghost use Rattle.robots_rules.specs.Search.{IsOutcome, IsReducedTo, others};
+ghost use Rattle.robots_rules.specs.Search.{AreApart, Covers, IsNoRival, IsOutcome, IsReducedTo, Replaces, least_rival, others};
 
-use crate::witnesses::{Witnesses, is_needed_on_mixed, may_meet};
-use crate::compare::{Comparison, compare};
+use crate::compare::{Comparison, compare, is_below};
 use crate::rule::Rule;
+use crate::witnesses::{Witnesses, is_needed_on_mixed, may_meet};
 use std::alloc::{AllocError, Global};
 use std::collections::{BTreeMap, BTreeSet};
 
@@ -78,12 +79,9 @@ fn matches_nothing(alloc: Global, budget: &mut usize, rule: &Rule) -> Result<boo
 }
 
 /// The first rule matches every text that the other one matches.
-fn covers(
-    alloc: Global,
-    budget: &mut usize,
-    wide: &Rule,
-    narrow: &Rule,
-) -> Result<bool, AllocError> {
+fn covers(alloc: Global, budget: &mut usize, wide: &Rule, narrow: &Rule) -> Result<bool, AllocError>
+    ensures { IfOk result (λ is. IsTrue is → Covers wide.now.rule.0 narrow.now.rule.0) }
+{
     if wide.pattern.as_str() == narrow.pattern.as_str() {
         return Ok(true);
     }
@@ -92,83 +90,198 @@ fn covers(
     let mut both = Vec::new(alloc);
     both.push(copied(alloc, wide, false)?)?;
     both.push(copied(alloc, narrow, false)?)?;
-    let comparison = compare(alloc, b"", both.as_slice(), one.as_slice(), budget)?;
-    Ok(matches!(comparison, Comparison::Same))
+    let most = *budget / 8;
+    let mut left = most;
+    let comparison = compare(alloc, b"", both.as_slice(), one.as_slice(), &mut left)?;
+    *budget = budget.saturating_sub(most.saturating_sub(left));
+    match comparison {
+        Comparison::Same => Ok(true),
+        _ => Ok(false),
+    }
 }
 
-/// The line of the highest rule above the one at this place that matches every text that it matches.
-fn overruling_line(
+fn is_special(byte: u8) -> bool
+    ensures { result ≡ false → (byte ≢ star) × (byte ≢ dollar) }
+{
+    byte == b'*' || byte == b'$'
+}
+
+/// The patterns differ before their first star or dollar.
+fn are_apart(one: &[u8], other: &[u8]) -> bool
+    ensures { IsTrue result → AreApart one.now other.now }
+{
+    for k in 0..one.len().min(other.len()) {
+        if is_special(one[k]) {
+            return false;
+        }
+        if is_special(other[k]) {
+            return false;
+        }
+        if one[k] != other[k] {
+            return true;
+        }
+    }
+    false
+}
+
+/// How many bytes a rule of the other kind has to have at least, so that the rule doesn't decide in its place.
+fn least_rival(rule: &Rule) -> usize
+    ensures { result ≡ least_rival rule.now.rule }
+{
+    let len = rule.pattern.len();
+    if rule.is_allow { len + 1 } else { len }
+}
+
+/// It has at least so many bytes, and may decide where the rule would, were it deleted.
+fn is_rival(other: &Rule, rule: &Rule, least: usize) -> bool
+    ensures { result ≡ false → IsNoRival least rule.now other.now }
+{
+    if other.is_allow == rule.is_allow {
+        return false;
+    }
+    if other.pattern.len() < least {
+        return false;
+    }
+    if is_below(&rule.item(), &other.item()) {
+        return false;
+    }
+    !are_apart(other.pattern.as_bytes(), rule.pattern.as_bytes())
+}
+
+fn has_rival(rules: &[Rule], rule: &Rule, least: usize) -> bool
+    ensures { result ≡ false → All (IsNoRival least rule.now) rules.now }
+{
+    for other in rules {
+        if is_rival(other, rule, least) {
+            return true;
+        }
+    }
+    false
+}
+
+/// If the other one matches every text that the rule matches, the rule changes no verdict.
+fn replaces(other: &Rule, rule: &Rule, rules: &[Rule]) -> bool
+    ensures { IsTrue result → Replaces rules.now rule.now other.now }
+{
+    if is_below(&rule.item(), &other.item()) {
+        return true;
+    }
+    if other.is_allow != rule.is_allow {
+        return false;
+    }
+    !has_rival(rules, rule, least_rival(other))
+}
+
+/// Why a rule is needless, and whether that is sure.
+#[derive(Clone, Copy)]
+struct Cause {
+    reason: Option<Reason>,
+    is_sure: bool,
+}
+
+/// The highest of these rules above another one that matches every text that the other one matches.
+fn overruled(
     alloc: Global,
     budget: &mut usize,
     rules: &[Rule],
     at: usize,
     shown: &Witnesses,
-) -> Result<Option<usize>, AllocError> {
-    let Some(rule) = rules.get(at) else {
-        return Ok(None);
-    };
-    for k in (0..rules.len()).rev() {
-        let other = &rules[k];
-        if k > at && shown.are_matched(other, budget) && covers(alloc, budget, other, rule)? {
-            return Ok(Some(other.line));
+) -> Result<Cause, AllocError>
+    requires { at < length rules.now }
+    ensures { IfOk result (λ cause. IsTrue cause.is_sure → IsReducedTo rules.now (others at rules.now)) }
+{
+    let rule = &rules[at];
+    let above = &rules[at + 1..];
+    for k in (0..above.len()).rev() {
+        let other = &above[k];
+        if shown.are_matched(other, budget) && covers(alloc, budget, other, rule)? {
+            let is_sure = replaces(other, rule, rules);
+            return Ok(Cause {
+                reason: Some(Reason::NeverDecides(other.line)),
+                is_sure,
+            });
         }
     }
-    Ok(None)
+    Ok(Cause {
+        reason: None,
+        is_sure: false,
+    })
 }
 
-/// The line of the first rule of its kind that matches every text that the rule matches.
-fn covering_line(
+/// The lowest rule of its kind below it that matches every text that the rule at this place matches.
+fn covered(
     alloc: Global,
     budget: &mut usize,
-    others: &[Rule],
-    rule: &Rule,
+    rules: &[Rule],
+    at: usize,
     shown: &Witnesses,
-) -> Result<Option<usize>, AllocError> {
-    for other in others {
+) -> Result<Cause, AllocError>
+    requires { at < length rules.now }
+    ensures { IfOk result (λ cause. IsTrue cause.is_sure → IsReducedTo rules.now (others at rules.now)) }
+{
+    let rule = &rules[at];
+    let below = &rules[..at];
+    let mut reason = None;
+    for k in 0..below.len() {
+        let other = &below[k];
         if other.is_allow == rule.is_allow
             && shown.are_matched(other, budget)
             && covers(alloc, budget, other, rule)?
         {
-            return Ok(Some(other.line));
+            if reason.is_none() {
+                reason = Some(Reason::NotNeeded(other.line));
+            }
+            *budget = budget.saturating_sub(rules.len() / 8);
+            if replaces(other, rule, rules) {
+                return Ok(Cause {
+                    reason,
+                    is_sure: true,
+                });
+            }
         }
     }
-    Ok(None)
+    Ok(Cause {
+        reason,
+        is_sure: false,
+    })
 }
 
-/// One of these is a Disallow that may match a text that the rule matches.
-fn has_lower_disallow(below: &[Rule], rule: &Rule) -> bool {
-    below
-        .iter()
-        .any(|other| !other.is_allow && may_meet(other, rule))
-}
-
-/// Why the rule at this place is needless, if it is. None if no reason is found.
-fn reason_for(
+/// Why the rule at this place is needless, if it is. No reason if none is found.
+fn cause_of(
     alloc: Global,
     budget: &mut usize,
     rules: &[Rule],
     at: usize,
     shown: &Witnesses,
-) -> Result<Option<Reason>, AllocError> {
-    let Some(rule) = rules.get(at) else {
-        return Ok(None);
-    };
+) -> Result<Cause, AllocError>
+    requires { at < length rules.now }
+    ensures { IfOk result (λ cause. IsTrue cause.is_sure → IsReducedTo rules.now (others at rules.now)) }
+{
+    let rule = &rules[at];
     if !shown.are_proper(rule, budget) && matches_nothing(alloc, budget, rule)? {
-        return Ok(Some(Reason::MatchesNothing));
+        return Ok(Cause {
+            reason: Some(Reason::MatchesNothing),
+            is_sure: false,
+        });
     }
-    if let Some(line) = overruling_line(alloc, budget, rules, at, shown)? {
-        return Ok(Some(Reason::NeverDecides(line)));
+    let above = overruled(alloc, budget, rules, at, shown)?;
+    if above.reason.is_some() {
+        return Ok(above);
     }
-    if rule.is_allow && !has_lower_disallow(&rules[..at], rule) {
-        return Ok(Some(Reason::AllowedAnyway));
+    if rule.is_allow && !has_rival(rules, rule, 0) {
+        return Ok(Cause {
+            reason: Some(Reason::AllowedAnyway),
+            is_sure: true,
+        });
     }
-    if let Some(line) = covering_line(alloc, budget, &rules[..at], rule, shown)? {
-        return Ok(Some(Reason::NotNeeded(line)));
+    let below = covered(alloc, budget, rules, at, shown)?;
+    if below.reason.is_none() && rule.is_allow {
+        return Ok(Cause {
+            reason: Some(Reason::AllowedAnyway),
+            is_sure: false,
+        });
     }
-    if rule.is_allow {
-        return Ok(Some(Reason::AllowedAnyway));
-    }
-    Ok(None)
+    Ok(below)
 }
 
 fn add_copies(alloc: Global, to: &mut Vec<Rule>, rules: &[Rule]) -> Result<(), AllocError>
@@ -235,15 +348,14 @@ fn outcome_of(
     if shown.show(rules, at, budget) {
         return Ok(Outcome::Stays);
     }
-    let reason = reason_for(alloc, budget, rules, at, &shown)?;
-    let is_sure = matches!(
-        reason,
-        Some(Reason::MatchesNothing | Reason::NeverDecides(_))
-    );
-    if !is_sure && is_needed_on_mixed(alloc, rules, at, budget)? {
+    let cause = cause_of(alloc, budget, rules, at, &shown)?;
+    if let (Some(reason), true) = (cause.reason, cause.is_sure) {
+        return Ok(Outcome::Goes(reason));
+    }
+    if is_needed_on_mixed(alloc, rules, at, budget)? {
         return Ok(Outcome::Stays);
     }
-    match (comparison_without(alloc, budget, rules, at)?, reason) {
+    match (comparison_without(alloc, budget, rules, at)?, cause.reason) {
         (Comparison::Same, Some(reason)) => Ok(Outcome::Goes(reason)),
         (Comparison::Differ(_), _) => Ok(Outcome::Stays),
         _ => Ok(Outcome::Undecided),

@@ -64,6 +64,15 @@ pub fn filled(
     Ok(text)
 }
 
+/// The pattern without its stars, and this text at its end or before its last dollar, if a star is there.
+pub fn ended(alloc: Global, pattern: &[u8], end: &[u8]) -> Result<Vec<u8>, AllocError> {
+    let mut text = filled(alloc, pattern, b"", false)?;
+    if !pattern.contains(&b'$') || pattern.ends_with(b"*$") {
+        text.extend_from_slice(end)?;
+    }
+    Ok(text)
+}
+
 /// Texts that a pattern matches, unless it has a dollar inside.
 #[derive(Drop)]
 pub struct Texts {

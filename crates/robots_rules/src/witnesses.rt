@@ -2,7 +2,7 @@
 //! stays.
 
 use crate::rule::Rule;
-use crate::texts::{Texts, filled, is_match_within};
+use crate::texts::{Texts, ended, filled, is_match_within};
 use std::alloc::{AllocError, Global};
 
 /// At most so many texts are tried that have a part of another rule's.
@@ -130,6 +130,10 @@ pub(crate) fn is_needed_on_mixed(
             let part = part.strip_prefix(b"/").unwrap_or(&part);
             let text = filled(alloc, rule.pattern.as_bytes(), part, true)?;
             is_shown = is_needed_on(rules, at, &text, &mut steps);
+            if !is_shown {
+                let text = ended(alloc, rule.pattern.as_bytes(), part)?;
+                is_shown = is_needed_on(rules, at, &text, &mut steps);
+            }
         }
     }
     take(budget, steps);

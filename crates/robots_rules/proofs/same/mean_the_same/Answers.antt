@@ -1,7 +1,7 @@
 use Rattle.std.proofs.Common.{◌≡◌, ◌∙◌, ◌+◌, ◌++◌, ◌∷◌, [], All, ap, rules, subst, sym, take, take_all}
 use Rattle.std.proofs.lemmas.List.{Elements.All-push, take_more}
 use Rattle.texting_robots.specs.Callers.{file_lines}
-use Rattle.robots_rules.specs.{Internal.IsSettled, Search.SettledValue, Needless.MeanTheSame}
+use Rattle.robots_rules.specs.{Search.IsSettled, Search.SettledValue, Needless.MeanTheSame}
 use Rattle.robots_rules.proofs.same.mean_the_same.Goals as goal
 
 pub means_the_same-requires : goal.means_the_same-requires
