@@ -12,3 +12,5 @@ pub mod SettledLemmas
 pub mod CrawlerLemmas
 pub mod DeletedLemmas
 pub mod LeftLemmas
+-- A rule that another one replaces changes no verdict.
+pub mod ReplacedLemmas
