@@ -15,7 +15,7 @@ use Rattle.texting_robots.proofs.Shared.{matches, matches_decides, placed_of}
 use Rattle.robots_rules.specs.Internal.{rank_of}
 use Rattle.robots_rules.specs.Same.{HaveSameVerdicts}
 use Rattle.robots_rules.specs.Search.{AreApart, Covers, IsNoRival, IsReducedTo, Replaces, least_rival, others}
-use Rattle.robots_rules.proofs.TogetherLemmas.{cons_cases, in_cons, unplaced_of, verdicts}
+use Rattle.robots_rules.proofs.TogetherLemmas.{in_cons, unplaced_of, verdicts}
 
 -- ---- Patterns that differ before their first star or dollar.
 
@@ -42,6 +42,9 @@ differ_at (suc k) (a ∷ p) (b ∷ q) t in_p in_q same plain other differ m n =
     first (subst (Matches q) tails second)
 
 -- ---- What Disallows alone say of their patterns.
+
+cons_cases : {A : Type 0} (x : A) (xs : List A) (y : A) → Contains (x ∷ xs) y → (x ≡ y) ⊎ Contains xs y
+cons_cases x xs y has = grind arith
 
 kinds_differ : (p q : List ℕ) → ◌≢◌ {A = Rule} (p, false) (q, true)
 kinds_differ p q same = grind arith
@@ -122,39 +125,53 @@ module _ (some rest : List Rule) (text : List ℕ) (differs : text ≢ robots_fi
   disallow_with d p is has covers less (_, n, listed, fits, longest) = elim (is.either (n, false) listed) [
     | inl other ↦ (differs, n, other, fits, λ q in_rest. longest q (is.among _ in_rest))
     | inr same ↦
-        let here : Matches d text = grind arith in
-        (differs, p, has, covers here, λ q in_rest fits_q.
-            less q in_rest fits_q here (grind arith))
+        let here : Matches d text = grind arith in (
+          differs,
+          p,
+          has,
+          covers here,
+          λ q in_rest fits_q.
+              less q in_rest fits_q here (grind arith),
+        )
   ]
 
   -- the other one ranks no lower
   overruled : (rule other : Rule) → IsRest some rule rest → Contains rest other
       → (Matches rule.0 text → Matches other.0 text) → rank_of rule ≤ rank_of other
       → IsDenied some text ↔ IsDenied rest text
-  overruled (a, true) (b, true) is has covers above = (allow_stays a is, λ (_, p, listed, fits, longest).
-      allow_with a p is listed fits longest
-      (λ here. let less = longest b has (covers here) in omega arith))
-  overruled (a, true) (b, false) is has covers above = (allow_stays a is, λ (_, p, listed, fits, longest).
-      elim (cases_lt (length a) (length p)) [
-        | inl less ↦ allow_with a p is listed fits longest (λ _. less)
-        | inr most ↦ elim (cases_Bool (matches true a text)) [
-          | inl here ↦
-              let here = (matches_decides true a text).0 here in
-              allow_with a b is has (covers here)
-              (λ q in_rest fits_q. let less = longest q in_rest fits_q in omega arith) (λ _. omega arith)
-          | inr none ↦
-              let none = not_from_Decides _ (matches_decides true a text) none in
-              allow_with a p is listed fits longest (λ here. absurd (none here))
-        ]
-      ])
-  overruled (d, false) (b, true) is has covers above = (λ (_, n, listed, fits, longest).
-      elim (is.either (n, false) listed) [
-        | inl other ↦ (differs, n, other, fits, λ q in_rest. longest q (is.among _ in_rest))
-        | inr same ↦
-            let here : Matches d text = grind arith in
-            let less : length b < length d = grind arith in
-            absurd (omega arith)
-      ], disallow_stays d is)
+  overruled (a, true) (b, true) is has covers above = (
+    allow_stays a is,
+    λ (_, p, listed, fits, longest).
+        allow_with a p is listed fits longest
+        (λ here. let less = longest b has (covers here) in omega arith),
+  )
+  overruled (a, true) (b, false) is has covers above = (
+    allow_stays a is,
+    λ (_, p, listed, fits, longest).
+        elim (cases_lt (length a) (length p)) [
+          | inl less ↦ allow_with a p is listed fits longest (λ _. less)
+          | inr most ↦ elim (cases_Bool (matches true a text)) [
+            | inl here ↦
+                let here = (matches_decides true a text).0 here in
+                allow_with a b is has (covers here)
+                (λ q in_rest fits_q. let less = longest q in_rest fits_q in omega arith) (λ _. omega arith)
+            | inr none ↦
+                let none = not_from_Decides _ (matches_decides true a text) none in
+                allow_with a p is listed fits longest (λ here. absurd (none here))
+          ]
+        ],
+  )
+  overruled (d, false) (b, true) is has covers above = (
+    λ (_, n, listed, fits, longest).
+        elim (is.either (n, false) listed) [
+          | inl other ↦ (differs, n, other, fits, λ q in_rest. longest q (is.among _ in_rest))
+          | inr same ↦
+              let here : Matches d text = grind arith in
+              let less : length b < length d = grind arith in
+              absurd (omega arith)
+        ],
+    disallow_stays d is,
+  )
   overruled (d, false) (b, false) is has covers above = (
     disallow_with d b is has covers (λ q in_rest fits here less. omega arith),
     disallow_stays d is,
@@ -165,13 +182,16 @@ module _ (some rest : List Rule) (text : List ℕ) (differs : text ≢ robots_fi
       → (Matches rule.0 text → Matches other.0 text) → other.1 ≡ rule.1
       → ((x : Rule) → Contains rest x → IsOutside (least_rival other) rule x text)
       → IsDenied some text ↔ IsDenied rest text
-  covered (a, true) (b, true) is has covers kind none = (allow_stays a is, λ (_, p, listed, fits, longest).
-      allow_with a p is listed fits longest (λ here. elim (cases_lt (length a) (length p)) [
-        | inl less ↦ less
-        | inr most ↦
-            let less = longest b has (covers here) in
-            absurd (none (p, false) listed (λ same. false≢true same) (omega arith) (omega arith) fits here)
-      ]))
+  covered (a, true) (b, true) is has covers kind none = (
+    allow_stays a is,
+    λ (_, p, listed, fits, longest).
+        allow_with a p is listed fits longest (λ here. elim (cases_lt (length a) (length p)) [
+          | inl less ↦ less
+          | inr most ↦
+              let less = longest b has (covers here) in
+              absurd (none (p, false) listed (λ same. false≢true same) (omega arith) (omega arith) fits here)
+        ]),
+  )
   covered (d, false) (b, false) is has covers kind none = (
     disallow_with d b is has covers (λ q in_rest fits here less. elim (cases_lt (length q) (length b)) [
       | inl few ↦ few
@@ -186,12 +206,15 @@ module _ (some rest : List Rule) (text : List ℕ) (differs : text ≢ robots_fi
   -- the Allow matches what is allowed anyway
   allowed : (rule : Rule) → rule.1 ≡ true → IsRest some rule rest
       → ((x : Rule) → Contains rest x → IsOutside 0 rule x text) → IsDenied some text ↔ IsDenied rest text
-  allowed (a, true) kind is none = (allow_stays a is, λ (_, p, listed, fits, longest).
-      allow_with a p is listed fits longest (λ here. elim (cases_lt (length a) (length p)) [
-        | inl less ↦ less
-        | inr most ↦
-            absurd (none (p, false) listed (λ same. false≢true same) (omega arith) (omega arith) fits here)
-      ]))
+  allowed (a, true) kind is none = (
+    allow_stays a is,
+    λ (_, p, listed, fits, longest).
+        allow_with a p is listed fits longest (λ here. elim (cases_lt (length a) (length p)) [
+          | inl less ↦ less
+          | inr most ↦
+              absurd (none (p, false) listed (λ same. false≢true same) (omega arith) (omega arith) fits here)
+        ]),
+  )
   allowed (d, false) kind is none = absurd (false≢true kind)
 
 -- ---- The rule at a place.

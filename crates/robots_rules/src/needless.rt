@@ -71,10 +71,26 @@ fn copied(alloc: Global, rule: &Rule, is_allow: bool) -> Result<Rule, AllocError
     })
 }
 
+/// With an eighth of the budget at most.
+fn compared(
+    alloc: Global,
+    budget: &mut usize,
+    rules: &[Rule],
+    rest: &[Rule],
+) -> Result<Comparison, AllocError>
+    ensures { IfOk result (IsComparison [] (unplaced rules.now) (unplaced rest.now)) }
+{
+    let most = *budget / 8;
+    let mut left = most;
+    let comparison = compare(alloc, b"", rules, rest, &mut left)?;
+    *budget = budget.saturating_sub(most.saturating_sub(left));
+    Ok(comparison)
+}
+
 fn matches_nothing(alloc: Global, budget: &mut usize, rule: &Rule) -> Result<bool, AllocError> {
     let mut denials = Vec::new(alloc);
     denials.push(copied(alloc, rule, false)?)?;
-    let comparison = compare(alloc, b"", denials.as_slice(), &[], budget)?;
+    let comparison = compared(alloc, budget, denials.as_slice(), &[])?;
     Ok(matches!(comparison, Comparison::Same))
 }
 
@@ -90,14 +106,26 @@ fn covers(alloc: Global, budget: &mut usize, wide: &Rule, narrow: &Rule) -> Resu
     let mut both = Vec::new(alloc);
     both.push(copied(alloc, wide, false)?)?;
     both.push(copied(alloc, narrow, false)?)?;
-    let most = *budget / 8;
-    let mut left = most;
-    let comparison = compare(alloc, b"", both.as_slice(), one.as_slice(), &mut left)?;
-    *budget = budget.saturating_sub(most.saturating_sub(left));
-    match comparison {
+    match compared(alloc, budget, both.as_slice(), one.as_slice())? {
         Comparison::Same => Ok(true),
         _ => Ok(false),
     }
+}
+
+/// The same, if it matches the texts of the other one, without which it isn't looked at for long.
+fn is_wider(
+    alloc: Global,
+    budget: &mut usize,
+    wide: &Rule,
+    narrow: &Rule,
+    shown: &Witnesses,
+) -> Result<bool, AllocError>
+    ensures { IfOk result (λ is. IsTrue is → Covers wide.now.rule.0 narrow.now.rule.0) }
+{
+    if shown.are_matched(wide, budget) {
+        return covers(alloc, budget, wide, narrow);
+    }
+    Ok(false)
 }
 
 fn is_special(byte: u8) -> bool
@@ -194,7 +222,7 @@ fn overruled(
     let above = &rules[at + 1..];
     for k in (0..above.len()).rev() {
         let other = &above[k];
-        if shown.are_matched(other, budget) && covers(alloc, budget, other, rule)? {
+        if is_wider(alloc, budget, other, rule, shown)? {
             let is_sure = replaces(other, rule, rules);
             return Ok(Cause {
                 reason: Some(Reason::NeverDecides(other.line)),
@@ -224,20 +252,18 @@ fn covered(
     let mut reason = None;
     for k in 0..below.len() {
         let other = &below[k];
-        if other.is_allow == rule.is_allow
-            && shown.are_matched(other, budget)
-            && covers(alloc, budget, other, rule)?
-        {
-            if reason.is_none() {
-                reason = Some(Reason::NotNeeded(other.line));
-            }
-            *budget = budget.saturating_sub(rules.len() / 8);
-            if replaces(other, rule, rules) {
-                return Ok(Cause {
-                    reason,
-                    is_sure: true,
-                });
-            }
+        if other.is_allow != rule.is_allow || !is_wider(alloc, budget, other, rule, shown)? {
+            continue;
+        }
+        if reason.is_none() {
+            reason = Some(Reason::NotNeeded(other.line));
+        }
+        *budget = budget.saturating_sub(rules.len() / 8);
+        if replaces(other, rule, rules) {
+            return Ok(Cause {
+                reason,
+                is_sure: true,
+            });
         }
     }
     Ok(Cause {
@@ -318,10 +344,7 @@ fn comparison_without(
     add_copies(alloc, &mut rest, &rules[..at])?;
     add_copies(alloc, &mut rest, &rules[at + 1..])?;
     *budget = budget.saturating_sub(cost_of(&rest));
-    let most = *budget / 8;
-    let mut left = most;
-    let comparison = compare(alloc, b"", rules, &rest, &mut left)?;
-    *budget = budget.saturating_sub(most.saturating_sub(left));
+    let comparison = compared(alloc, budget, rules, &rest)?;
     Ok(comparison)
 }
 

@@ -15,4 +15,4 @@ returns-in-Same c = λ _.
       c.in_ok-copied.ensures,
       c.in_ok-copied-2.ensures,
       c.in_ok-copied-3.ensures,
-    ) at c.in_ok-compare.ensures)
+    ) at c.in_ok-compared.ensures)
