@@ -6,7 +6,7 @@ use crate::compare::Comparison;
 use crate::pool::Entry;
 use crate::refine::{compare_pool, differ_on, refined};
 use crate::search::spend;
-use crate::texts::{Texts, filled};
+use crate::texts::filled;
 use std::alloc::{AllocError, Global};
 
 /// At most so many rounds of steps are tried.
@@ -14,9 +14,6 @@ const ROUNDS: usize = 64;
 
 /// If no more rules are in one list alone, all are changed in the first step.
 const FEW: usize = 5;
-
-/// At most so many rules are tracked in turn.
-const TURNS: usize = 4;
 
 /// A list between both: two pools, of the old list and this one, and of this and the new one. The rules from
 /// one position to another are those of the new list, and the others those of the old one, or contrariwise.
@@ -236,64 +233,7 @@ fn compare_in_order(
     compare_all(alloc, pool.as_slice(), front, budget)
 }
 
-/// The first rule matches all that the other one matches.
-fn covers(
-    alloc: Global,
-    wide: &Entry<'_>,
-    narrow: &Entry<'_>,
-    front: &[u8],
-    budget: &mut usize,
-) -> Result<bool, AllocError> {
-    if wide.item.rest() == narrow.item.rest() {
-        return Ok(true);
-    }
-    let mut pool = Vec::new(alloc);
-    pool.push(wide.denial(true))?;
-    pool.push(narrow.denial(false))?;
-    let answer = compare_pool(alloc, pool, front, budget)?;
-    Ok(matches!(answer, Comparison::Same))
-}
-
-/// The only rule that one list alone has, at this place, may change nothing since another rule matches all that
-/// it matches: each of these in turn is tracked from the beginning.
-fn compare_tracking(
-    alloc: Global,
-    pool: &[Entry<'_>],
-    at: usize,
-    front: &[u8],
-    budget: &mut usize,
-) -> Result<Comparison, AllocError>
-    ensures { IfOk result (IsAnswer front.now pool.now) }
-{
-    let Some(entry) = pool.get(at) else {
-        return Ok(Comparison::Undecided);
-    };
-    let texts = Texts::new(alloc, entry.item.rest())?;
-    let mut count = 0;
-    for by in (0..pool.len()).rev() {
-        let other = &pool[by].item;
-        let is_rival = by > at || by < at && other.is_allow() == entry.item.is_allow();
-        if is_rival
-            && count < TURNS
-            && texts.are_matched(other.rest(), budget)
-            && covers(alloc, &pool[by], entry, front, budget)?
-        {
-            let share = *budget / 16;
-            let mut left = share;
-            let copy = refined(alloc, pool, by, b"", 1)?;
-            let answer = compare_pool(alloc, copy, front, &mut left)?;
-            *budget = budget.saturating_sub(share.saturating_sub(left));
-            if matches!(answer, Comparison::Same) {
-                return Ok(answer);
-            }
-            count += 1;
-        }
-    }
-    Ok(Comparison::Undecided)
-}
-
-/// If one list alone has one rule, by what may decide in its place. Else half of the budget is for steps that
-/// begin with the old list.
+/// Half of the budget is for steps that begin with the old list.
 pub(crate) fn compare_by_steps(
     alloc: Global,
     pool: &[Entry<'_>],
@@ -302,16 +242,6 @@ pub(crate) fn compare_by_steps(
 ) -> Result<Comparison, AllocError>
     ensures { IfOk result (IsAnswer front.now pool.now) }
 {
-    if differences(pool) == 1 {
-        let at = pool
-            .iter()
-            .take_while(|entry| entry.old == entry.new)
-            .count();
-        let answer = compare_tracking(alloc, pool, at, front, budget)?;
-        if matches!(answer, Comparison::Same) {
-            return Ok(answer);
-        }
-    }
     let kept = *budget / 2;
     *budget = budget.saturating_sub(kept);
     let answer = compare_in_order(alloc, pool, front, false, budget)?;

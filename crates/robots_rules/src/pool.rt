@@ -32,16 +32,6 @@ impl<'a> Entry<'a> {
         if new { self.new } else { self.old }
     }
 
-    /// A Disallow with its pattern, in the old list.
-    pub(crate) fn denial(&self, new: bool) -> Entry<'a> {
-        Entry {
-            item: Item::new(self.item.rest(), false, self.item.number()),
-            old: true,
-            new,
-            tracked: true,
-        }
-    }
-
     pub(crate) fn copy(&self, old: bool, new: bool, tracked: bool) -> Entry<'a>
         ensures item { result.item ≡ self.now.item }
         ensures old { result.old ≡ old }

@@ -87,7 +87,7 @@ impl<'a> Found<'a> {
         budget: &mut usize,
     ) -> Result<bool, AllocError> {
         let rules = &pool[below.min(pool.len())..];
-        if !spend(budget, rules.len() / 8 + 1) {
+        if !spend(budget, rules.len()) {
             return Ok(false);
         }
         let state = along(alloc, state_of(alloc, rules, start, false)?, front)?;
