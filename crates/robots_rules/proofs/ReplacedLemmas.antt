@@ -219,25 +219,34 @@ module _ (some rest : List Rule) (text : List ℕ) (differs : text ≢ robots_fi
 
 -- ---- The rule at a place.
 
-in_others : {A : Type 0} (xs : List A) (at : ℕ) (x : A) → Contains xs x
-    → Contains (take at xs ++ drop (at + 1) xs) x ⊎ (get_or xs at x ≡ x)
-in_others [] at x (k, below, is) = absurd (omega arith)
-in_others (y ∷ xs) zero x (zero, below, is) = inr is
-in_others (y ∷ xs) zero x (suc k, below, is) = inl (k, omega arith, is)
-in_others (y ∷ xs) (suc at) x (zero, below, is) = inl (zero, omega arith, is)
-in_others (y ∷ xs) (suc at) x (suc k, below, is) = elim (in_others xs at x (k, omega arith, is)) [
-  | inl has ↦ inl (rw add-one (in_cons y _ x has))
+in_cut : {A : Type 0} (xs : List A) (at : ℕ) (x : A) → Contains xs x
+    → Contains (take at xs ++ drop (suc at) xs) x ⊎ (get_or xs at x ≡ x)
+in_cut [] at x (k, below, is) = absurd (omega arith)
+in_cut (y ∷ xs) zero x (zero, below, is) = inr is
+in_cut (y ∷ xs) zero x (suc k, below, is) = inl (k, omega arith, is)
+in_cut (y ∷ xs) (suc at) x (zero, below, is) = inl (zero, omega arith, is)
+in_cut (y ∷ xs) (suc at) x (suc k, below, is) = elim (in_cut xs at x (k, omega arith, is)) [
+  | inl has ↦ inl (in_cons y (take at xs ++ drop (suc at) xs) x has)
   | inr same ↦ inr same
 ]
 
-of_others : {A : Type 0} (xs : List A) (at : ℕ) (x : A) → Contains (take at xs ++ drop (at + 1) xs) x
+of_cut : {A : Type 0} (xs : List A) (at : ℕ) (x : A) → Contains (take at xs ++ drop (suc at) xs) x
     → Contains xs x
-of_others [] at x has = grind arith
-of_others (y ∷ xs) zero x has = in_cons y xs x has
-of_others (y ∷ xs) (suc at) x has = elim (cons_cases y _ x (rw add-one at has)) [
+of_cut [] zero x (k, below, is) = absurd (omega arith)
+of_cut [] (suc at) x (k, below, is) = absurd (omega arith)
+of_cut (y ∷ xs) zero x has = in_cons y xs x has
+of_cut (y ∷ xs) (suc at) x has = elim (cons_cases y (take at xs ++ drop (suc at) xs) x has) [
   | inl same ↦ (zero, omega arith, same)
-  | inr other ↦ in_cons y xs x (of_others xs at x other)
+  | inr other ↦ in_cons y xs x (of_cut xs at x other)
 ]
+
+in_others : (rules : List PlacedRule) (at : ℕ) (x : PlacedRule) → Contains rules x
+    → Contains (take at rules ++ drop (at + 1) rules) x ⊎ (get_or rules at x ≡ x)
+in_others rules at x has = rw add-one (in_cut rules at x has)
+
+of_others : (rules : List PlacedRule) (at : ℕ) (x : PlacedRule)
+    → Contains (take at rules ++ drop (at + 1) rules) x → Contains rules x
+of_others rules at x has = of_cut rules at x (rw add-one at has)
 
 module _ (rules : List PlacedRule) (at : ℕ) (rule : PlacedRule) (below : at < length rules)
     (here : rule ≡ get_or rules at rule) where
