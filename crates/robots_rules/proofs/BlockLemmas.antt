@@ -1,5 +1,4 @@
--- Rules that can be removed from a file: each block that has rules keeps one, so the other lines apply to the
--- same crawlers.
+-- If each block that has rules keeps one, the lines that are left apply to the same crawlers.
 use Rattle.std.proofs.Common.{◌≡◌, ◌<◌, ◌≤◌, inl, inr, ℕ, ◌+◌, ◌==◌, Bool, true, false, not, ◌&&◌, ◌||◌, []}
 use Rattle.std.proofs.Common.{IsTrue}
 use Rattle.std.proofs.Common.{List, ◌∷◌, Option, Some, None, ap, ap₂, sym, refl, ◌∙◌, arith, drop}
@@ -18,8 +17,7 @@ use Rattle.texting_robots.proofs.Shared.{before_agent, before_agents}
 use Rattle.robots_rules.specs.{declared.blocks.Block.Block}
 use Rattle.robots_rules.specs.Blocks.{block_after, is_rule, keep_blocks_from, left_from, no_rule}
 use Rattle.robots_rules.specs.Blocks.{with_rule}
-use Rattle.robots_rules.specs.Needless.{KeepsRule, lines_without, without}
-use Rattle.robots_rules.proofs.{TogetherLemmas.named_in}
+use Rattle.robots_rules.specs.Needless.{lines_without, without}
 
 abbrev pub among : List ℕ → ℕ → Bool
 among numbers n = list_any (λ number. number == n) numbers
@@ -39,92 +37,6 @@ next_block : (gone : ℕ → Bool) (block : Block) (position : ℕ) (line : Line
     → (next : Block) × (block_after block (gone (position + 1)) line ≡ Some next)
     × (keep_blocks_from gone next (position + 1) lines ≡ true)
 next_block gone block position line lines keeps = grind arith
-
--- ---- each rule that goes has another one in its block, which stays
-
--- no rule of a block stays so far
-abbrev lost : Block
-lost = with_rule no_rule true
-
-lost_next : (gone : ℕ → Bool) (position : ℕ) (line : LineValue) (lines : List LineValue)
-    → (is_rule line && not (gone (position + 1))) ≡ false
-    → keep_blocks_from gone lost position (line ∷ lines) ≡ true
-    → (is_agent line ≡ false) × (keep_blocks_from gone lost (position + 1) lines ≡ true)
-lost_next gone position line lines goes keeps = grind arith
-
-had_rule : (block next : Block) (goes : Bool) (line : LineValue) → block_after block goes line ≡ Some next
-    → next.has_rule ≡ true → (is_rule line && not goes) ≡ false
-    → (is_agent line ≡ false) × (block.has_rule ≡ true)
-had_rule block next goes line is has gone = grind arith
-
-lost_here : (block next : Block) (goes : Bool) (line : LineValue) → block_after block goes line ≡ Some next
-    → goes ≡ true → (is_rule line ≡ true) × (block.has_rule ≡ false → ◌≡◌ {A = Block} next lost)
-lost_here block next goes line is gone = grind arith
-
-module _ (numbers : List ℕ) (lines : List LineValue) where
-  abbrev gone : ℕ → Bool
-  gone = among numbers
-
-  -- no user-agent line is between these positions
-  abbrev IsClear : ℕ → ℕ → Type 0
-  IsClear m n = (k : ℕ) → m < k → k < n → ¬ IsTrue (passes_at is_agent lines k)
-
-  abbrev IsKept : ℕ → Type 0
-  IsKept other = (gone (other + 1) ≡ false) × (passes_at is_rule lines other ≡ true)
-
-  kept_here : (position : ℕ) (line : LineValue) → slice_get lines position ≡ Some line
-      → (is_rule line && not (gone (position + 1))) ≡ true → IsKept position
-  kept_here position line at stays = grind arith
-
-  further : (m position : ℕ) (line : LineValue) → slice_get lines position ≡ Some line
-      → is_agent line ≡ false → IsClear m position → IsClear m (position + 1)
-  further m position line at isnt clear k over less = grind arith
-
-  kept_below : (place position : ℕ) (rest : List LineValue) → drop position lines ≡ rest
-      → keep_blocks_from gone lost position rest ≡ true → place < position → IsClear place position
-      → (other : ℕ) × IsKept other × (place < other) × IsClear place other
-  kept_below place position [] left keeps under clear = absurd (false≢true keeps)
-  kept_below place position (line ∷ rest) left keeps under clear =
-      let (at, later) = at_front lines position line rest left in
-      grind (arith, kept_here, lost_next, further, kept_below place (position + 1) rest later)
-
-  safe : (place other : ℕ) → passes_at is_rule lines place ≡ true → IsKept other → IsClear place other
-      → IsClear other place → KeepsRule numbers lines (place + 1)
-  safe place other rule (stays, other_rule) below above = grind (arith, named_in)
-
-  all_safe : (block : Block) (position : ℕ) (rest : List LineValue) → drop position lines ≡ rest
-      → keep_blocks_from gone block position rest ≡ true
-      → (block.has_rule ≡ true → (other : ℕ) × IsKept other × (other < position) × IsClear other position)
-      → (place : ℕ) → position ≤ place → place < length lines → gone (place + 1) ≡ true
-      → KeepsRule numbers lines (place + 1)
-  all_safe block position [] left keeps above place from within goes =
-      absurd (omega (arith, ap length left, length-drop position lines))
-  all_safe block position (line ∷ rest) left keeps above place from within goes =
-      let (at, later) = at_front lines position line rest left in
-      let (next, is, more) = next_block gone block position line rest keeps in
-      elim (cases_eq position place) [
-        | inl here ↦
-            let (rule, none) = lost_here block next _ line is (ap (λ k. gone (k + 1)) here ∙ goes) in
-            let is_rule_here : passes_at is_rule lines place ≡ true = rw (← here, at) rule in
-            elim (cases_Bool block.has_rule) [
-              | inl has ↦
-                  let (other, kept, over, clear) = above has in
-                  safe place other is_rule_here kept (λ k more less. absurd (omega arith))
-                  (λ k more less. clear k more (omega arith))
-              | inr lacks ↦
-                  let (other, kept, under, clear) = kept_below place (position + 1) rest later
-                  (rw (none lacks) at more) (omega arith) (λ k over less. absurd (omega arith)) in
-                  safe place other is_rule_here kept clear (λ k more less. absurd (omega arith))
-            ]
-        | inr differs ↦
-            all_safe next (position + 1) rest later more
-            (grind (arith, kept_here, had_rule, further))
-            place (omega arith) within goes
-      ]
-
-  pub keeps_rule : keep_blocks_from gone no_rule 0 lines ≡ true → (place : ℕ) → place < length lines
-      → gone (place + 1) ≡ true → KeepsRule numbers lines (place + 1)
-  keeps_rule keeps place = grind (arith, all_safe)
 
 abbrev blank : (ℕ → Bool) → ℕ → List LineValue → List LineValue
 blank gone position [] = []
@@ -171,25 +83,6 @@ module _ (gone : ℕ → Bool) (name : List ℕ) where
 -- ---- what no rule gives
 
 module _ (gone : ℕ → Bool) where
-  -- a line that goes is a rule
-  rule_goes : {A : Type 0} (block next : Block) (number : ℕ) (line : LineValue) (x y : A)
-      → block_after block (gone number) line ≡ Some next → (is_rule line ≡ true → y ≡ x)
-      → (if gone number then x else y) ≡ y
-  rule_goes block next number line x y is same = grind arith
-
-  masked_nothing : {X : Type 0} (name : List ℕ) (given : LineValue → Option X)
-      → ((line : LineValue) → is_rule line ≡ true → given line ≡ None) → (tracker : GroupTracker)
-      (block : Block) (position : ℕ) (lines : List LineValue)
-      → keep_blocks_from gone block position lines ≡ true
-      → from_captured (masked gone name (λ p. given p.1)) name tracker position lines
-      ≡ from_captured (λ p. given p.1) name tracker position lines
-  masked_nothing name given none tracker block position [] keeps = refl
-  masked_nothing name given none tracker block position (line ∷ lines) keeps =
-      let (next, is, more) = next_block gone block position line lines keeps in
-      ap₂ (λ x rest. cons_option (if_captured tracker x) rest)
-      (rule_goes block next (position + 1) line None (given line) is (none line))
-      (masked_nothing name given none (step name tracker line) next (position + 1) lines more)
-
   -- so what reads line after line, and no rule, gives the same without them
   same_blank : {A : Type 0} (read : List LineValue → A) (step : LineValue → A → A)
       → ((line : LineValue) (lines : List LineValue) → read (line ∷ lines) ≡ step line (read lines))
@@ -241,29 +134,3 @@ module _ (numbers : List ℕ) (lines : List LineValue)
       ∙ captured placed_in (λ _. refl) name
       ∙ sym (captured_walked (masked goes name placed_in) name lines)
       ∙ masked_rules goes name (captured_lines name lines))
-
-  same_delays : (agent : List ℕ) → captured_delays agent rest ≡ captured_delays agent lines
-  same_delays agent =
-      let name = group_name agent lines in
-      let given = λ (p : ℕ × LineValue). delay_in p.1 in
-      ap (λ name. filter_map given (captured_lines name rest)) (same_name agent)
-      ∙ captured given (λ _. refl) name
-      ∙ masked_nothing goes name delay_in (λ line is. grind arith) (start_of lines) no_rule 0 lines keeps
-      ∙ sym (captured_walked given name lines)
-
-  early : filter_map delay_in (before_agent rest) ≡ filter_map delay_in (before_agent lines)
-  early = same_blank goes (λ ls. filter_map delay_in (before_agent ls))
-      (λ line later. if is_agent line then [] else cons_option (delay_in line) later)
-      (λ line ls. grind arith) (λ line later is. grind arith) no_rule 0 lines keeps
-
-  same_before : delay_before_agents rest ≡ delay_before_agents lines
-  same_before = grind (arith, same_agents, before_agents, early)
-
-  pub delays_stay : (agent : List ℕ) → delay_for agent (lines_without numbers lines) ≡ delay_for agent lines
-  delays_stay agent =
-      (same_lines agent).0.delay
-      ∙ ap₂ (λ delays early. option_or (slice_get delays 0) early) (same_delays agent) same_before
-
-  pub sitemaps_stay : sitemaps_in (lines_without numbers lines) ≡ sitemaps_in lines
-  sitemaps_stay = (same_lines []).1 ∙ same_blank goes sitemaps_in (λ line. cons_option (sitemap_in line))
-      (λ _ _. refl) (λ line later is. grind arith) no_rule 0 lines keeps

@@ -1,15 +1,19 @@
 -- Crawlers with the same rules.
 use Rattle.std.proofs.lemmas.Grind.{common_steps}
 use Rattle.std.proofs.Common.{◌≡◌, inl, inr, List, ℕ, ap, codes, false, refl, sym, ◌<◌, ◌≤◌}
-use Rattle.std.proofs.Common.{[]}
+use Rattle.std.proofs.Common.{[], Bool, ◌+◌, ◌∙◌}
 use Rattle.std.proofs.Common.{suc, true, ◌∷◌, ◌++◌, Contains, IsAscii, IsUtf8, ap₂, subst, arith, get_or}
 use Rattle.std.proofs.Common.{encode_utf8, encode_utf8_all, filter_map, length, map}
 use Rattle.std.proofs.Common.{append-nil}
-use Rattle.std.specs.List.{filter_map}
+use Rattle.std.specs.List.{filter_map, list_any}
 use Rattle.std.specs.Str.{str_to_ascii_lowercase}
 use Rattle.std.proofs.lemmas.Bool.{cases_Bool, and_parts, cases_lt}
 use Rattle.texting_robots.specs.{Group.group_name, Line.LineValue}
-use Rattle.texting_robots.specs.Callers.{is_named, placed_rules, LineValue}
+use Rattle.texting_robots.specs.Callers.{IsRejected, delay_for, is_named, placed_rules}
+use Rattle.texting_robots.proofs.Shared.{rejection_is_computed}
+use Rattle.robots_rules.specs.{Blocks.left_from}
+use Rattle.robots_rules.specs.Needless.{AreDeletable, MeanTheSame, lines_without}
+use Rattle.robots_rules.proofs.BlockLemmas.{among, left_are}
 use lib.Utf8.{scalar as is_scalar, scalars}
 use Rattle.std.specs.Char.{to_ascii_lowercase}
 use Rattle.std.proofs.lemmas.List.{map-append, Folds.Any-from_list_any, Folds.list_any-append}
@@ -24,14 +28,33 @@ rules_of_group : (agent other : List ℕ) (lines : List LineValue)
     → placed_rules agent lines ≡ placed_rules other lines
 rules_of_group agent other lines same = grind arith
 
+group_of_star : (agent : List ℕ) (lines : List LineValue) → is_named agent lines ≡ false
+    → group_name agent lines ≡ group_name (codes "*") lines
+group_of_star agent lines isnt = grind arith
+
+group_in_any_case : (agent other : List ℕ) (lines : List LineValue)
+    → str_to_ascii_lowercase agent ≡ str_to_ascii_lowercase other
+    → group_name agent lines ≡ group_name other lines
+group_in_any_case agent other lines same = grind arith
+
+delays_of_group : (agent other : List ℕ) (lines : List LineValue)
+    → group_name agent lines ≡ group_name other lines → delay_for agent lines ≡ delay_for other lines
+delays_of_group agent other lines same = grind arith
+
+rejected_alike : (agent other : List ℕ) (lines : List LineValue)
+    → placed_rules agent lines ≡ placed_rules other lines → IsRejected agent lines → IsRejected other lines
+rejected_alike agent other lines same rejected =
+    (rejection_is_computed other lines).1 (rw same at ((rejection_is_computed agent lines).0 rejected))
+
 pub rules_of_star : (agent : List ℕ) (lines : List LineValue) → is_named agent lines ≡ false
     → placed_rules agent lines ≡ placed_rules (codes "*") lines
-rules_of_star agent lines isnt = grind (arith, rules_of_group)
+rules_of_star agent lines isnt = rules_of_group agent (codes "*") lines (group_of_star agent lines isnt)
 
 pub rules_in_any_case : (agent other : List ℕ) (lines : List LineValue)
     → str_to_ascii_lowercase agent ≡ str_to_ascii_lowercase other
     → placed_rules agent lines ≡ placed_rules other lines
-rules_in_any_case agent other lines same = grind (arith, rules_of_group)
+rules_in_any_case agent other lines same =
+    rules_of_group agent other lines (group_in_any_case agent other lines same)
 
 high_byte : (a b : ℕ) → to_ascii_lowercase a ≡ to_ascii_lowercase b → 128 ≤ b → a ≡ b
 high_byte a b same high = grind (arith, lowercase_is, lowercase_ascii)
@@ -108,15 +131,66 @@ name_in : (agent : List ℕ) (lines : List LineValue) → is_named agent lines �
 name_in agent [] is = is
 name_in agent (line ∷ lines) is = grind (arith, name_in agent lines)
 
+name_of : (agent : List ℕ) (lines : List LineValue) → IsUtf8 agent → is_named agent lines ≡ true
+    → (name : List ℕ) × Contains (codes "*" ∷ agents_in lines) name
+    × (str_to_ascii_lowercase agent ≡ str_to_ascii_lowercase name)
+name_of agent lines utf8 is =
+    let once = listed_once agent [] (filter_map agent_in lines) refl (name_in agent lines is) in
+    let (k, one, below, at, passes) = Any-from_list_any _ (each_once [] (filter_map agent_in lines)) once in
+    let alike = (bytes_eq-Decides _ (str_to_ascii_lowercase agent)).0 passes in
+    let utf8 = is_utf8-from_IsUtf8 one (utf8_in_any_case one agent utf8 alike) in
+    grind (arith, in_cons, to_filter)
+
 pub star_or_named : (agent : List ℕ) (lines : List LineValue) → IsUtf8 agent
     → (name : List ℕ) × Contains (codes "*" ∷ agents_in lines) name
     × (placed_rules agent lines ≡ placed_rules name lines)
 star_or_named agent lines utf8 = elim (cases_Bool (is_named agent lines)) [
   | inr isnt ↦ (codes "*", (0, omega arith, refl), rules_of_star agent lines isnt)
   | inl is ↦
-      let once = listed_once agent [] (filter_map agent_in lines) refl (name_in agent lines is) in
-      let (k, one, below, at, passes) = Any-from_list_any _ (each_once [] (filter_map agent_in lines)) once in
-      let alike = (bytes_eq-Decides _ (str_to_ascii_lowercase agent)).0 passes in
-      let utf8 = is_utf8-from_IsUtf8 one (utf8_in_any_case one agent utf8 alike) in
-      grind (arith, in_cons, to_filter, rules_in_any_case)
+      let (name, has, same) = name_of agent lines utf8 is in
+      (name, has, rules_in_any_case agent name lines same)
 ]
+
+-- ---- Lines that mean the same for `*` and the crawlers that they name do so for each crawler.
+
+same_group : (agent name : List ℕ) (lines left : List LineValue)
+    → group_name agent lines ≡ group_name name lines → group_name agent left ≡ group_name name left
+    → MeanTheSame name lines left → MeanTheSame agent lines left
+same_group agent name lines left same others alike = record {
+  accepted = λ rejected.
+      alike.accepted (rejected_alike agent name lines (rules_of_group agent name lines same) rejected);
+  left_accepted = λ rejected.
+      alike.left_accepted (rejected_alike agent name left (rules_of_group agent name left others) rejected);
+  delay = delays_of_group agent name left others ∙ alike.delay ∙ sym (delays_of_group agent name lines same);
+  verdicts = λ text answer. rw (rules_of_group agent name lines same, rules_of_group agent name left others)
+      (alike.verdicts text answer);
+}
+
+any_left : (test : LineValue → Bool) (gone : ℕ → Bool) (position : ℕ) (lines : List LineValue)
+    → list_any test lines ≡ false → list_any test (left_from gone position lines) ≡ false
+any_left test gone position [] none = none
+any_left test gone position (line ∷ lines) none = grind (arith, any_left test gone (position + 1) lines)
+
+module _ (numbers : List ℕ) (lines : List LineValue) (are : AreDeletable numbers lines) (agent : List ℕ) where
+  abbrev left : List LineValue
+  left = lines_without numbers lines
+
+  unnamed_left : is_named agent lines ≡ false → is_named agent left ≡ false
+  unnamed_left isnt = rw (left_are numbers 0 lines) (any_left _ (among numbers) 0 lines isnt)
+
+  pub unnamed_alike : is_named agent lines ≡ false → MeanTheSame agent lines left
+  unnamed_alike isnt =
+      same_group agent (codes "*") lines left (group_of_star agent lines isnt)
+      (group_of_star agent left (unnamed_left isnt)) (are.alike (codes "*") (0, omega arith, refl))
+
+  pub named_alike : (name : List ℕ) → Contains (codes "*" ∷ agents_in lines) name
+      → str_to_ascii_lowercase agent ≡ str_to_ascii_lowercase name → MeanTheSame agent lines left
+  named_alike name has same =
+      same_group agent name lines left (group_in_any_case agent name lines same)
+      (group_in_any_case agent name left same) (are.alike name has)
+
+  pub each_alike : IsUtf8 agent → MeanTheSame agent lines left
+  each_alike utf8 = elim (cases_Bool (is_named agent lines)) [
+    | inr isnt ↦ unnamed_alike isnt
+    | inl is ↦ let (name, has, same) = name_of agent lines utf8 is in named_alike name has same
+  ]

@@ -1,28 +1,26 @@
 -- If the found lines are deleted from a file, each crawler's robot stays the same.
 use mathlib.Core.Logic.Iff
 use Rattle.std.proofs.Common.{◌≡◌, ◌≢◌, ◌≤◌, ◌↔◌, inl, inr, ℕ, zero, suc, ◌+◌, Bool, false, not}
-use Rattle.std.proofs.Common.{[]}
-use Rattle.std.proofs.Common.{List, ◌∷◌, ◌++◌, Any, IsUtf8, ap, ap₂, sym, refl, subst, ◌∙◌, arith, filter}
+use Rattle.std.proofs.Common.{[], Option}
+use Rattle.std.proofs.Common.{List, ◌∷◌, ◌++◌, IsUtf8, ap, ap₂, sym, refl, ◌∙◌, arith, filter}
 use Rattle.std.proofs.Common.{length, length-append, map}
 use Rattle.std.specs.{List.concat}
 use Rattle.std.proofs.lemmas.{Bool.or_parts, List.map-append}
-use Rattle.texting_robots.specs.Callers.{HasLines, IsOverlong, IsRejected, IsRobotOf, IsVerdict, LineValue}
-use Rattle.texting_robots.specs.Callers.{PlacedRule, RobotValue, Rule, file_bodies, file_lines, nul_as_lf}
-use Rattle.texting_robots.specs.Callers.{placed_rules, rules_for, unplaced}
+use Rattle.texting_robots.specs.Callers.{HasLines, IsRejected, IsRobotOf, IsVerdict, LineValue, RobotValue}
+use Rattle.texting_robots.specs.Callers.{AreSitemapsOf, sitemaps_in}
+use Rattle.texting_robots.specs.Callers.{IsDelayFor, delay_for, file_bodies, file_lines, nul_as_lf, rules_for}
 use Rattle.texting_robots.specs.Cut.{IsLineEnd, Pair, joined}
 use Rattle.texting_robots.specs.{Theorems.Same, Line.is_raw, Line.without_bom}
 use Rattle.texting_robots.specs.Internal.{Cut.bodies_of, Cut.cut, Line.line_of}
 use Rattle.texting_robots.proofs.Shared.{delay_is_computed, sitemaps_are_computed, answers_computed, of_lines}
-use Rattle.texting_robots.proofs.Shared.{rejection_is_computed, each_text_has_its_lines, front_is_end}
-use Rattle.texting_robots.proofs.Shared.{front_read, placed_of, raw_changes_nothing, is_cut, only_cut}
-use Rattle.robots_rules.specs.{declared.needless.NeedlessRule.NeedlessRule}
-use Rattle.robots_rules.specs.Blocks.{left_from, AreAlike, AreFoundIn, AreWholeLines, HaveSameRobot}
+use Rattle.texting_robots.proofs.Shared.{each_text_has_its_lines, front_is_end}
+use Rattle.texting_robots.proofs.Shared.{front_read, raw_changes_nothing, is_cut, only_cut}
+use Rattle.robots_rules.specs.Blocks.{left_from, AreAlike, AreWholeLines, CanBeDeleted, HaveSameRobot}
 use Rattle.robots_rules.specs.Blocks.{IsLeftOf, begin_with_mark}
-use Rattle.robots_rules.specs.Needless.{AreNeedless, lines_without, numbers_of, without}
+use Rattle.robots_rules.specs.Needless.{MeanTheSame, lines_without}
 use Rattle.robots_rules.proofs.DeletedLemmas.{ArePairs, cut_pairs, meant, meant_joined, pair_body, mark_of}
 use Rattle.robots_rules.proofs.DeletedLemmas.{pairs_left, IsUnmarked, mark_off, mark_read}
-use Rattle.robots_rules.proofs.CrawlerLemmas.{split_read, star_or_named}
-use Rattle.robots_rules.proofs.TogetherLemmas.{unplaced_of, in_filter}
+use Rattle.robots_rules.proofs.CrawlerLemmas.{each_alike, split_read}
 use Rattle.robots_rules.proofs.BlockLemmas.{among, left_are}
 
 unmarked : (pairs : List Pair) → ArePairs pairs → begin_with_mark (map pair_body pairs) ≡ false
@@ -39,7 +37,7 @@ unmarked (pair ∷ later) (is, are) none = at pair.body pair.ending is.ending is
     at [] ending (zero, inr e) last none = grind arith
     at [] ending (suc k, inr e) last none = grind arith
 
-map_left : {A B : Type 0} (f : A → B) (gone : ℕ → Bool) (position : ℕ) (lines : List A)
+pub map_left : {A B : Type 0} (f : A → B) (gone : ℕ → Bool) (position : ℕ) (lines : List A)
     → map f (left_from gone position lines) ≡ left_from gone position (map f lines)
 map_left f gone position [] = refl
 map_left f gone position (line ∷ lines) = grind (arith, map_left f gone (position + 1) lines)
@@ -133,69 +131,49 @@ left_within numbers file left is =
     let both = ap length is.rest ∙ length-append is.mark rest in
     (grind (arith, length-append))
 
-of_file : (file : List ℕ) (P : List LineValue → Type 0)
+pub of_file : (file : List ℕ) (P : List LineValue → Type 0)
     → HasLines file P → P (file_lines file)
 of_file file P is =
     of_lines file P is (file_lines file) ((each_text_has_its_lines (map nul_as_lf file) _).1 refl)
 
-rejected_alike : (agent other : List ℕ) (lines others : List LineValue)
-    → rules_for agent lines ≡ rules_for other others → IsRejected agent lines → IsRejected other others
-rejected_alike agent other lines others same rejected =
-    (rejection_is_computed other others).1 (subst (Any (λ (rule : Rule). IsOverlong rule.0)) same
-    ((rejection_is_computed agent lines).0 rejected))
+pub same_delay : (agent file other : List ℕ) (one two : Option ℕ)
+    → HasLines file (λ lines. IsDelayFor agent lines one) → HasLines other (λ lines. IsDelayFor agent lines two)
+    → ◌≡◌ {A = Option ℕ} one two → delay_for agent (file_lines other) ≡ delay_for agent (file_lines file)
+same_delay agent file other one two first second same =
+    sym ((delay_is_computed agent _ two).0 (of_file other (λ ls. IsDelayFor agent ls two) second)) ∙ sym same
+    ∙ (delay_is_computed agent _ one).0 (of_file file (λ ls. IsDelayFor agent ls one) first)
 
-stays_rejected : (agent : List ℕ) (lines less : List LineValue) (numbers : List ℕ)
-    → rules_for agent less ≡ unplaced (without numbers (placed_rules agent lines))
-    → IsRejected agent less → IsRejected agent lines
-stays_rejected agent lines less numbers are rejected =
-    let rules = placed_rules agent lines in
-    let (k, rule, below, at, overlong) = rw are at ((rejection_is_computed agent less).0 rejected) in
-    let (placed, listed, is) = placed_of (without numbers rules) rule (k, below, at) in
-    let (i, less_than, here) = unplaced_of rules placed (in_filter _ rules placed listed).0 in
-    (rejection_is_computed agent lines).1
-    (i, placed.rule, less_than, here, subst (λ (r : Rule). IsOverlong r.0) (sym is) overlong)
+pub same_sitemaps : (file other : List ℕ) (texts others : List (List ℕ))
+    → HasLines file (λ lines. AreSitemapsOf lines texts) → HasLines other (λ lines. AreSitemapsOf lines others)
+    → texts ≡ others → sitemaps_in (file_lines file) ≡ sitemaps_in (file_lines other)
+same_sitemaps file other texts others first second same =
+    sym ((sitemaps_are_computed _ texts).0 (of_file file (λ ls. AreSitemapsOf ls texts) first)) ∙ same
+    ∙ (sitemaps_are_computed _ others).0 (of_file other (λ ls. AreSitemapsOf ls others) second)
 
-module _ (file left : List ℕ) (found : List NeedlessRule) (are : AreFoundIn file found) (some : found ≢ [])
-    (is : IsLeftOf (numbers_of found) file left) (agent : List ℕ)
-    (utf8 : IsUtf8 agent) where
+module _ (file left : List ℕ) (numbers : List ℕ) (are : CanBeDeleted numbers file)
+    (is : IsLeftOf numbers file left) (agent : List ℕ) (utf8 : IsUtf8 agent) where
   abbrev lines : List LineValue
   lines = file_lines file
 
-  abbrev less : List LineValue
-  less = lines_without (numbers_of found) lines
+  same_as_less : Same agent (file_lines left) agent (lines_without numbers lines)
+  same_as_less = same_result numbers file left is are.front agent
 
-  same_as_less : Same agent (file_lines left) agent less
-  same_as_less = same_result (numbers_of found) file left is (are.front some) agent
-
-  needless : AreNeedless (placed_rules agent lines) (numbers_of found)
-  needless =
-      let (name, has, same) = star_or_named agent lines utf8 in
-      subst (λ (rules : List PlacedRule). AreNeedless rules (numbers_of found)) (sym same)
-      (are.lines.together name has)
+  alike : MeanTheSame agent lines (lines_without numbers lines)
+  alike = each_alike numbers lines are.lines agent utf8
 
   verdicts_stay : (text : List ℕ) (answer : Bool)
       → IsVerdict (rules_for agent lines) text answer
       ↔ IsVerdict (rules_for agent (file_lines left)) text answer
   verdicts_stay text answer =
-      Iff.trans (rw (are.lines.deleted agent) (needless text answer))
+      Iff.trans (alike.verdicts text answer)
       ((same_as_less.0.verdict text answer).1, (same_as_less.0.verdict text answer).0)
-
-  accepted : ¬ IsRejected agent lines
-  accepted rejected =
-      let (name, has, same) = star_or_named agent lines utf8 in
-      are.lines.accepted some name has (rejected_alike agent name lines lines (ap unplaced same) rejected)
-
-  accepted_left : ¬ IsRejected agent (file_lines left)
-  accepted_left rejected =
-      accepted (stays_rejected agent lines less (numbers_of found) (are.lines.deleted agent)
-      (same_as_less.0.rejection.0 rejected))
 
   robots_alike : (one two : RobotValue) → IsRobotOf agent lines one → IsRobotOf agent (file_lines left) two
       → AreAlike one two
   robots_alike one two is_one is_two = record {
-    delay = (delay_is_computed agent lines one.delay).0 is_one.delay ∙ sym (are.lines.delays agent)
+    delay = (delay_is_computed agent lines one.delay).0 is_one.delay ∙ sym alike.delay
         ∙ sym same_as_less.0.delay ∙ sym ((delay_is_computed agent _ two.delay).0 is_two.delay);
-    sitemaps = (grind (arith, sitemaps_are_computed, same_as_less));
+    sitemaps = (grind (arith, sitemaps_are_computed, same_as_less, are));
     verdicts = λ text answer.
         let first = (answers_computed agent lines one.rules is_one.rules).verdicts text answer in
         let second = (answers_computed agent _ two.rules is_two.rules).verdicts text answer in
@@ -205,8 +183,9 @@ module _ (file left : List ℕ) (found : List NeedlessRule) (are : AreFoundIn fi
   pub same_robot : HaveSameRobot agent file left
   same_robot = record {
     rejection = (
-      λ rejected. absurd (accepted (of_file file (IsRejected agent) rejected)),
-      λ rejected. absurd (accepted_left (of_file left (IsRejected agent) rejected)),
+      λ rejected. absurd (alike.accepted (of_file file (IsRejected agent) rejected)),
+      λ rejected.
+          absurd (alike.left_accepted (same_as_less.0.rejection.0 (of_file left (IsRejected agent) rejected))),
     );
     robots = λ one two is_one is_two.
         robots_alike one two (of_file file (λ ls. IsRobotOf agent ls one) is_one)

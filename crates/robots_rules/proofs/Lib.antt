@@ -7,10 +7,10 @@ pub mod VerdictLemmas
 -- `SettledLemmas`). What is left of the bytes of a file has the lines that stay (`DeletedLemmas`,
 -- `LeftLemmas`).
 pub mod TogetherLemmas
-pub mod CompareLemmas
 pub mod BlockLemmas
 pub mod SettledLemmas
 pub mod CrawlerLemmas
 pub mod DeletedLemmas
 pub mod LeftLemmas
-pub mod ExampleLemmas
+-- A rule that another one replaces changes no verdict.
+pub mod ReplacedLemmas

@@ -1,13 +1,13 @@
 -- Files from which rules or lines are deleted.
 use Rattle.std.specs.Prelude.{◌≡◌, ℕ, ◌+◌, Bool, true, false, not, ◌&&◌, ◌||◌, List, [], ◌∷◌, Option, Some}
 use Rattle.std.specs.Prelude.{None, if◌then◌else◌, ◌≢◌, ◌⊎◌, ◌↔◌, ◌==◌, ◌++◌, map}
-use Rattle.std.specs.{BTreeMap.get, Option.is_some, Option.option_map_or, Ordering.nat_cmp, List.concat}
+use Rattle.std.specs.{Option.option_map_or, List.concat}
 use Rattle.texting_robots.specs.{Group.is_agent, Line.LineValue, Cut.IsCut, Cut.Pair, Line.without_bom}
-use Rattle.robots_rules.specs.{declared.blocks.Block.Block, Search.Reasons}
+use Rattle.robots_rules.specs.{declared.blocks.Block.Block}
 use Rattle.texting_robots.specs.Callers.{IsFileRejected, IsRobotOfFile, IsVerdict, RobotValue, file_bodies}
 use Rattle.texting_robots.specs.Callers.{file_lines, nul_as_lf, unplaced}
 use Rattle.robots_rules.specs.declared.needless.{NeedlessRule.NeedlessRule}
-use Rattle.robots_rules.specs.Needless.{AreFound, lines_without, numbers_of}
+use Rattle.robots_rules.specs.Needless.{AreDeletable, lines_without, numbers_of}
 pub use Rattle.robots_rules.specs.Needless.{is_rule}
 
 -- ---- Blocks of a file from which rules are removed: the members of a group. At crawlers that ignore delays,
@@ -42,12 +42,6 @@ left_from gone position [] = []
 left_from gone position (line ∷ lines) =
     if gone (position + 1) then left_from gone (position + 1) lines
     else line ∷ left_from gone (position + 1) lines
-
-abbrev pub is_found : Reasons → ℕ → Bool
-is_found found number = is_some (get nat_cmp found number)
-
-abbrev pub KeepBlocks : Reasons → List LineValue → Type 0
-KeepBlocks found lines = keep_blocks_from (is_found found) no_rule 0 lines ≡ true
 
 -- ---- A file from which lines are deleted, each with its line end.
 
@@ -87,8 +81,12 @@ begin_with_mark [] = false
 begin_with_mark ([] ∷ bodies) = false
 begin_with_mark ((b ∷ body) ∷ bodies) = (b == 0xEF) || ((b == 0xBB) || (b == 0xBF))
 
--- the first line that stays doesn't begin with a byte of the byte order mark, which isn't read at the start
--- of a file
+-- the lines of the file with these numbers can be deleted together, and the first line that stays doesn't
+-- begin with a byte of the byte order mark, which isn't read at the start of a file
+pub record CanBeDeleted (numbers : List ℕ) (file : List ℕ) : Type 0 where
+  pub lines : AreDeletable numbers (file_lines file)
+  pub front : begin_with_mark (lines_without numbers (file_bodies file)) ≡ false
+
+-- the found rules of a file
 pub record AreFoundIn (file : List ℕ) (found : List NeedlessRule) : Type 0 where
-  pub lines : AreFound (file_lines file) found
-  pub front : found ≢ [] → begin_with_mark (lines_without (numbers_of found) (file_bodies file)) ≡ false
+  pub deletable : found ≢ [] → CanBeDeleted (numbers_of found) file

@@ -3,4 +3,3 @@ pub mod Internal
 pub mod Needless
 pub mod Search
 pub mod Blocks
-pub mod Examples

@@ -6,6 +6,7 @@ use crate::compare::Comparison;
 use crate::pool::Entry;
 use crate::refine::{compare_pool, differ_on, refined};
 use crate::search::spend;
+use crate::texts::filled;
 use std::alloc::{AllocError, Global};
 
 /// At most so many rounds of steps are tried.
@@ -115,17 +116,6 @@ fn steps<'a>(
     Ok(Comparison::Undecided)
 }
 
-/// The pattern without its stars, which it matches.
-fn text_of(alloc: Global, rest: &[u8]) -> Result<Vec<u8>, AllocError> {
-    let mut text = Vec::new(alloc);
-    for byte in rest {
-        if *byte != b'*' && *byte != b'$' {
-            text.push(*byte)?;
-        }
-    }
-    Ok(text)
-}
-
 fn total_len(pool: &[Entry<'_>]) -> usize {
     let mut total: usize = 0;
     for entry in pool {
@@ -148,7 +138,7 @@ fn tried(
     for entry in pool {
         let cost = entry.item.rest().len().saturating_mul(total);
         if entry.old != entry.new && spend(budget, cost) {
-            let text = text_of(alloc, entry.item.rest())?;
+            let text = filled(alloc, entry.item.rest(), b"", false)?;
             if differ_on(alloc, pool, front, text.as_slice())? {
                 return Ok(Comparison::Differ(text));
             }

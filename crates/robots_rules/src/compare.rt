@@ -37,7 +37,7 @@ fn order(one: &Item<'_>, other: &Item<'_>) -> Ordering {
 
 /// The first one doesn't rank above the other one.
 #[tactic(auto, using(crate::proofs::VerdictLemmas::shorter_below, crate::proofs::VerdictLemmas::disallow_below, crate::proofs::VerdictLemmas::below_allow))]
-fn is_below(one: &Item<'_>, other: &Item<'_>) -> bool
+pub(crate) fn is_below(one: &Item<'_>, other: &Item<'_>) -> bool
     ensures { IsTrue result → rank_of one.now ≤ rank_of other.now }
 {
     let len = one.rest().len();

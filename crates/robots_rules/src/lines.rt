@@ -1,16 +1,15 @@
 //! Which lines of a file have rules that are needless for every crawler.
-ghost use Rattle.std.specs.Prelude.{◌≡◌, ◌∷◌, All, Contains, IfOk, IsTrue, List, OnOk, bytes_eq, codes, false, map, ℕ};
+ghost use Rattle.std.specs.Prelude.{◌≡◌, ◌∷◌, All, Contains, IfOk, IsTrue, List, bytes_eq, codes, false, map, ℕ};
 ghost use Rattle.std.specs.List.{list_any};
-ghost use Rattle.robots_rules.specs.{Blocks.AreFoundIn, Blocks.begin_with_mark};
-ghost use Rattle.texting_robots.specs.Callers.{IsRejected, LineValue, agents_in, file_bodies, file_lines, placed_rules};
-ghost use Rattle.robots_rules.specs.Blocks.{KeepBlocks, is_found, left_from};
-ghost use Rattle.robots_rules.specs.Search.{AreReasons, AreSettled, Grow, HasAll, IsSettled, are_free, rule_at};
-ghost use Rattle.robots_rules.specs.Needless.{IsFoundFor, nothing};
+ghost use Rattle.texting_robots.specs.Callers.{agents_in, file_bodies, file_lines};
+ghost use Rattle.robots_rules.specs.Blocks.{AreFoundIn, begin_with_mark, left_from};
+ghost use Rattle.robots_rules.specs.Search.{IsSettled, is_found, names_of, rule_at};
+ghost use Rattle.robots_rules.specs.Needless.{nothing};
 
 use crate::blocks::{add_lost, keep_blocks};
-use crate::front::left_begin_with_mark;
 use crate::needless::{BUDGET, LineNumbers, NeedlessRule, Progress, Reason, settle};
 use crate::rule::rules_of;
+use crate::same::{Settled, accept, is_same_without, left_begin_with_mark};
 use std::alloc::{AllocError, Global};
 use std::collections::{BTreeMap, BTreeSet};
 use std::marker::Model;
@@ -19,26 +18,21 @@ use texting_robots::{RobotError, Site};
 /// How many times the check begins anew, without the rules that another crawler turned out to need.
 const ROUNDS: usize = 8;
 
-fn add_crawler(
+/// The rules that are left of the crawler's own.
+fn settled_for<'a>(
     alloc: Global,
     site: &Site,
-    agent: &str,
+    agent: &'a str,
     budget: &mut usize,
     progress: &mut Progress,
-) -> Result<(), RobotError>
-    ensures grow { OnOk result (Grow (IsFoundFor (file_lines site.now)) progress.old.found progress.new.found) }
-    ensures more { OnOk result (HasAll progress.new.stays progress.old.stays) }
-    ensures accepted { OnOk result (¬ IsRejected agent.now (file_lines site.now)) }
-    ensures settled { OnOk result (IsSettled (placed_rules agent.now (file_lines site.now))
-        progress.new.found progress.new.stays) }
+) -> Result<Settled<'a>, RobotError>
+    ensures agent { IfOk result (λ settled. settled.agent ≡ agent.now) }
+    ensures settled { IfOk result (IsSettled (file_lines site.now)) }
 {
-    match site.robot_without_sitemaps(alloc, agent) {
-        Ok(_) => {}
-        Err(rejection) => return Err(rejection),
-    }
-    let rules = rules_of(alloc, site, agent)?;
-    settle(alloc, budget, rules, progress)?;
-    Ok(())
+    accept(alloc, site, agent)?;
+    let own = rules_of(alloc, site, agent)?;
+    let rules = settle(alloc, budget, own, progress)?;
+    Ok(Settled { agent, rules })
 }
 
 fn has_star(agents: &[&str]) -> bool
@@ -61,33 +55,29 @@ fn crawlers_of(alloc: Global, site: &Site) -> Result<Vec<&str>, AllocError>
 }
 
 /// The rules in the lines that stay are needed.
-fn progress_for(
+fn all_settled<'a>(
     alloc: Global,
     site: &Site,
-    crawlers: &[&str],
+    crawlers: &[&'a str],
     budget: &mut usize,
-    stays: LineNumbers,
-) -> Result<Progress, RobotError>
-    ensures settled { IfOk result (λ progress. AreSettled (file_lines site.now)
-        (map (λ crawler. crawler.now) crawlers.now) progress.found progress.stays) }
-    ensures reasons { IfOk result (λ progress. AreReasons (file_lines site.now) progress.found) }
+    progress: &mut Progress,
+) -> Result<Vec<Settled<'a>>, RobotError>
+    ensures names { IfOk result (λ all. names_of all.items ≡ map (λ crawler. crawler.now) crawlers.now) }
+    ensures settled { IfOk result (λ all. All (IsSettled (file_lines site.now)) all.items) }
 {
-    let found = BTreeMap::new(alloc);
-    let mut progress = Progress {
-        found,
-        stays,
-        undecided: BTreeSet::new(alloc),
-    };
+    let mut all = Vec::new(alloc);
     for agent in crawlers {
-        add_crawler(alloc, site, agent, budget, &mut progress)?;
+        let settled = settled_for(alloc, site, agent, budget, progress)?;
+        match all.push(settled) {
+            Ok(()) => {}
+            Err(error) => return Err(AllocError::from(error).into()),
+        }
     }
-    Ok(progress)
+    Ok(all)
 }
 
 fn listed(alloc: Global, found: &BTreeMap<usize, Reason>) -> Result<Vec<NeedlessRule>, AllocError>
-    ensures items { IfOk result (λ list. list.items ≡ map rule_at found.now.entries) }
-    ensures reasons { IfOk result (λ list. (lines : List LineValue) → AreReasons lines found.now
-        → All (IsFoundFor lines) list.items) }
+    ensures { IfOk result (λ list. list.items ≡ map rule_at found.now.entries) }
 {
     let mut list = Vec::new(alloc);
     for (line, reason) in found.iter() {
@@ -99,18 +89,14 @@ fn listed(alloc: Global, found: &BTreeMap<usize, Reason>) -> Result<Vec<Needless
     Ok(list)
 }
 
-fn are_free(rules: &[NeedlessRule], stays: &LineNumbers) -> bool
-    ensures { result ≡ are_free rules.now stays.now }
-{
+fn are_free(rules: &[NeedlessRule], stays: &LineNumbers) -> bool {
     rules.iter().all(|rule| !stays.contains(&rule.line))
 }
 
 /// None is in a line that stays, each block that has rules keeps one, and the first line that stays doesn't
 /// begin with a byte of the byte order mark.
 fn can_be_removed(rules: &[NeedlessRule], progress: &Progress, text: &[u8]) -> bool
-    ensures free { IsTrue result → IsTrue (are_free rules.now progress.now.stays) }
-    ensures keep { IsTrue result → KeepBlocks progress.now.found (file_lines text.now) }
-    ensures front { IsTrue result
+    ensures { IsTrue result
         → begin_with_mark (left_from (is_found progress.now.found) 0 (file_bodies text.now)) ≡ false }
 {
     if !are_free(rules, &progress.stays) {
@@ -153,6 +139,31 @@ pub fn nothing(alloc: Global) -> Needless
     }
 }
 
+/// What was found, if a file without it means the same, as it does unless the search has a fault.
+fn checked(
+    alloc: Global,
+    site: &Site,
+    settled: &[Settled<'_>],
+    progress: &Progress,
+    rules: Vec<NeedlessRule>,
+) -> Result<Needless, RobotError>
+    requires settled { All (IsSettled (file_lines site.now)) settled.now }
+    requires names { (agent : List ℕ) → Contains (codes "*" ∷ agents_in (file_lines site.now)) agent
+        → Contains (names_of settled.now) agent }
+    requires rules { rules.items ≡ map rule_at progress.now.found.entries }
+    requires front { begin_with_mark (left_from (is_found progress.now.found) 0 (file_bodies site.now)) ≡ false }
+    ensures { IfOk result (λ found. AreFoundIn site.now found.rules) }
+{
+    let undecided = numbers_in(alloc, &progress.undecided)?;
+    if rules.is_empty() {
+        return Ok(Needless { rules, undecided });
+    }
+    if is_same_without(alloc, site, &progress.found, settled)? {
+        return Ok(Needless { rules, undecided });
+    }
+    Ok(nothing(alloc))
+}
+
 /// None if lines are still found to be needed in the last round.
 fn settled_lines(alloc: Global, site: &Site) -> Result<Needless, RobotError>
     ensures { IfOk result (λ found. AreFoundIn site.now found.rules) }
@@ -161,11 +172,15 @@ fn settled_lines(alloc: Global, site: &Site) -> Result<Needless, RobotError>
     let mut stays = BTreeSet::new(alloc);
     let crawlers = crawlers_of(alloc, site)?;
     for _ in 0..ROUNDS {
-        let progress = progress_for(alloc, site, crawlers.as_slice(), &mut budget, stays)?;
+        let mut progress = Progress {
+            found: BTreeMap::new(alloc),
+            stays,
+            undecided: BTreeSet::new(alloc),
+        };
+        let settled = all_settled(alloc, site, crawlers.as_slice(), &mut budget, &mut progress)?;
         let rules = listed(alloc, &progress.found)?;
         if can_be_removed(&rules, &progress, site.text()) {
-            let undecided = numbers_in(alloc, &progress.undecided)?;
-            return Ok(Needless { rules, undecided });
+            return checked(alloc, site, settled.as_slice(), &progress, rules);
         }
         stays = progress.stays;
         add_lost(site.text(), &progress.found, &mut stays)?;

@@ -1,12 +1,14 @@
-//! Which rules of a crawler are needless.
-ghost use Rattle.std.specs.Prelude.{◌≡◌, ◌≢◌, ◌++◌, ◌∷◌, [], IfOk, IfSome, IsPermutation, IsTrue, OnOk, false};
+//! Looks for needless rules of a crawler. Only that the verdicts stay is proved of it; `same` checks the whole
+//! file without the lines that are found.
+ghost use Rattle.std.specs.Prelude.{◌≡◌, ◌≢◌, ◌++◌, ◌<◌, [], All, IfOk, IsPermutation, IsTrue, OnOk, false, length};
 ghost use Rattle.texting_robots.specs.Pattern.{dollar, star};
-ghost use Rattle.robots_rules.specs.Search.{AddsLines, AddsNear, AreApart, Grow, HasAll, IsOutcome, IsReducing, IsSettled};
-ghost use Rattle.robots_rules.specs.declared.needless.Reason.TheVariants.{NeverDecides, NotNeeded};
-ghost use Rattle.robots_rules.specs.Needless.{Covers, IsFound, IsReason, MatchesNothing, TakesPrecedence};
+ghost use Rattle.texting_robots.specs.Callers.{unplaced};
+ghost use Rattle.robots_rules.specs.Same.{IsComparison};
+ghost use Rattle.robots_rules.specs.Search.{AreApart, Covers, IsNoRival, IsOutcome, IsReducedTo, Replaces, least_rival, others};
 
-use crate::compare::{Comparison, compare};
+use crate::compare::{Comparison, compare, is_below};
 use crate::rule::Rule;
+use crate::witnesses::{Witnesses, is_needed_on_mixed, may_meet};
 use std::alloc::{AllocError, Global};
 use std::collections::{BTreeMap, BTreeSet};
 
@@ -56,62 +58,6 @@ enum Outcome {
     Undecided,
 }
 
-/// It takes precedence if both match.
-#[tactic(auto, using(crate::proofs::CompareLemmas::longer_precedes, crate::proofs::CompareLemmas::allow_precedes, crate::proofs::CompareLemmas::above_precedes))]
-fn precedes(other: &Rule, rule: &Rule) -> bool
-    ensures { IsTrue result → TakesPrecedence other.now rule.now }
-{
-    let len = other.pattern.len();
-    let rule_len = rule.pattern.len();
-    if len != rule_len {
-        return len > rule_len;
-    }
-    if other.is_allow != rule.is_allow {
-        return other.is_allow;
-    }
-    other.line < rule.line
-}
-
-fn is_special(byte: u8) -> bool
-    ensures { result ≡ false → (byte ≢ star) × (byte ≢ dollar) }
-{
-    byte == b'*' || byte == b'$'
-}
-
-/// The patterns differ before their first star or dollar. What that took to find is added to the steps.
-fn are_apart(one: &[u8], other: &[u8], steps: &mut usize) -> bool
-    ensures { IsTrue result → AreApart one.now other.now }
-{
-    for k in 0..one.len().min(other.len()) {
-        if is_special(one[k]) {
-            return false;
-        }
-        if is_special(other[k]) {
-            return false;
-        }
-        if one[k] != other[k] {
-            *steps = steps.saturating_add(k).saturating_add(8);
-            return true;
-        }
-    }
-    false
-}
-
-/// The pattern before its first star or dollar.
-fn head(pattern: &[u8]) -> &[u8] {
-    for k in 0..pattern.len() {
-        if is_special(pattern[k]) {
-            return &pattern[..k];
-        }
-    }
-    pattern
-}
-
-/// How many bytes a text needs that the pattern matches.
-fn least_len(pattern: &[u8]) -> usize {
-    pattern.iter().filter(|byte| !is_special(**byte)).count()
-}
-
 /// The same rule, or another one with its pattern.
 fn copied(alloc: Global, rule: &Rule, is_allow: bool) -> Result<Rule, AllocError>
     ensures { IfOk result (λ made. made ≡ record { rule = (rule.now.rule.0, is_allow); line = rule.now.line }) }
@@ -125,144 +71,250 @@ fn copied(alloc: Global, rule: &Rule, is_allow: bool) -> Result<Rule, AllocError
     })
 }
 
-fn matches_nothing(alloc: Global, budget: &mut usize, rule: &Rule) -> Result<bool, AllocError>
-    ensures { IfOk result (λ is. IsTrue is → MatchesNothing rule.now.rule.0) }
+/// With an eighth of the budget at most.
+fn compared(
+    alloc: Global,
+    budget: &mut usize,
+    rules: &[Rule],
+    rest: &[Rule],
+) -> Result<Comparison, AllocError>
+    ensures { IfOk result (IsComparison [] (unplaced rules.now) (unplaced rest.now)) }
 {
-    let mut denials = Vec::new(alloc);
-    denials.push(copied(alloc, rule, false)?)?;
-    match compare(alloc, b"", denials.as_slice(), &[], budget)? {
-        Comparison::Same => Ok(true),
-        _ => Ok(false),
-    }
+    let most = *budget / 8;
+    let mut left = most;
+    let comparison = compare(alloc, b"", rules, rest, &mut left)?;
+    *budget = budget.saturating_sub(most.saturating_sub(left));
+    Ok(comparison)
 }
 
+fn matches_nothing(alloc: Global, budget: &mut usize, rule: &Rule) -> Result<bool, AllocError> {
+    let mut denials = Vec::new(alloc);
+    denials.push(copied(alloc, rule, false)?)?;
+    let comparison = compared(alloc, budget, denials.as_slice(), &[])?;
+    Ok(matches!(comparison, Comparison::Same))
+}
+
+/// The first rule matches every text that the other one matches.
 fn covers(alloc: Global, budget: &mut usize, wide: &Rule, narrow: &Rule) -> Result<bool, AllocError>
     ensures { IfOk result (λ is. IsTrue is → Covers wide.now.rule.0 narrow.now.rule.0) }
 {
-    let wide_bytes = wide.pattern.as_bytes();
-    let bytes = narrow.pattern.as_bytes();
-    if least_len(wide_bytes) > least_len(bytes) || !bytes.starts_with(head(wide_bytes)) {
-        return Ok(false);
+    if wide.pattern.as_str() == narrow.pattern.as_str() {
+        return Ok(true);
     }
     let mut one = Vec::new(alloc);
     one.push(copied(alloc, wide, false)?)?;
     let mut both = Vec::new(alloc);
     both.push(copied(alloc, wide, false)?)?;
     both.push(copied(alloc, narrow, false)?)?;
-    match compare(alloc, b"", both.as_slice(), one.as_slice(), budget)? {
+    match compared(alloc, budget, both.as_slice(), one.as_slice())? {
         Comparison::Same => Ok(true),
         _ => Ok(false),
     }
 }
 
-fn overruling_line(
+/// The same, if it matches the texts of the other one, without which it isn't looked at for long.
+fn is_wider(
     alloc: Global,
     budget: &mut usize,
-    others: &[Rule],
-    rule: &Rule,
-) -> Result<Option<usize>, AllocError>
-    ensures { IfOk result (λ found. IfSome found (λ line.
-        IsReason others.now rule.now (NeverDecides line))) }
+    wide: &Rule,
+    narrow: &Rule,
+    shown: &Witnesses,
+) -> Result<bool, AllocError>
+    ensures { IfOk result (λ is. IsTrue is → Covers wide.now.rule.0 narrow.now.rule.0) }
 {
-    for other in others {
-        if precedes(other, rule) && covers(alloc, budget, other, rule)? {
-            return Ok(Some(other.line));
-        }
+    if shown.are_matched(wide, budget) {
+        return covers(alloc, budget, wide, narrow);
     }
-    Ok(None)
+    Ok(false)
 }
 
-/// It is another one of the same kind.
-fn can_stand_in(other: &Rule, rule: &Rule) -> bool
-    ensures line { IsTrue result → other.now.line ≢ rule.now.line }
-    ensures kind { IsTrue result → other.now.rule.1 ≡ rule.now.rule.1 }
+fn is_special(byte: u8) -> bool
+    ensures { result ≡ false → (byte ≢ star) × (byte ≢ dollar) }
 {
-    other.line != rule.line && other.is_allow == rule.is_allow
+    byte == b'*' || byte == b'$'
 }
 
-fn covering_line(
-    alloc: Global,
-    budget: &mut usize,
-    others: &[Rule],
-    rule: &Rule,
-) -> Result<Option<usize>, AllocError>
-    ensures { IfOk result (λ found. IfSome found (λ line.
-        IsReason others.now rule.now (NotNeeded line))) }
+/// The patterns differ before their first star or dollar.
+fn are_apart(one: &[u8], other: &[u8]) -> bool
+    ensures { IsTrue result → AreApart one.now other.now }
 {
-    for other in others {
-        if can_stand_in(other, rule) && covers(alloc, budget, other, rule)? {
-            return Ok(Some(other.line));
+    for k in 0..one.len().min(other.len()) {
+        if is_special(one[k]) {
+            return false;
         }
-    }
-    Ok(None)
-}
-
-fn has_lower_disallow(others: &[Rule], rule: &Rule) -> bool {
-    for other in others {
-        if !other.is_allow && precedes(rule, other) {
+        if is_special(other[k]) {
+            return false;
+        }
+        if one[k] != other[k] {
             return true;
         }
     }
     false
 }
 
-/// Why a rule is needless that is. None if that would take too long to find.
-fn reason_among(
+/// How many bytes a rule of the other kind has to have at least, so that the rule doesn't decide in its place.
+fn least_rival(rule: &Rule) -> usize
+    ensures { result ≡ least_rival rule.now.rule }
+{
+    let len = rule.pattern.len();
+    if rule.is_allow { len + 1 } else { len }
+}
+
+/// It has at least so many bytes, and may decide where the rule would, were it deleted.
+fn is_rival(other: &Rule, rule: &Rule, least: usize) -> bool
+    ensures { result ≡ false → IsNoRival least rule.now other.now }
+{
+    if other.is_allow == rule.is_allow {
+        return false;
+    }
+    if other.pattern.len() < least {
+        return false;
+    }
+    if is_below(&rule.item(), &other.item()) {
+        return false;
+    }
+    !are_apart(other.pattern.as_bytes(), rule.pattern.as_bytes())
+}
+
+fn has_rival(rules: &[Rule], rule: &Rule, least: usize) -> bool
+    ensures { result ≡ false → All (IsNoRival least rule.now) rules.now }
+{
+    for other in rules {
+        if is_rival(other, rule, least) {
+            return true;
+        }
+    }
+    false
+}
+
+/// If the other one matches every text that the rule matches, the rule changes no verdict.
+fn replaces(other: &Rule, rule: &Rule, rules: &[Rule]) -> bool
+    ensures { IsTrue result → Replaces rules.now rule.now other.now }
+{
+    if is_below(&rule.item(), &other.item()) {
+        return true;
+    }
+    if other.is_allow != rule.is_allow {
+        return false;
+    }
+    !has_rival(rules, rule, least_rival(other))
+}
+
+/// Why a rule is needless, and whether that is sure.
+#[derive(Clone, Copy)]
+struct Cause {
+    reason: Option<Reason>,
+    is_sure: bool,
+}
+
+/// The highest of these rules above another one that matches every text that the other one matches.
+fn overruled(
     alloc: Global,
     budget: &mut usize,
-    others: &[Rule],
-    rule: &Rule,
-) -> Result<Option<Reason>, AllocError>
-    ensures { IfOk result (λ found. IfSome found (IsReason others.now rule.now)) }
+    rules: &[Rule],
+    at: usize,
+    shown: &Witnesses,
+) -> Result<Cause, AllocError>
+    requires { at < length rules.now }
+    ensures { IfOk result (λ cause. IsTrue cause.is_sure → IsReducedTo rules.now (others at rules.now)) }
 {
-    if matches_nothing(alloc, budget, rule)? {
-        return Ok(Some(Reason::MatchesNothing));
+    let rule = &rules[at];
+    let above = &rules[at + 1..];
+    for k in (0..above.len()).rev() {
+        let other = &above[k];
+        if is_wider(alloc, budget, other, rule, shown)? {
+            let is_sure = replaces(other, rule, rules);
+            return Ok(Cause {
+                reason: Some(Reason::NeverDecides(other.line)),
+                is_sure,
+            });
+        }
     }
-    if let Some(line) = overruling_line(alloc, budget, others, rule)? {
-        return Ok(Some(Reason::NeverDecides(line)));
-    }
-    if rule.is_allow && !has_lower_disallow(others, rule) {
-        return Ok(Some(Reason::AllowedAnyway));
-    }
-    if let Some(line) = covering_line(alloc, budget, others, rule)? {
-        return Ok(Some(Reason::NotNeeded(line)));
-    }
-    if rule.is_allow {
-        return Ok(Some(Reason::AllowedAnyway));
-    }
-    Ok(None)
+    Ok(Cause {
+        reason: None,
+        is_sure: false,
+    })
 }
 
-/// Adds the other one, if it may match a text that the rule matches.
-#[tactic(auto, using(crate::proofs::CompareLemmas::near_apart, crate::proofs::CompareLemmas::near_pushed))]
-fn push_near(
+/// The lowest rule of its kind below it that matches every text that the rule at this place matches.
+fn covered(
     alloc: Global,
-    near: &mut Vec<Rule>,
-    steps: &mut usize,
-    other: &Rule,
-    rule: &Rule,
-) -> Result<(), AllocError>
-    ensures { OnOk result (AddsNear near.old.items near.new.items (other.now ∷ []) rule.now) }
+    budget: &mut usize,
+    rules: &[Rule],
+    at: usize,
+    shown: &Witnesses,
+) -> Result<Cause, AllocError>
+    requires { at < length rules.now }
+    ensures { IfOk result (λ cause. IsTrue cause.is_sure → IsReducedTo rules.now (others at rules.now)) }
 {
-    if are_apart(other.pattern.as_bytes(), rule.pattern.as_bytes(), steps) {
-        return Ok(());
+    let rule = &rules[at];
+    let below = &rules[..at];
+    let mut reason = None;
+    for k in 0..below.len() {
+        let other = &below[k];
+        if other.is_allow != rule.is_allow || !is_wider(alloc, budget, other, rule, shown)? {
+            continue;
+        }
+        if reason.is_none() {
+            reason = Some(Reason::NotNeeded(other.line));
+        }
+        *budget = budget.saturating_sub(rules.len() / 8);
+        if replaces(other, rule, rules) {
+            return Ok(Cause {
+                reason,
+                is_sure: true,
+            });
+        }
     }
-    near.push(copied(alloc, other, other.is_allow)?)?;
-    Ok(())
+    Ok(Cause {
+        reason,
+        is_sure: false,
+    })
 }
 
-/// Adds those that may match a text that the rule matches.
-fn add_near(
+/// Why the rule at this place is needless, if it is. No reason if none is found.
+fn cause_of(
     alloc: Global,
-    near: &mut Vec<Rule>,
-    steps: &mut usize,
-    others: &[Rule],
-    rule: &Rule,
-) -> Result<(), AllocError>
-    ensures { OnOk result (AddsNear near.old.items near.new.items others.now rule.now) }
+    budget: &mut usize,
+    rules: &[Rule],
+    at: usize,
+    shown: &Witnesses,
+) -> Result<Cause, AllocError>
+    requires { at < length rules.now }
+    ensures { IfOk result (λ cause. IsTrue cause.is_sure → IsReducedTo rules.now (others at rules.now)) }
 {
-    for other in others {
-        push_near(alloc, near, steps, other, rule)?;
+    let rule = &rules[at];
+    if !shown.are_proper(rule, budget) && matches_nothing(alloc, budget, rule)? {
+        return Ok(Cause {
+            reason: Some(Reason::MatchesNothing),
+            is_sure: false,
+        });
+    }
+    let above = overruled(alloc, budget, rules, at, shown)?;
+    if above.reason.is_some() {
+        return Ok(above);
+    }
+    if rule.is_allow && !has_rival(rules, rule, 0) {
+        return Ok(Cause {
+            reason: Some(Reason::AllowedAnyway),
+            is_sure: true,
+        });
+    }
+    let below = covered(alloc, budget, rules, at, shown)?;
+    if below.reason.is_none() && rule.is_allow {
+        return Ok(Cause {
+            reason: Some(Reason::AllowedAnyway),
+            is_sure: false,
+        });
+    }
+    Ok(below)
+}
+
+fn add_copies(alloc: Global, to: &mut Vec<Rule>, rules: &[Rule]) -> Result<(), AllocError>
+    ensures { OnOk result (to.new.items ≡ to.old.items ++ rules.now) }
+{
+    for rule in rules {
+        to.push(copied(alloc, rule, rule.is_allow)?)?;
     }
     Ok(())
 }
@@ -278,81 +330,78 @@ fn cost_of(rules: &[Rule]) -> usize {
     cost
 }
 
-/// What becomes of the rule among these others.
-fn outcome_among(
+/// All rules are compared with all but the one at this place.
+fn comparison_without(
     alloc: Global,
     budget: &mut usize,
-    near: Vec<Rule>,
-    rule: &Rule,
-) -> Result<Outcome, AllocError>
-    ensures { IfOk result (IsOutcome near.items rule.now) }
+    rules: &[Rule],
+    at: usize,
+) -> Result<Comparison, AllocError>
+    requires { at < length rules.now }
+    ensures { IfOk result (IsComparison [] (unplaced rules.now) (unplaced (others at rules.now))) }
 {
-    let count = near.len();
-    let mut all = near;
-    all.push(copied(alloc, rule, rule.is_allow)?)?;
-    let others = &all[..count];
-    *budget = budget.saturating_sub(cost_of(others));
-    let most = *budget / 8;
-    let mut left = most;
-    let comparison = compare(alloc, b"", &all, others, &mut left)?;
-    *budget = budget.saturating_sub(most.saturating_sub(left));
-    match comparison {
-        Comparison::Same => {}
-        Comparison::Differ(_) => return Ok(Outcome::Stays),
-        Comparison::Undecided => return Ok(Outcome::Undecided),
-    }
-    match reason_among(alloc, budget, others, rule)? {
-        Some(reason) => Ok(Outcome::Goes(reason)),
-        None => Ok(Outcome::Undecided),
-    }
+    let mut rest = Vec::new(alloc);
+    add_copies(alloc, &mut rest, &rules[..at])?;
+    add_copies(alloc, &mut rest, &rules[at + 1..])?;
+    *budget = budget.saturating_sub(cost_of(&rest));
+    let comparison = compared(alloc, budget, rules, &rest)?;
+    Ok(comparison)
 }
 
-/// The same, with the others that match none of its texts. `Allow: /` and an empty Disallow are meant as they
-/// are.
+/// What becomes of the rule at this place, of which the first one is the lowest. `Allow: /` and an empty
+/// Disallow are meant as they are.
 fn outcome_of(
     alloc: Global,
     budget: &mut usize,
     stays: &LineNumbers,
-    kept: &[Rule],
-    rest: &[Rule],
-    rule: &Rule,
+    rules: &[Rule],
+    at: usize,
 ) -> Result<Outcome, AllocError>
-    ensures { IfOk result (IsOutcome (kept.now ++ rest.now) rule.now) }
+    requires { at < length rules.now }
+    ensures { IfOk result (IsOutcome at rules.now) }
 {
+    let rule = &rules[at];
     if stays.contains(&rule.line) || rule.is_allow && rule.pattern.as_str() == "/" {
         return Ok(Outcome::Stays);
     }
     if *budget == 0 {
         return Ok(Outcome::Undecided);
     }
-    let mut near = Vec::new(alloc);
-    let mut steps = 0;
-    add_near(alloc, &mut near, &mut steps, kept, rule)?;
-    add_near(alloc, &mut near, &mut steps, rest, rule)?;
-    *budget = budget.saturating_sub(steps / 64);
-    outcome_among(alloc, budget, near, rule)
+    let shown = Witnesses::new(alloc, rule)?;
+    if shown.show(rules, at, budget) {
+        return Ok(Outcome::Stays);
+    }
+    let cause = cause_of(alloc, budget, rules, at, &shown)?;
+    if let (Some(reason), true) = (cause.reason, cause.is_sure) {
+        return Ok(Outcome::Goes(reason));
+    }
+    if is_needed_on_mixed(alloc, rules, at, budget)? {
+        return Ok(Outcome::Stays);
+    }
+    match (comparison_without(alloc, budget, rules, at)?, cause.reason) {
+        (Comparison::Same, Some(reason)) => Ok(Outcome::Goes(reason)),
+        (Comparison::Differ(_), _) => Ok(Outcome::Stays),
+        _ => Ok(Outcome::Undecided),
+    }
 }
 
-/// The highest rank first, and in file order if ranks are equal. The order decides which rules are found of
+/// The lowest rank first, and in file order if ranks are equal. The order decides which rules are found of
 /// those that aren't needless together.
 fn by_rank(rules: Vec<Rule>) -> Vec<Rule>
     ensures { IsPermutation rules.items result.items }
 {
     let mut sorted = rules;
     sorted.sort_unstable_by(|one, other| {
-        other
-            .pattern
+        one.pattern
             .len()
-            .cmp(&one.pattern.len())
-            .then(other.is_allow.cmp(&one.is_allow))
-            .then(one.line.cmp(&other.line))
+            .cmp(&other.pattern.len())
+            .then(one.is_allow.cmp(&other.is_allow))
+            .then(other.line.cmp(&one.line))
     });
     sorted
 }
 
-fn add_lines(numbers: &mut LineNumbers, rules: &[Rule]) -> Result<(), AllocError>
-    ensures { OnOk result (AddsLines numbers.old numbers.new rules.now) }
-{
+fn add_lines(numbers: &mut LineNumbers, rules: &[Rule]) -> Result<(), AllocError> {
     for rule in rules {
         numbers.insert(rule.line)?;
     }
@@ -367,41 +416,49 @@ fn reduced(
     rules: Vec<Rule>,
     progress: &mut Progress,
 ) -> Result<Vec<Rule>, AllocError>
-    ensures reducing { IfOk result (λ left.
-        IsReducing rules.items left.items progress.old.found progress.new.found) }
-    ensures stays { OnOk result (progress.new.stays ≡ progress.old.stays) }
+    ensures { IfOk result (λ left. IsReducedTo rules.items left.items) }
 {
-    let mut rest = by_rank(rules);
-    let mut kept = Vec::new(alloc);
-    while let Some(rule) = rest.pop() {
-        match outcome_of(alloc, budget, &progress.stays, &kept, &rest, &rule)? {
+    let mut left = by_rank(rules);
+    let mut at = 0;
+    for _ in 0..left.len() {
+        if at >= left.len() {
+            break;
+        }
+        match outcome_of(alloc, budget, &progress.stays, &left, at)? {
             Outcome::Goes(reason) => {
+                let rule = left.remove(at);
                 progress.found.insert(rule.line, reason)?;
             }
-            Outcome::Stays => kept.push(rule)?,
+            Outcome::Stays => at += 1,
             Outcome::Undecided => {
+                let rule = &left[at];
                 progress.undecided.insert(rule.line)?;
-                kept.push(rule)?;
-                kept.append(&mut rest)?;
-                return Ok(kept);
+                break;
             }
         }
     }
-    Ok(kept)
+    Ok(left)
 }
 
-/// Finds the needless ones of a crawler's rules. The lines of the others stay.
+fn by_line(rules: Vec<Rule>) -> Vec<Rule>
+    ensures { IsPermutation rules.items result.items }
+{
+    let mut sorted = rules;
+    sorted.sort_unstable_by(|one, other| one.line.cmp(&other.line));
+    sorted
+}
+
+/// The rules of a crawler, in file order, without those that are found to be needless. The lines of the others
+/// stay.
 pub(crate) fn settle(
     alloc: Global,
     budget: &mut usize,
     rules: Vec<Rule>,
     progress: &mut Progress,
-) -> Result<(), AllocError>
-    ensures settled { OnOk result (IsSettled rules.items progress.new.found progress.new.stays) }
-    ensures grow { OnOk result (Grow (IsFound rules.items) progress.old.found progress.new.found) }
-    ensures more { OnOk result (HasAll progress.new.stays progress.old.stays) }
+) -> Result<Vec<Rule>, AllocError>
+    ensures { IfOk result (λ left. IsReducedTo rules.items left.items) }
 {
     let left = reduced(alloc, budget, rules, progress)?;
     add_lines(&mut progress.stays, left.as_slice())?;
-    Ok(())
+    Ok(by_line(left))
 }

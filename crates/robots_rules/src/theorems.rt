@@ -5,15 +5,14 @@ ghost use Rattle.texting_robots.specs.Callers.{IsVerdict, LineValue, agents_in, 
 ghost use Rattle.texting_robots.specs.Callers.{rules_for};
 ghost use Rattle.robots_rules.specs.declared.needless.NeedlessRule.{NeedlessRule};
 ghost use Rattle.robots_rules.specs.Blocks.{AreFoundIn, AreWholeLines, HaveSameRobot, IsLeftOf};
-ghost use Rattle.robots_rules.specs.Examples as example;
-ghost use Rattle.robots_rules.specs.Needless.{AreFound, lines_without, numbers_of};
+ghost use Rattle.robots_rules.specs.Needless.{AreDeletable, lines_without, numbers_of};
 
-/// Deleting the lines of the found rules changes no verdict of `*` or of a crawler that the file names.
+/// Deleting lines that can be deleted changes no verdict of any crawler, whether the file names it or not.
 pub fn deleting_changes_no_verdict()
-    ensures { (lines : List LineValue) (found : List NeedlessRule) → AreFound lines found → (agent : List ℕ)
-        → Contains (codes "*" ∷ agents_in lines) agent → (text : List ℕ) (answer : Bool)
+    ensures { (lines : List LineValue) (numbers : List ℕ) → AreDeletable numbers lines → (agent : List ℕ)
+        → IsUtf8 agent → (text : List ℕ) (answer : Bool)
         → IsVerdict (rules_for agent lines) text answer
-        ↔ IsVerdict (rules_for agent (lines_without (numbers_of found) lines)) text answer }
+        ↔ IsVerdict (rules_for agent (lines_without numbers lines)) text answer }
 {}
 
 /// If the found lines are deleted from the bytes of a file, with their line ends, each crawler's robot has
@@ -33,12 +32,4 @@ pub fn each_file_has_whole_lines()
 pub fn others_have_the_rules_of_star()
     ensures { (agent : List ℕ) (lines : List LineValue) → is_named agent lines ≡ false
         → placed_rules agent lines ≡ placed_rules (codes "*") lines }
-{}
-
-/// Worked examples. `specs/Examples.antt` shows by them what the specification means.
-pub fn examples()
-    ensures one_of_two { example.one_of_two }
-    ensures between { example.between }
-    ensures two_of_three { example.two_of_three }
-    ensures covering { example.covering }
 {}

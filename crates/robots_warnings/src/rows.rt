@@ -444,7 +444,7 @@ macro_rules! every_row { ($column:ident) => { $column![
         "# robots_audit robots.txt --needless\nUser-agent: *\nDisallow: /a" "",
     NeedlessUndecided Note "needless-undecided"
         "whether this rule can be deleted isn't decided, nor whether some others of its crawler can, as there are too many rules, or too many *"
-        "# robots_audit robots.txt --needless\nUser-agent: *\nDisallow: /\\{2000 a*}b" ""
+        "# robots_audit robots.txt --needless\nUser-agent: *\nDisallow: /\\{2000 a*}b\nDisallow: /\\{2000 a*}b*" ""
         "with --needless: comparing a crawler's rules with and without this one would take too long; neither it nor those that are tried after it are reported as needless-rule",
 ] }; }
 

@@ -8,11 +8,12 @@ use Rattle.std.proofs.Common.{length}
 use Rattle.std.proofs.Common.{ltb-false, subst, subst₂, sym, take, take_all}
 use Rattle.std.proofs.lemmas.Bool.{false_from_ne_true}
 use Rattle.texting_robots.specs.Callers.{IsVerdict, LineValue, PlacedRule, agents_in, placed_rules}
-use Rattle.texting_robots.specs.Callers.{file_limit, rules_for}
+use Rattle.texting_robots.specs.Callers.{file_limit, file_lines, rules_for}
 use Rattle.texting_robots.specs.Callers.{lines_read, unplaced, IsRobotOfFile, RobotValue}
-use Rattle.robots_rules.specs.Blocks.{HaveSameRobot, IsLeftOf}
-use Rattle.robots_rules.specs.Needless.{AreFound, AreNeedless, NeedlessValue, lines_without}
+use Rattle.robots_rules.specs.Blocks.{AreFoundIn, CanBeDeleted, HaveSameRobot, IsLeftOf}
+use Rattle.robots_rules.specs.Needless.{AreDeletable, MeanTheSame, NeedlessValue, lines_without}
 use Rattle.robots_rules.specs.Needless.{numbers_of}
+use Rattle.robots_rules.proofs.{SettledLemmas.all_lines}
 use Rattle.robots_rules.proofs.{LeftLemmas.left_within, LeftLemmas.same_robot}
 use Rattle.audit_core.specs.Audit.{AuditValue, IsAuditOf}
 use Rattle.audit_core.specs.{Request.RequestValue}
@@ -33,15 +34,17 @@ DecidesAlike lines found agent = (text : List ℕ) (answer : Bool)
     → IsVerdict (rules_for agent lines) text answer
     ↔ IsVerdict (rules_for agent (lines_without (numbers_of found) lines)) text answer
 
--- a crawler that has the rules of one of those for which the found lines are needless
-pub alike : (lines : List LineValue) (found : List NeedlessRule) (agent other : List ℕ) → AreFound lines found
-    → Contains (codes "*" ∷ agents_in lines) other → placed_rules agent lines ≡ placed_rules other lines
-    → DecidesAlike lines found agent
-alike lines found agent other are has same =
-    let needless : AreNeedless (placed_rules agent lines) (numbers_of found) =
-    subst (λ (rules : List PlacedRule). AreNeedless rules (numbers_of found)) (sym same)
-    (are.together other has) in
-    λ text answer. rw (are.deleted agent) (needless text answer)
+-- a crawler for which lines that can be deleted mean nothing
+pub alike : (file : List ℕ) (found : List NeedlessRule) (agent : List ℕ) → AreFoundIn file found
+    → ((numbers : List ℕ) → AreDeletable numbers (file_lines file)
+    → MeanTheSame agent (file_lines file) (lines_without numbers (file_lines file)))
+    → DecidesAlike (file_lines file) found agent
+alike file [] agent are deleted text answer =
+    let lines = file_lines file in
+    subst (λ (left : List LineValue). IsVerdict (rules_for agent lines) text answer
+    ↔ IsVerdict (rules_for agent left) text answer) (sym (all_lines 0 lines)) (λ is. is, λ is. is)
+alike file (one ∷ more) agent are deleted =
+    (deleted (numbers_of (one ∷ more)) (are.deletable (λ none. cc)).lines).verdicts
 
 all_read : (requested : RequestValue) (file : List ℕ) (audit : AuditValue)
     (is : IsAuditOf requested file audit)
@@ -61,7 +64,8 @@ robot_stays requested file left audit agent is some deleted utf8 =
     let less = left_within (numbers_of is.needless.rules) file left deleted in
     let all_left = take_all file_limit left (omega arith) in
     subst₂ (HaveSameRobot agent) (sym whole) (sym all_left)
-    (same_robot file left is.needless.rules (grind arith) some
+    (same_robot file left (numbers_of is.needless.rules)
+    (subst (λ text. CanBeDeleted (numbers_of is.needless.rules) text) whole (is.needless_are.deletable some))
     deleted agent utf8)
 
 -- for each crawler, its name being UTF-8

@@ -1,5 +1,5 @@
 use Rattle.std.proofs.Common.{arith}
-use Rattle.robots_rules.proofs.CompareLemmas.{differ_at}
+use Rattle.robots_rules.proofs.ReplacedLemmas.{differ_at}
 use Rattle.robots_rules.proofs.needless.are_apart.Goals as goal
 
 pub returns-then-one-k : goal.returns-then-one-k

@@ -1,5 +1,5 @@
 use Rattle.std.proofs.Common.{◌≡◌, ◌<◌, ℕ, get_or}
-use Rattle.robots_rules.proofs.CompareLemmas.{IsPlain}
+use Rattle.robots_rules.proofs.ReplacedLemmas.{IsPlain}
 use Rattle.robots_rules.proofs.needless.are_apart.Given as goal
 
 abbrev pub invariant-loop-k : goal.invariant-loop-k

@@ -1,4 +1,4 @@
-use Rattle.robots_rules.proofs.CompareLemmas.{covers_by}
+use Rattle.robots_rules.proofs.ReplacedLemmas.{covers_by}
 use Rattle.robots_rules.proofs.needless.covers.Goals as goal
 
 pub returns-in-Same : goal.returns-in-Same
@@ -15,4 +15,4 @@ returns-in-Same c = λ _.
       c.in_ok-copied.ensures,
       c.in_ok-copied-2.ensures,
       c.in_ok-copied-3.ensures,
-    ) at c.in_ok-compare.ensures)
+    ) at c.in_ok-compared.ensures)

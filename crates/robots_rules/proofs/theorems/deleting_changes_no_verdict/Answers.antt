@@ -1,5 +1,5 @@
+use Rattle.robots_rules.proofs.CrawlerLemmas.{each_alike}
 use Rattle.robots_rules.proofs.theorems.deleting_changes_no_verdict.Goals as goal
 
 pub returns : goal.returns
-returns c = λ lines found are agent has text answer.
-    rw (are.deleted agent) (are.together agent has text answer)
+returns c = λ lines numbers are agent utf8. (each_alike numbers lines are agent utf8).verdicts
