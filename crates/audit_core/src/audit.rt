@@ -290,8 +290,8 @@ fn all_warnings<'a>(
     needless: &Needless,
 ) -> Result<Vec<Warning<'a>>, Error>
     requires { IsRead read.now }
-    ensures ok { IfOk result (λ found. AreFoundFor (is_none (requested_by request.now).agent)
-        (map (λ agent. agent.now) agents.now) (requested_by request.now).urls read.now.bytes.now
+    ensures ok { IfOk result (λ found. AreFoundFor (map (λ agent. agent.now) agents.now)
+        (requested_by request.now).urls read.now.bytes.now
         (map label_by_value read.now.labels.items) (numbers_of needless.now.rules) found.items) }
     ensures error { IfErr result (λ error. error ≡ Error.Memory) }
 {
