@@ -55,7 +55,8 @@ rule_above {agent} {lines} are placed has is =
         refl,
         record {
           value = holds.value;
-          line = (above.is ∙ sym line ∙ holds.line.0, captured_above (group_name agent lines) above holds.line.1);
+          line =
+              (above.is ∙ sym line ∙ holds.line.0, captured_above (group_name agent lines) above holds.line.1);
           utf8 = holds.utf8;
           pattern = holds.pattern;
         },
@@ -90,7 +91,10 @@ holds_among P numbers all number is = grind (arith, in_named)
 
 repeat_at : {lines : List LineValue} {position : ℕ} {line : LineValue} → slice_get lines position ≡ Some line
     → IsRepeat lines (position + 1) → (is_rule line ≡ true) × IsAbove lines position line
-repeat_at at is = grind arith
+repeat_at {position} at is =
+    let same : is.position ≡ position = omega (arith, is.number_is) in
+    let there = rw same at is.at in
+    let again = rw same at is.again in grind arith
 
 module _ (numbers : List ℕ) (lines : List LineValue)
     (repeats : (number : ℕ) → among numbers number ≡ true → IsRepeat lines number) where
