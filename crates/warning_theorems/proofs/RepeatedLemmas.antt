@@ -9,7 +9,7 @@ use Rattle.texting_robots.specs.Callers.{IsCaptured, IsDecidingLine, IsDenied, I
 use Rattle.texting_robots.specs.Callers.{group_name, placed_rules, rules_for, unplaced}
 use Rattle.texting_robots.specs.Callers.{file_bodies, file_limit, file_lines, lines_read}
 use Rattle.texting_robots.specs.{Theorems.Same}
-use Rattle.texting_robots.specs.Group.{is_agent, passes_at}
+use Rattle.texting_robots.specs.Group.{is_agent}
 use Rattle.robots_rules.specs.Blocks.{is_rule, keep_blocks_from, no_rule, with_rule, IsLeftOf}
 use Rattle.robots_rules.specs.Blocks.{begin_with_mark}
 use Rattle.robots_rules.proofs.LeftLemmas.{left_within, same_result}
