@@ -138,9 +138,9 @@ no_line : (line : Option ℕ) → MatchOption line ⊥ (λ number. ⊥) → ⊥
 no_line None says = says
 no_line (Some number) says = says
 
-module _ (all_groups : Bool) (agents urls : List (List ℕ)) (file : List ℕ) (labels : List Label) where
+module _ (agents urls : List (List ℕ)) (file : List ℕ) (labels : List Label) where
   abbrev Says : WarningValue → Type 0
-  Says = Means all_groups agents file labels
+  Says = Means agents file labels
 
   isnt_needless : (line : Option ℕ) (cause : Cause) (about : Option (List ℕ)) (detail : Option Detail)
       → Says (record { line = line; cause = cause; about = about; detail = detail })
@@ -170,7 +170,7 @@ module _ (all_groups : Bool) (agents urls : List (List ℕ)) (file : List ℕ) (
       (none_needless found (All-tail Says one found are))
 
   plain_so : (warning : WarningValue) → is_plain warning ≡ true
-      → IsSo all_groups agents file labels warning
+      → IsSo agents file labels warning
   plain_so warning plain isnt style = absurd (false≢true (rw (style, isnt) at plain))
 
   abbrev IsOverruling : ℕ → Type 0
@@ -180,11 +180,11 @@ module _ (all_groups : Bool) (agents urls : List (List ℕ)) (file : List ℕ) (
       → All (Contains old) (flat_map url_warnings urls)
       → HasClosed agents (lines_read file) old
       → HasOverruling (is_empty_at labels) agents (lines_read file) old
-      → AddsNeedless lines old new → AreFoundFor all_groups agents urls file labels lines new
+      → AddsNeedless lines old new → AreFoundFor agents urls file labels lines new
   all_found {lines} {old} {new} are told closed overruling all = record {
-    are = rw all.appended (All-append (IsSo all_groups agents file labels) old all.added
+    are = rw all.appended (All-append (IsSo agents file labels) old all.added
         (λ k other below _. are k other below)
-        (All-weaker IsPlain (IsSo all_groups agents file labels) plain_so all.added all.plain));
+        (All-weaker IsPlain (IsSo agents file labels) plain_so all.added all.plain));
     in_lines = ap (flat_map needless_line) all.appended ∙ flat_map-append needless_line old all.added
         ∙ ap (λ front. front ++ flat_map needless_line all.added) (none_needless old are) ∙ all.in_lines;
     told = λ k other below. rw all.appended (Contains-append_left old all.added _ (told k other below));
@@ -195,8 +195,8 @@ module _ (all_groups : Bool) (agents urls : List (List ℕ)) (file : List ℕ) (
   }
 
   pub chosen_so : (only ignored : List (List ℕ)) (lines : List ℕ) (found new : List WarningValue)
-      → AreFoundFor all_groups agents urls file labels lines found → new ≡ chosen only ignored found
-      → All (IsSo all_groups agents file labels) new
+      → AreFoundFor agents urls file labels lines found → new ≡ chosen only ignored found
+      → All (IsSo agents file labels) new
       × (flat_map needless_line new
       ≡ (if is_chosen only ignored (codes "needless-rule") then lines else []))
       × All (Contains new) (chosen only ignored (flat_map url_warnings urls))
@@ -207,7 +207,7 @@ module _ (all_groups : Bool) (agents urls : List (List ℕ)) (file : List ℕ) (
       let test = λ (warning : WarningValue). is_chosen only ignored (name_of warning.cause) in
       let shown = is_chosen only ignored (codes "needless-rule") in
       rw same (
-        All-filter test (IsSo all_groups agents file labels) found is.are,
+        All-filter test (IsSo agents file labels) found is.are,
         lines_kept test shown (λ warning needless. ap (is_chosen only ignored)
             (name_is warning.cause needless)) found
             ∙ ap (λ (lines : List ℕ). if shown then lines else []) is.in_lines,

@@ -1,6 +1,6 @@
 -- The audit of a file: its lines, what applies to each requested crawler, and the warnings.
 use Rattle.std.specs.Prelude.{◌≡◌, ◌⊎◌, ◌==◌, ℕ, All, Bool, Contains, false, true, List, [], ◌∷◌, ◌++◌}
-use Rattle.std.specs.Prelude.{Option, Some, None, bytes_eq, codes, filter, flat_map, if◌then◌else◌, is_none}
+use Rattle.std.specs.Prelude.{Option, Some, None, bytes_eq, codes, filter, flat_map, if◌then◌else◌}
 use Rattle.std.specs.Prelude.{is_some, length, map, take}
 use Rattle.std.specs.{List.AllZip, List.list_all, List.list_any, List.position_from, Str.is_utf8}
 use Rattle.texting_robots.specs.Callers.{IsFirstOverlong, IsRejected, Label, LineValue, PlacedRule, UserAgent}
@@ -129,10 +129,9 @@ abbrev pub rejects_some : List AgentValue → Bool
 rejects_some agents = list_any (λ (agent : AgentValue). is_some agent.rejected) agents
 
 -- of a warning about a needless rule, an audit says that its line is one of the found lines: see there
-abbrev pub IsSo : (all_groups : Bool) → (agents : List (List ℕ)) → (file : List ℕ) → List Label
-    → WarningValue → Type 0
-IsSo all_groups agents file labels warning =
-    is_needless warning.cause ≡ false → Means all_groups agents file labels warning
+abbrev pub IsSo : (agents : List (List ℕ)) → (file : List ℕ) → List Label → WarningValue → Type 0
+IsSo agents file labels warning =
+    is_needless warning.cause ≡ false → Means agents file labels warning
 
 -- the lines of needless rules, unless the request hides these warnings
 abbrev pub needless_shown : RequestValue → NeedlessValue → List ℕ
@@ -155,8 +154,8 @@ pub record IsAuditOf (requested : RequestValue) (file : List ℕ) (audit : Audit
   pub labels_are : audit.labels ≡ labels_requested requested file
   pub agents_are : AllZip (IsAgentAudit requested.urls (lines_read file))
       (agents_requested requested.agents (lines_read file)) audit.agents
-  pub warnings_are : All (IsSo (is_none requested.agent) (agents_requested requested.agents (lines_read file))
-      file (labels_requested requested file)) audit.warnings
+  pub warnings_are : All (IsSo (agents_requested requested.agents (lines_read file)) file
+      (labels_requested requested file)) audit.warnings
   pub in_lines : flat_map needless_line audit.warnings ≡ needless_shown requested needless
   pub told : All (Contains audit.warnings)
       (chosen requested.only requested.ignored (flat_map url_warnings requested.urls))

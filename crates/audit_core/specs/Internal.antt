@@ -32,9 +32,9 @@ pub record AddsNeedless (lines : List ℕ) (old new : List WarningValue) : Type 
   pub plain : All (λ warning. is_plain warning ≡ true) added
 
 -- all warnings about a file and a request, with those of needless rules in these lines
-pub record AreFoundFor (all_groups : Bool) (agents urls : List (List ℕ)) (file : List ℕ) (labels : List Label)
-    (lines : List ℕ) (found : List WarningValue) : Type 0 where
-  pub are : All (IsSo all_groups agents file labels) found
+pub record AreFoundFor (agents urls : List (List ℕ)) (file : List ℕ) (labels : List Label) (lines : List ℕ)
+    (found : List WarningValue) : Type 0 where
+  pub are : All (IsSo agents file labels) found
   pub in_lines : flat_map needless_line found ≡ lines
   pub told : All (Contains found) (flat_map url_warnings urls)
   pub closed : HasClosed agents (lines_read file) found

@@ -1,5 +1,5 @@
 //! The audit of a file: its lines, what applies to each requested crawler, and the warnings.
-ghost use Rattle.std.specs.Prelude.{◌≡◌, ◌⊎◌, IfErr, IfOk, codes, is_none, length, map};
+ghost use Rattle.std.specs.Prelude.{◌≡◌, ◌⊎◌, IfErr, IfOk, codes, length, map};
 ghost use Rattle.std.specs.Prelude.{ℕ, List, option_map};
 ghost use Rattle.std.specs.List.{AllZip};
 ghost use Rattle.texting_robots.specs.Callers.{label_by_value, lines_read};
@@ -293,8 +293,8 @@ fn all_warnings<'a>(
     needless: &Needless,
 ) -> Result<Vec<Warning<'a>>, Error>
     requires { IsRead read.now }
-    ensures ok { IfOk result (λ found. AreFoundFor (is_none (requested_by request.now).agent)
-        (map (λ agent. agent.now) agents.now) (requested_by request.now).urls read.now.bytes.now
+    ensures ok { IfOk result (λ found. AreFoundFor (map (λ agent. agent.now) agents.now)
+        (requested_by request.now).urls read.now.bytes.now
         (map label_by_value read.now.labels.items) (numbers_of needless.now.rules) found.items) }
     ensures error { IfErr result (λ error. error ≡ Error.Memory) }
 {

@@ -155,7 +155,7 @@ told_last old warning number line closing =
     let (k, below, at) = Contains-append_right old (warning ∷ []) warning (0, omega arith, refl) in
     (k, warning, below, at, (line, closing))
 
-module _ (all_groups : Bool) (asked : List (Bor (List ℕ))) (file : List ℕ) (labels : List Label) where
+module _ (asked : List (Bor (List ℕ))) (file : List ℕ) (labels : List Label) where
   closes_to : (number : ℕ) (about : Option (List ℕ))
       → Any (λ row. (row.0 ≡ Some number) × (about ≡ Some row.1.now)) (map (row_of (lines_of labels)) asked)
       → Closes (map (λ agent. agent.now) asked) labels number about
@@ -166,14 +166,14 @@ module _ (all_groups : Bool) (asked : List (Bor (List ℕ))) (file : List ℕ) (
       rw name (is.0, is.1 ∙ line)
 
   closed_means : (warning : WarningValue) → IsClosed (map (row_of (lines_of labels)) asked) warning
-      → Means all_groups (map (λ agent. agent.now) asked) file labels warning
+      → Means (map (λ agent. agent.now) asked) file labels warning
   closed_means warning is = so warning.cause warning.line warning.about warning.detail is.0 is.1
     where
       so : (cause : Cause) (line : Option ℕ) (about : Option (List ℕ)) (detail : Option Detail)
           → is_closing_cause cause ≡ true
           → MatchOption line ⊥ (λ number. Any (λ row. (row.0 ≡ Some number) × (about ≡ Some row.1.now))
           (map (row_of (lines_of labels)) asked))
-          → Means all_groups (map (λ agent. agent.now) asked) file labels
+          → Means (map (λ agent. agent.now) asked) file labels
           (record { line = line; cause = cause; about = about; detail = detail })
       so ClosesSite (Some number) about detail closing is = λ isnt. inr (closes_to number about is)
       so ClosesEverything (Some number) about detail closing is = λ isnt. inr (closes_to number about is)
@@ -181,9 +181,9 @@ module _ (all_groups : Bool) (asked : List (Bor (List ℕ))) (file : List ℕ) (
       so cause line about detail closing is = absurd (false≢true closing)
 
   pub all_mean : (found : List WarningValue) → All (IsClosed (map (row_of (lines_of labels)) asked)) found
-      → All (Means all_groups (map (λ agent. agent.now) asked) file labels) found
+      → All (Means (map (λ agent. agent.now) asked) file labels) found
   all_mean = All-weaker (IsClosed (map (row_of (lines_of labels)) asked))
-      (Means all_groups (map (λ agent. agent.now) asked) file labels) closed_means
+      (Means (map (λ agent. agent.now) asked) file labels) closed_means
 
 -- ---- Sets of names in lower case.
 

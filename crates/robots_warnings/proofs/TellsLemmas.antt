@@ -57,20 +57,18 @@ each_stays is_reason IsIn old new kept has number is =
     let (place, within, found) = kept warning about.1 (k, below, at) in
     (place, warning, within, found, about)
 
-abbrev ToldOf : (all_groups : Bool) → (agents : List (Bor (List ℕ))) → FileRead → (found : List WarningValue)
-    → Type 0
-ToldOf all_groups agents read found =
+abbrev ToldOf : (agents : List (Bor (List ℕ))) → FileRead → (found : List WarningValue) → Type 0
+ToldOf agents read found =
     let names = map (λ agent. agent.now) agents in
     let labels = map label_by_value read.labels.items in
-    All (Means all_groups names read.bytes.now labels) found × HasClosed names (file_lines read.site) found
+    All (Means names read.bytes.now labels) found × HasClosed names (file_lines read.site) found
     × HasOverruling (is_empty_at labels) names (file_lines read.site) found
 
 -- what is told of a request is told of the same in other words
-pub told_of : (known : Known) {all_groups : Bool} {agents : List (Bor (List ℕ))} {read : FileRead}
-    (found : List WarningValue) → known.all_groups ≡ all_groups → known.agents.now ≡ agents
-    → known.read.now ≡ read
-    → ToldOf known.all_groups known.agents.now known.read.now found → ToldOf all_groups agents read found
-told_of known found groups are is told = rw (sym groups, sym are, sym is) told
+pub told_of : (known : Known) {agents : List (Bor (List ℕ))} {read : FileRead} (found : List WarningValue)
+    → known.agents.now ≡ agents → known.read.now ≡ read
+    → ToldOf known.agents.now known.read.now found → ToldOf agents read found
+told_of known found are is told = rw (sym are, sym is) told
 
 -- each entry of a map has its warning
 pub each_at : {V : Type 0} (is_reason : Cause → Bool) (warning_of : ℕ × V → WarningValue)
@@ -96,9 +94,9 @@ pub lines_are : (read : FileRead) → IsRead read
     → file_lines read.site ≡ lines_of (map label_by_value read.labels.items)
 lines_are read is = ap file_lines is.site_is ∙ sym is.lines_are
 
-module _ (all_groups : Bool) (agents : List (List ℕ)) (file : List ℕ) (labels : List Label) where
+module _ (agents : List (List ℕ)) (file : List ℕ) (labels : List Label) where
   abbrev So : WarningValue → Type 0
-  So = Means all_groups agents file labels
+  So = Means agents file labels
 
   style_means : (warning : WarningValue) → is_style warning.cause ≡ true → So warning
   style_means warning is isnt = absurd (false≢true (sym isnt ∙ is))

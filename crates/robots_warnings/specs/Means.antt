@@ -12,7 +12,7 @@ use Rattle.robots_warnings.specs.Contents.{comment_of, is_cut_to_root, tail_of}
 use Rattle.robots_warnings.specs.Positions.{is_above_agents, later_delays}
 use Rattle.robots_warnings.specs.Rules.{begins_oddly, has_dollar_inside}
 use Rattle.robots_warnings.specs.{Conflicts.IsConflict, Conflicts.is_empty_at, Crawlers.IsPastLimit}
-use Rattle.robots_warnings.specs.{Facts.is_too_large, File.lines_of, Message.WarningValue, Repeated.repeated}
+use Rattle.robots_warnings.specs.{Facts.is_too_large, File.lines_of, Message.WarningValue, Repeated.IsRepeat}
 
 -- nothing is stated of a warning for this reason: it is about style, or `--explain` prints as proved what its
 -- absence says, or what holds of such a rule by itself
@@ -72,33 +72,32 @@ Closes agents labels number about = MatchOption about ⊥
     (λ agent. Contains agents agent × (line_closing_site (lines_of labels) agent ≡ Some number))
 
 -- what a warning says of more than its line, if it isn't about style
-abbrev pub Says : (all_groups : Bool) → (agents : List (List ℕ)) → (file : List ℕ) → List Label
-    → Cause → (number : ℕ) → (about : Option (List ℕ)) → Option Detail → Type 0
-Says all_groups agents file labels cause.GroupPastSizeLimit number about detail =
+abbrev pub Says : (agents : List (List ℕ)) → (file : List ℕ) → List Label → Cause → (number : ℕ)
+    → (about : Option (List ℕ)) → Option Detail → Type 0
+Says agents file labels cause.GroupPastSizeLimit number about detail =
     IsPastLimit (lines_of labels) file number
-Says all_groups agents file labels cause.AllowedAndDisallowed number about detail =
+Says agents file labels cause.AllowedAndDisallowed number about detail =
     (other : ℕ) × (detail ≡ Some (Line other))
     × Any (λ agent. IsConflict (is_empty_at labels) agent (lines_of labels) number other) agents
-Says all_groups agents file labels cause.TwoDelays number about detail =
+Says agents file labels cause.TwoDelays number about detail =
     Contains (later_delays labels) number × (is_too_large file ≡ false)
-Says all_groups agents file labels cause.TwoDelaysPastLimit number about detail =
+Says agents file labels cause.TwoDelaysPastLimit number about detail =
     Contains (later_delays labels) number
-Says all_groups agents file labels cause.ReplacesStar number about detail =
+Says agents file labels cause.ReplacesStar number about detail =
     IsReplacing agents (lines_of labels) (lines_of labels) number
     × (detail ≡ Some (Rules (star_count (lines_of labels))))
-Says all_groups agents file labels cause.RepeatedRule number about detail =
-    Contains (repeated all_groups labels) number × (is_too_large file ≡ false)
-Says all_groups agents file labels cause.RepeatedPastLimit number about detail =
-    Contains (repeated all_groups labels) number
-Says all_groups agents file labels cause.ClosesSite number about detail =
+Says agents file labels cause.RepeatedRule number about detail =
+    IsRepeat (lines_of labels) number × (is_too_large file ≡ false)
+Says agents file labels cause.RepeatedPastLimit number about detail =
+    IsRepeat (lines_of labels) number
+Says agents file labels cause.ClosesSite number about detail =
     Closes agents labels number about
-Says all_groups agents file labels cause.ClosesEverything number about detail =
+Says agents file labels cause.ClosesEverything number about detail =
     Closes agents labels number about
-Says all_groups agents file labels other number about detail = ⊥
+Says agents file labels other number about detail = ⊥
 
 -- a warning about style, or what it says is so
-abbrev pub Means : (all_groups : Bool) → (agents : List (List ℕ)) → (file : List ℕ) → List Label
-    → WarningValue → Type 0
-Means all_groups agents file labels warning =
+abbrev pub Means : (agents : List (List ℕ)) → (file : List ℕ) → List Label → WarningValue → Type 0
+Means agents file labels warning =
     is_style warning.cause ≡ false → IsOfLine labels warning ⊎ MatchOption warning.line ⊥
-    (λ number. Says all_groups agents file labels warning.cause number warning.about warning.detail)
+    (λ number. Says agents file labels warning.cause number warning.about warning.detail)

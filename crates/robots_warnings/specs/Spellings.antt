@@ -1,8 +1,6 @@
 -- Rules with percent escapes that a spelling doesn't have, and that their group lacks in that spelling.
-use Rattle.std.specs.Prelude.{[], ℕ, ◌+◌, ◌*◌, ◌==◌, Bool, false, not, ◌&&◌, List, ◌∷◌, ◌++◌, bytes_eq}
-use Rattle.std.specs.Prelude.{if◌then◌else◌}
+use Rattle.std.specs.Prelude.{[], ℕ, ◌+◌, ◌*◌, ◌==◌, Bool, ◌&&◌, List, ◌∷◌, ◌++◌, if◌then◌else◌}
 use Rattle.std.specs.{Char.digit_value, Char.is_ascii_hexdigit, Char.to_ascii_uppercase, Str.byte}
-use Rattle.texting_robots.specs.Callers.{Allow, Disallow, LineValue}
 use Rattle.robots_warnings.specs.declared.spellings.Spelling.{Spelling}
 use Rattle.robots_warnings.specs.declared.spellings.Spelling.TheVariants.{Plain, Standard}
 use Rattle.robots_warnings.specs.{Rules.is_delimiter}
@@ -30,8 +28,3 @@ spelled spelling (b ∷ c ∷ []) = b ∷ c ∷ []
 spelled spelling (b ∷ high ∷ low ∷ value) =
     if is_escape b high low then spelled_escape spelling high low ++ spelled spelling value
     else b ∷ spelled spelling (high ∷ low ∷ value)
-
-abbrev pub is_rule_with : Bool → List ℕ → LineValue → Bool
-is_rule_with is_allow value (Allow other) = is_allow && bytes_eq other value
-is_rule_with is_allow value (Disallow other) = not is_allow && bytes_eq other value
-is_rule_with is_allow value _ = false

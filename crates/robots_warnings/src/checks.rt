@@ -1,6 +1,4 @@
 //! The conditions of warnings about a file, a line and its position, grouped by what they inspect.
-ghost use Rattle.std.specs.Prelude.{◌≡◌};
-ghost use Rattle.robots_warnings.specs.{File.is_in_scope_of};
 
 use crate::contents::{has_odd_comment, has_odd_space, is_cut_short, is_cut_to_root, is_emptied};
 use crate::facts::FileFacts;
@@ -90,9 +88,7 @@ pub(crate) fn user_agent_checks(value: &[u8]) -> [Check; 2] {
     ]
 }
 
-pub(crate) fn is_in_scope_of(all_groups: bool, membership: Membership) -> bool
-    ensures { result ≡ is_in_scope_of all_groups membership }
-{
+pub(crate) fn is_in_scope_of(all_groups: bool, membership: Membership) -> bool {
     all_groups || membership == Membership::Own
 }
 

@@ -60,7 +60,6 @@ pub(crate) fn known_of<'k, 'a>(
 ) -> Result<Known<'k, 'a>, AllocError>
     requires { IsRead read.now }
     ensures known { IfOk result IsKnown }
-    ensures all_groups { IfOk result (λ known. known.all_groups ≡ all_groups) }
     ensures agents { IfOk result (λ known. known.agents.now ≡ agents.now) }
     ensures read { IfOk result (λ known. known.read.now ≡ read.now) }
 {

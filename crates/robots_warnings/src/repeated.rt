@@ -1,8 +1,9 @@
 //! Rules that repeat a rule above them in their group.
-ghost use Rattle.std.specs.Prelude.{[], ◌≡◌, All, Contains, IfOk, false, true, map};
-ghost use Rattle.texting_robots.specs.{Callers.by_value, Callers.label_by_value, Group.is_agent};
+ghost use Rattle.std.specs.Prelude.{◌≡◌, ℕ, All, IfOk, List, false, true, map};
+ghost use Rattle.texting_robots.specs.Callers.{LineValue, by_value, label_by_value};
+ghost use Rattle.texting_robots.specs.{Group.is_agent};
 ghost use Rattle.robots_warnings.specs.Internal.Values.{AddsLine, HasSeen};
-ghost use Rattle.robots_warnings.specs.Repeated.{is_checked, repeated};
+ghost use Rattle.robots_warnings.specs.{File.lines_of, Repeated.IsRepeat};
 
 use crate::checks::is_in_scope_of;
 use crate::empty_disallows::is_empty_disallow;
@@ -21,7 +22,7 @@ pub(crate) struct Seen<'a> {
 }
 
 pub(crate) fn nothing<'a>(alloc: Global) -> Seen<'a>
-    ensures { HasSeen result [] }
+    ensures { (lines : List LineValue) (position : ℕ) → HasSeen result lines position }
 {
     Seen {
         allows: HashSet::new(alloc),
@@ -54,9 +55,7 @@ fn add_line<'a>(alloc: Global, seen: &mut Seen<'a>, line: Line<'a>) -> Result<bo
     }
 }
 
-fn is_checked(all_groups: bool, membership: Membership) -> bool
-    ensures { result ≡ is_checked all_groups membership }
-{
+fn is_checked(all_groups: bool, membership: Membership) -> bool {
     is_in_scope_of(all_groups, membership) && membership != Membership::Ungrouped
 }
 
@@ -67,7 +66,7 @@ fn is_written_allow(labeled: &LabeledLine<'_>) -> bool {
 
 /// Whether this repeats a rule and is checked, and isn't an Allow of `/` that repeats only empty Disallows.
 fn is_reported(all_groups: bool, repeats: bool, has_allow: bool, labeled: &LabeledLine<'_>) -> bool
-    ensures { result ≡ true → (repeats ≡ true) × (is_checked all_groups labeled.now.membership ≡ true) }
+    ensures { result ≡ true → repeats ≡ true }
 {
     repeats
         && is_checked(all_groups, labeled.membership)
@@ -82,15 +81,15 @@ pub(crate) fn repeated(
     labels: &[LabeledLine<'_>],
 ) -> Result<Vec<usize>, AllocError>
     ensures { IfOk result
-        (λ found. All (Contains (repeated all_groups (map label_by_value labels.now))) found.items) }
+        (λ found. All (IsRepeat (lines_of (map label_by_value labels.now))) found.items) }
 {
     let mut seen = nothing(alloc);
     let mut found = Vec::new(alloc);
     let mut has_allow = false;
-    for labeled in labels {
+    for (index, labeled) in labels.iter().enumerate() {
         let repeats = add_line(alloc, &mut seen, labeled.line)?;
         let is = is_reported(all_groups, repeats, has_allow, labeled);
-        push_if(&mut found, is, labeled.number)?;
+        push_if(&mut found, is, index + 1)?;
         let is_group = matches!(labeled.line, Line::UserAgent(_));
         has_allow = is_written_allow(labeled) || has_allow && !is_group;
     }

@@ -64,7 +64,7 @@ pub fn warnings<'a>(
     read: &FileRead<'_>,
 ) -> Result<Vec<Warning<'a>>, AllocError>
     requires { IsRead read.now }
-    ensures so { IfOk result (λ found. All (Means all_groups (map (λ agent. agent.now) agents.now)
+    ensures so { IfOk result (λ found. All (Means (map (λ agent. agent.now) agents.now)
         read.now.bytes.now (map label_by_value read.now.labels.items)) found.items) }
     ensures given { IfOk result (λ found. All (Contains found.items)
         (flat_map url_warnings (map (λ url. url.now) urls.now))) }

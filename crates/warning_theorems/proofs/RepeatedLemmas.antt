@@ -1,27 +1,22 @@
 -- A rule with `repeated-rule` decides no verdict, and can be deleted.
 use mathlib.Core.Logic.Iff
-use Rattle.std.proofs.lemmas.{Slice.Eq.bytes_eq-Decides}
 use Rattle.std.proofs.lemmas.Bool.{cases_Bool, false_from_ne_true}
-use Rattle.std.proofs.Common.{◌≡◌, ◌+◌, ◌⊎◌, ℕ, suc, zero, Bool, true, false, List, [], ◌∷◌, ◌++◌, Contains}
+use Rattle.std.proofs.Common.{◌≡◌, ◌∙◌, ◌+◌, ℕ, suc, zero, Bool, true, false, List, [], ◌∷◌, Contains}
 use Rattle.std.proofs.Common.{Some, arith, if◌then◌else◌, inl, inr, refl, slice_get, subst, sym, ◌<◌}
-use Rattle.std.proofs.Common.{◌≤◌, ◌↔◌, All, Option, length, subst₂, take_all}
-use Rattle.texting_robots.specs.Callers.{AreLabelsOf, Label, LineValue, Allow, AreRulesFor, Disallow, Rule}
+use Rattle.std.proofs.Common.{◌≤◌, ◌↔◌, All, length, subst₂, take_all}
+use Rattle.texting_robots.specs.Callers.{LineValue, AreRulesFor, Rule}
 use Rattle.texting_robots.specs.Callers.{IsCaptured, IsDecidingLine, IsDenied, IsVerdict, PlacedRule}
 use Rattle.texting_robots.specs.Callers.{group_name, placed_rules, rules_for, unplaced}
 use Rattle.texting_robots.specs.Callers.{file_bodies, file_limit, file_lines, lines_read}
 use Rattle.texting_robots.specs.{Theorems.Same}
-use Rattle.texting_robots.specs.Group.{is_agent, passes_at}
+use Rattle.texting_robots.specs.Group.{is_agent}
 use Rattle.robots_rules.specs.Blocks.{is_rule, keep_blocks_from, no_rule, with_rule, IsLeftOf}
 use Rattle.robots_rules.specs.Blocks.{begin_with_mark}
 use Rattle.robots_rules.proofs.LeftLemmas.{left_within, same_result}
 use Rattle.robots_rules.specs.Needless.{lines_without, without}
 use Rattle.robots_rules.proofs.TogetherLemmas.{in_named, unplaced_of, verdicts, in_filter, to_filter}
 use Rattle.robots_rules.proofs.BlockLemmas.{among, deleted}
-use Rattle.robots_warnings.specs.Repeated.{above_next, is_repeated, repeated, repeated_from}
-use Rattle.robots_warnings.specs.{File.lines_of, Spellings.is_rule_with}
-use Rattle.std.specs.{List.list_any}
-use Rattle.std.proofs.lemmas.List.{Elements.Contains-push_cases}
-use Rattle.std.proofs.lemmas.List.{Folds.Any-from_list_any}
+use Rattle.robots_warnings.specs.Repeated.{IsAbove, IsRepeat}
 use Rattle.texting_robots.proofs.Shared.{placed_of, computed_are}
 
 pub record IsFrom (lines : List LineValue) (position : ℕ) (rest : List LineValue) : Type 0 where
@@ -40,103 +35,7 @@ module _ {lines : List LineValue} {position : ℕ} {line : LineValue} {rest : Li
     each = λ i. subst (λ n. slice_get lines n ≡ slice_get rest i) (omega arith) (from.each (suc i));
   }
 
-pub record AreFrom (lines : List LineValue) (position : ℕ) (labels : List Label) : Type 0 where
-  pub numbers : (i : ℕ) (label : Label) → slice_get labels i ≡ Some label → label.number ≡ position + i + 1
-  pub from : IsFrom lines position (lines_of labels)
-
-pub labels_next : {lines : List LineValue} {position : ℕ} {label : Label} {labels : List Label}
-    → AreFrom lines position (label ∷ labels) → AreFrom lines (position + 1) labels
-labels_next are = record {
-  numbers = λ i later at. omega (arith, are.numbers (suc i) later at);
-  from = from_next are.from;
-}
-
-pub first_or_later : (is : Bool) (first number : ℕ) (later : List ℕ)
-    → Contains ((if is then first ∷ [] else []) ++ later) number
-    → ((is ≡ true) × (first ≡ number)) ⊎ Contains later number
-first_or_later is first number later has = grind arith
-
--- the line is above this position, with no user-agent line from there on to the position
-record IsAbove (lines : List LineValue) (position : ℕ) (line : Option LineValue) : Type 0 where
-  other : ℕ
-  above : other < position
-  is : slice_get lines other ≡ line
-  no_agent : (k : ℕ) → other ≤ k → k < position → passes_at is_agent lines k ≡ false
-
-abbrev IsRepeat : List LineValue → ℕ → Type 0
-IsRepeat lines number = (position : ℕ) → number ≡ position + 1
-    → (passes_at is_rule lines position ≡ true) × IsAbove lines position (slice_get lines position)
-
-rule_is : (is_allow : Bool) (value : List ℕ) (line : LineValue) → is_rule_with is_allow value line ≡ true
-    → line ≡ (if is_allow then Allow value else Disallow value)
-rule_is is_allow value line is = grind (arith, bytes_eq-Decides)
-
-pub is_listed : (is_allow : Bool) (value : List ℕ) (above : List LineValue)
-    → list_any (is_rule_with is_allow value) above ≡ true
-    → Contains above (if is_allow then Allow value else Disallow value)
-is_listed is_allow value above is = grind (arith, Any-from_list_any, rule_is)
-
-repeats_one : (above : List LineValue) (line : LineValue) → is_repeated above line ≡ true
-    → (is_rule line ≡ true) × Contains above line
-repeats_one above (Allow value) is = (refl, is_listed true value above is)
-repeats_one above (Disallow value) is = (refl, is_listed false value above is)
-repeats_one above line is = cc
-
-module _ {lines : List LineValue} {position : ℕ} {line : LineValue} {rest : List LineValue}
-    (from : IsFrom lines position (line ∷ rest)) where
-  above_next_is : is_agent line ≡ false → (above : List LineValue)
-      → ((other : LineValue) → Contains above other → IsAbove lines position (Some other))
-      → (other : LineValue) → Contains (above ++ line ∷ []) other → IsAbove lines (position + 1) (Some other)
-  above_next_is isnt above group other has =
-      let passes : passes_at is_agent lines position ≡ false = rw (here from) isnt in
-      elim (Contains-push_cases above line other has) [
-        | inl older ↦
-            let is = group other older in grind arith
-        | inr same ↦ (grind (arith, here))
-      ]
-
--- the labels of the lines from a position on, and the lines above it in its group
-record IsReached (lines : List LineValue) (position : ℕ) (above : List LineValue) (labels : List Label)
-    : Type 0 where
-  labeled : AreFrom lines position labels
-  group : (line : LineValue) → Contains above line → IsAbove lines position (Some line)
-
-module _ {lines above : List LineValue} {position : ℕ} {label : Label} {labels : List Label}
-    (reached : IsReached lines position above (label ∷ labels)) where
-  first_repeat : is_repeated above label.line ≡ true → IsRepeat lines label.number
-  first_repeat is place number_is =
-      let (rule, listed) = repeats_one above label.line is in
-      let same : place ≡ position = omega (arith, reached.labeled.numbers 0 label refl) in
-      rw (same, here reached.labeled.from) (rule, reached.group label.line listed)
-
-  next : IsReached lines (position + 1) (above_next above label.line) labels
-  next = record {
-    labeled = labels_next reached.labeled;
-    group = elim (cases_Bool (is_agent label.line)) [
-      | inl is ↦ grind arith
-      | inr isnt ↦ rw isnt (above_next_is reached.labeled.from isnt above reached.group)
-    ];
-  }
-
-repeat_from : (all_groups : Bool) (lines : List LineValue) (position : ℕ) (above : List LineValue)
-    (labels : List Label) (number : ℕ) → IsReached lines position above labels
-    → Contains (repeated_from all_groups above labels) number → IsRepeat lines number
-repeat_from all_groups lines position above [] number reached (k, below, at) = absurd (omega arith)
-repeat_from all_groups lines position above (label ∷ labels) number reached has =
-    let group = above_next above label.line in
-    (grind (
-      arith,
-      first_repeat,
-      repeat_from all_groups lines (position + 1) group labels number
-          (next reached),
-    ))
-
-is_repeat : {name : List ℕ} {lines : List LineValue} {labels : List Label} → AreLabelsOf name lines labels
-    → (all_groups : Bool) (number : ℕ) → Contains (repeated all_groups labels) number → IsRepeat lines number
-is_repeat {lines} {labels} are all_groups number = repeat_from all_groups lines 0 [] labels number
-    (grind arith)
-
-captured_above : {lines : List LineValue} {position : ℕ} {line : Option LineValue} (name : List ℕ)
+captured_above : {lines : List LineValue} {position : ℕ} {line : LineValue} (name : List ℕ)
     (is : IsAbove lines position line) → IsCaptured name lines position → IsCaptured name lines is.other
 captured_above name is h = grind arith
 
@@ -146,34 +45,34 @@ rule_above : {agent : List ℕ} {lines : List LineValue} {rules : List PlacedRul
     → (line : ℕ) × (line < placed.line) × Contains rules (record { rule = placed.rule; line = line })
 rule_above {agent} {lines} are placed has is =
     let (position, number_is, holds) = (are.held placed).0 has in
-    let (rule, above) = is position number_is in (
+    let same : is.position ≡ position = omega (arith, is.number_is) in
+    let line = rw same at is.at in
+    let above = rw same at is.again in (
       above.other + 1,
-      omega arith,
+      omega (arith, above.above),
       (are.held _).1 (
         above.other,
         refl,
         record {
           value = holds.value;
-          line = (cc, captured_above (group_name agent lines) above holds.line.1);
+          line =
+              (above.is ∙ sym line ∙ holds.line.0, captured_above (group_name agent lines) above holds.line.1);
           utf8 = holds.utf8;
           pattern = holds.pattern;
         },
       ),
     )
 
-pub repeated_never_decides : (all_groups : Bool) (name agent : List ℕ) (lines : List LineValue)
-    (labels : List Label) (rules : List PlacedRule) (text : List ℕ) (number : ℕ)
-    → AreLabelsOf name lines labels → Contains (repeated all_groups labels) number
-    → AreRulesFor agent lines rules → ¬ IsDecidingLine rules text (Some number)
-repeated_never_decides all_groups name agent lines labels rules text number labeled has are
-    (differs, placed, decides, at) =
-    let is = subst (IsRepeat lines) (sym at) (is_repeat labeled all_groups number has) in
-    let (line, above, listed) = rule_above are placed decides.listed is in
+pub repeated_never_decides : (agent : List ℕ) (lines : List LineValue) (rules : List PlacedRule)
+    (text : List ℕ) (number : ℕ) → IsRepeat lines number → AreRulesFor agent lines rules
+    → ¬ IsDecidingLine rules text (Some number)
+repeated_never_decides agent lines rules text number is are (differs, placed, decides, at) =
+    let (line, above, listed) = rule_above are placed decides.listed (subst (IsRepeat lines) (sym at) is) in
     decides.best _ listed decides.matches (inr (refl, inr (refl, above)))
 
 abbrev IsFollowed : List LineValue → ℕ → Bool → Type 0
 IsFollowed lines position has_rule =
-    (line : LineValue) → is_rule line ≡ true → IsAbove lines position (Some line) → has_rule ≡ true
+    (line : LineValue) → is_rule line ≡ true → IsAbove lines position line → has_rule ≡ true
 
 never_lost : (has_rule : Bool) → (if has_rule then with_rule no_rule false else no_rule).is_lost ≡ false
 never_lost true = refl
@@ -190,6 +89,13 @@ pub holds_among : (P : ℕ → Type 0) (numbers : List ℕ) → All P numbers �
     → among numbers number ≡ true → P number
 holds_among P numbers all number is = grind (arith, in_named)
 
+repeat_at : {lines : List LineValue} {position : ℕ} {line : LineValue} → slice_get lines position ≡ Some line
+    → IsRepeat lines (position + 1) → (is_rule line ≡ true) × IsAbove lines position line
+repeat_at {position} at is =
+    let same : is.position ≡ position = omega (arith, is.number_is) in
+    let there = rw same at is.at in
+    let again = rw same at is.again in grind arith
+
 module _ (numbers : List ℕ) (lines : List LineValue)
     (repeats : (number : ℕ) → among numbers number ≡ true → IsRepeat lines number) where
   keeps : (position : ℕ) (rest : List LineValue) (has_rule : Bool) → IsFrom lines position rest
@@ -202,7 +108,7 @@ module _ (numbers : List ℕ) (lines : List LineValue)
       let later = λ (has : Bool). keeps (position + 1) rest has (from_next from) in
       let ruled = later true (λ _ _ _. refl) in
       let repeat = λ (goes : among numbers (position + 1) ≡ true).
-      rw at at (repeats (position + 1) goes position refl) in
+      repeat_at at (repeats (position + 1) goes) in
       elim (cases_Bool (is_rule line)) [
         | inl rule ↦ (grind arith)
         | inr isnt ↦
@@ -243,24 +149,18 @@ module _ (numbers : List ℕ) (lines : List LineValue)
           subst (Contains (unplaced rules)) is (unplaced_of rules placed (in_filter _ rules placed listed).0),
     )
 
-verdict_as_before : (all_groups : Bool) (name agent : List ℕ) (lines : List LineValue)
-    (labels : List Label) (numbers text : List ℕ) (answer : Bool) → AreLabelsOf name lines labels
-    → All (Contains (repeated all_groups labels)) numbers
+verdict_as_before : (agent : List ℕ) (lines : List LineValue) (numbers text : List ℕ) (answer : Bool)
+    → All (IsRepeat lines) numbers
     → IsVerdict (rules_for agent lines) text answer
     ↔ IsVerdict (rules_for agent (lines_without numbers lines)) text answer
-verdict_as_before all_groups name agent lines labels numbers text answer labeled all =
-    let none_above : IsFollowed lines 0 false = grind arith in
-    let blocks = keeps numbers lines repeats 0 lines false (all_from lines) none_above in
+verdict_as_before agent lines numbers text answer all =
+    let repeats = holds_among (IsRepeat lines) numbers all in
+    let blocks = keeps numbers lines repeats 0 lines false (all_from lines) (grind arith) in
     let same = same_rules numbers lines repeats agent in
     rw (deleted numbers lines blocks agent) (verdicts _ _ text (
       denied_by_same _ _ text same,
       denied_by_same _ _ text (λ rule. ((same rule).1, (same rule).0)),
     ) answer)
-  where
-    repeats : (number : ℕ) → among numbers number ≡ true → IsRepeat lines number
-    repeats number is =
-        is_repeat labeled all_groups number
-        (holds_among (Contains (repeated all_groups labels)) numbers all number is)
 
 -- a file of at most 512,000 bytes, and what is left of it, for a crawler
 pub same_left : (numbers file left agent : List ℕ) → length file ≤ file_limit → IsLeftOf numbers file left
@@ -273,15 +173,11 @@ same_left numbers file left agent short is front =
     (sym (take_all file_limit file short)) (sym (take_all file_limit left (omega arith)))
     (same_result numbers file left is front agent)
 
-pub repeated_can_be_deleted : (all_groups : Bool) (name agent file left : List ℕ) (labels : List Label)
-    (numbers text : List ℕ) (answer : Bool) → length file ≤ file_limit
-    → AreLabelsOf name (lines_read file) labels → All (Contains (repeated all_groups labels)) numbers
+pub repeated_can_be_deleted : (agent file left numbers text : List ℕ) (answer : Bool)
+    → length file ≤ file_limit → All (IsRepeat (lines_read file)) numbers
     → IsLeftOf numbers file left → begin_with_mark (lines_without numbers (file_bodies file)) ≡ false
     → IsVerdict (rules_for agent (lines_read file)) text answer
     ↔ IsVerdict (rules_for agent (lines_read left)) text answer
-repeated_can_be_deleted all_groups name agent file left labels numbers text answer short labeled all is
-    front =
+repeated_can_be_deleted agent file left numbers text answer short all is front =
     let same = (same_left numbers file left agent short is front).0.verdict text answer in
-    Iff.trans
-    (verdict_as_before all_groups name agent (lines_read file) labels numbers text answer labeled all)
-    (same.1, same.0)
+    Iff.trans (verdict_as_before agent (lines_read file) numbers text answer all) (same.1, same.0)

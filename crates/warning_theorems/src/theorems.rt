@@ -22,7 +22,7 @@ ghost use Rattle.robots_warnings.specs.Closed.{line_closing_site, opened_paths, 
 ghost use Rattle.robots_warnings.specs.Closed.{IsReplacing, star_count};
 ghost use Rattle.robots_warnings.specs.{Contents.is_cut_to_root, Crawlers.IsPastLimit};
 ghost use Rattle.robots_warnings.specs.Positions.{is_above_agents, later_delays};
-ghost use Rattle.robots_warnings.specs.{Repeated.repeated, Targets.has_odd_target};
+ghost use Rattle.robots_warnings.specs.{Repeated.IsRepeat, Targets.has_odd_target};
 ghost use Rattle.robots_warnings.specs.{Targets.written_target, Urls.is_unparsable, Urls.begins_as_url};
 ghost use Rattle.robots_warnings.specs.{Rules.begins_oddly};
 ghost use Rattle.robots_warnings.specs.{Rules.has_dollar_inside};
@@ -159,11 +159,10 @@ pub fn closes_everything()
         → IsDenied (unplaced rules) (byte "/" ∷ text) }
 {}
 
-/// A rule with `repeated-rule` decides no verdict, for any crawler. The labels may be those for another one.
+/// A rule with `repeated-rule` decides no verdict, for any crawler.
 pub fn repeated_rule()
-    ensures { (all_groups : Bool) (name agent : List ℕ) (lines : List LineValue) (labels : List Label)
-        (rules : List PlacedRule) (text : List ℕ) (number : ℕ) → AreLabelsOf name lines labels
-        → Contains (repeated all_groups labels) number → AreRulesFor agent lines rules
+    ensures { (agent : List ℕ) (lines : List LineValue) (rules : List PlacedRule) (text : List ℕ) (number : ℕ)
+        → IsRepeat lines number → AreRulesFor agent lines rules
         → ¬ IsDecidingLine rules text (Some number) }
 {}
 
@@ -171,9 +170,8 @@ pub fn repeated_rule()
 /// with their line ends, every verdict stays the same, for any crawler, unless the first line that stays
 /// begins with a byte of the byte order mark.
 pub fn repeated_rules_can_be_deleted()
-    ensures { (all_groups : Bool) (name agent file left : List ℕ) (labels : List Label)
-        (numbers text : List ℕ) (answer : Bool) → length file ≤ file_limit
-        → AreLabelsOf name (lines_read file) labels → All (Contains (repeated all_groups labels)) numbers
+    ensures { (agent file left numbers text : List ℕ) (answer : Bool) → length file ≤ file_limit
+        → All (IsRepeat (lines_read file)) numbers
         → IsLeftOf numbers file left → begin_with_mark (lines_without numbers (file_bodies file)) ≡ false
         → IsVerdict (rules_for agent (lines_read file)) text answer
         ↔ IsVerdict (rules_for agent (lines_read left)) text answer }

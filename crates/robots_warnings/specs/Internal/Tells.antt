@@ -11,7 +11,7 @@ use Rattle.robots_warnings.specs.{declared.warning.Detail.Detail, Message.Warnin
 use Rattle.robots_warnings.specs.{Means.Says}
 use Rattle.robots_warnings.specs.Closed.{IsReplacing, star_count}
 use Rattle.robots_warnings.specs.{Crawlers.IsPastLimit, Facts.is_too_large, File.lines_of}
-use Rattle.robots_warnings.specs.{Positions.later_delays, Repeated.repeated}
+use Rattle.robots_warnings.specs.{Positions.later_delays, Repeated.IsRepeat}
 
 -- the old warnings, and others, all of which are so
 pub record Tells (IsSo : WarningValue → Type 0) (old new : List WarningValue) : Type 0 where
@@ -26,10 +26,10 @@ labels_in known = map label_by_value known.read.now.labels.items
 
 -- a warning about style, or what it says of the file is so
 abbrev pub IsSo : Known → WarningValue → Type 0
-IsSo known = Means known.all_groups (agents_in known) known.read.now.bytes.now (labels_in known)
+IsSo known = Means (agents_in known) known.read.now.bytes.now (labels_in known)
 
 abbrev pub SaysSo : Known → Cause → (number : ℕ) → (about : Option (List ℕ)) → Option Detail → Type 0
-SaysSo known = Says known.all_groups (agents_in known) known.read.now.bytes.now (labels_in known)
+SaysSo known = Says (agents_in known) known.read.now.bytes.now (labels_in known)
 
 -- each of the numbers that were found
 abbrev pub Each : (found : List ℕ) → (ℕ → Type 0) → Type 0
@@ -43,7 +43,7 @@ pub record IsKnown (known : Known) : Type 0 where
   pub replacing : Each known.replacing.items
       (IsReplacing (agents_in known) (lines_of (labels_in known)) (lines_of (labels_in known)))
   pub star_count : known.star_count ≡ star_count (lines_of (labels_in known))
-  pub repeated : Each known.repeated.items (Contains (repeated known.all_groups (labels_in known)))
+  pub repeated : Each known.repeated.items (IsRepeat (lines_of (labels_in known)))
   pub rules : AreOf (is_empty_at (labels_in known)) (agents_in known) (lines_of (labels_in known)) known.rules
 
 -- the detail is the line of an Allow that contradicts the Disallow in this line

@@ -1,16 +1,7 @@
-use Rattle.std.proofs.Common.{Bool, None, Option, Some, false, is_none, is_some, map, not, option_map}
-use Rattle.std.proofs.Common.{refl, sym, true, ◌≡◌}
+use Rattle.std.proofs.Common.{map}
 use Rattle.texting_robots.specs.Callers.{label_by_value}
-use Rattle.std.proofs.lemmas.Bool.{false≢true}
 use Rattle.audit_core.proofs.AddedLemmas.{all_found, more_none}
 use Rattle.audit_core.proofs.audit.all_warnings.Goals as goal
-
-mapped : {X Y : Type 0} (f : X → Y) (given : Option X) (none : Bool) → is_some given ≡ not none
-    → none ≡ is_none (option_map f given)
-mapped f None true is = refl
-mapped f None false is = absurd (false≢true is)
-mapped f (Some x) true is = absurd (false≢true (sym is))
-mapped f (Some x) false is = refl
 
 pub returns-clause-ok : goal.returns-clause-ok
 returns-clause-ok c =
@@ -21,7 +12,5 @@ returns-clause-ok c =
     let closed = rw c.requires.site_is at c.in_ok-found.ensures.closed in
     let overruling = rw c.requires.site_is at c.in_ok-found.ensures.overruling in
     let added = more_none c.in_ok-add_needless.ensures c.in_ok-warn_of_sitemaps.ensures.ok in
-    let found = all_found c.is_none-all_groups.result agents urls read.bytes.now labels
-    c.in_ok-found.ensures.so c.in_ok-found.ensures.given closed overruling added in
-    rw (sym (mapped (λ agent. agent.now) c.args.request.now.agent _ c.is_none-all_groups.ensures))
-    (rw c.deref.ensures.value at found)
+    let found = all_found agents urls read.bytes.now labels c.in_ok-found.ensures.so
+    c.in_ok-found.ensures.given closed overruling added in rw c.deref.ensures.value at found

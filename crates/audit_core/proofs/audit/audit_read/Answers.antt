@@ -8,7 +8,7 @@ returns-clause-ok c =
     let labels = c.requires.labels in
     let names = rw (c.deref.ensures.value, c.deref-2.ensures.value, read.lines_are) at c.in_ok-names.ensures
     in
-    let (are, in_lines, told, closed, overruling) = chosen_so _ _ _ _ _ _ _ _ _ _
+    let (are, in_lines, told, closed, overruling) = chosen_so _ _ _ _ _ _ _ _ _
     (rw (c.deref-5.ensures.value, names, labels) at c.in_ok-warnings.ensures.ok)
     (rw (c.deref-6.ensures.value, c.deref-7.ensures.value) at c.choose.ensures) in
     record {

@@ -17,7 +17,7 @@ returns c =
     let so = rw (lines_are read c.requires.read) at is.so in
     record {
       so = tells_on (tells_added found c.in_ok-append.ensures.items
-          (all_mean known.all_groups known.agents.now read.bytes.now (labels_in known) found so)) kept;
+          (all_mean known.agents.now read.bytes.now (labels_in known) found so)) kept;
       told = each_stays is_closing_cause (ClosesToOne (agents_in known) lines) _ _
           (λ warning _ has. kept.kept warning (rw c.in_ok-append.ensures.items
           (Contains-append_right c.args.found.now.items found warning has)))

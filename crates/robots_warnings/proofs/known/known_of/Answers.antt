@@ -1,7 +1,7 @@
-use Rattle.std.proofs.{Common.Contains, Common.map, Common.subst, lemmas.List.Elements.All-contains}
+use Rattle.std.proofs.{Common.map, Common.subst, lemmas.List.Elements.All-contains}
 use Rattle.texting_robots.specs.Callers.{label_by_value}
 use Rattle.robots_warnings.specs.{Closed.IsReplacing, Crawlers.IsPastLimit}
-use Rattle.robots_warnings.specs.{File.lines_of, Internal.Rules.AreOf, Repeated.repeated}
+use Rattle.robots_warnings.specs.{File.lines_of, Internal.Rules.AreOf, Repeated.IsRepeat}
 use Rattle.robots_warnings.{proofs.TellsLemmas.lines_are}
 use Rattle.robots_warnings.proofs.known.known_of.Goals as goal
 
@@ -23,7 +23,7 @@ returns-clause-known c =
           (rw (c.deref-4.ensures.value, same) at c.in_ok-replacing.ensures);
       star_count = rw (c.deref-5.ensures.value, c.in_ok-star.ensures, same) at c.disallow_count.ensures;
       repeated = λ number.
-          All-contains (Contains (repeated c.args.all_groups labels)) c.in_ok-repeated.field-0.items number
+          All-contains (IsRepeat (lines_of labels)) c.in_ok-repeated.field-0.items number
           (rw c.deref-6.ensures.value at c.in_ok-repeated.ensures);
       rules = subst (λ is_empty. AreOf is_empty agents (lines_of labels) c.in_ok-rule_lines.field-0)
           (λ i n. rw c.deref.ensures.value at c.in_ok-empty.ensures n i)

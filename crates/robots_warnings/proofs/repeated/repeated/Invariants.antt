@@ -1,9 +1,7 @@
-use Rattle.std.proofs.Common.{drop, map}
+use Rattle.std.proofs.Common.{map}
 use Rattle.texting_robots.specs.Callers.{label_by_value}
-use Rattle.robots_warnings.specs.Internal.Values.{IsFoundUpto}
+use Rattle.robots_warnings.specs.{File.lines_of, Internal.Values.IsFoundUpto}
 use Rattle.robots_warnings.proofs.repeated.repeated.Given as goal
 
-abbrev pub invariant-loop-labeled : goal.invariant-loop-labeled
-invariant-loop-labeled l =
-    IsFoundUpto l.all_groups l.seen l.found.items (map label_by_value (drop l.labeled-index l.labels))
-    (map label_by_value l.labels)
+abbrev pub invariant-loop-index : goal.invariant-loop-index
+invariant-loop-index l = IsFoundUpto l.seen l.found.items (lines_of (map label_by_value l.labels)) l.index

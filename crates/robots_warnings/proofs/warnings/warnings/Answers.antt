@@ -22,14 +22,14 @@ returns c =
     let asked = c.in_ok-warn_of_urls.ensures in
     let found = c.in_ok-warn_of_overruling.ensures in
     let rest = tells_on c.in_ok-keep-2.ensures (tells_on (tells_added _ found.adds
-    (overruling_means known.all_groups agents file labels known.rules.overruling.entries))
+    (overruling_means agents file labels known.rules.overruling.entries))
     c.in_ok-keep-3.ensures) in
-    let after = tells_on (tells_added _ asked (urls_mean known.all_groups agents file labels urls)) rest in
+    let after = tells_on (tells_added _ asked (urls_mean agents file labels urls)) rest in
     let all = tells_on (rw c.new-found.ensures.items at c.in_ok-keep.ensures) (tells_on closed.so after) in
     let noted = each_at is_empty_cause overruling_at (λ entry. (refl, refl)) _ _ known.rules.overruling
     found.ordered found.adds in
     let are = rw (sym (lines_are known.read.now (rw is.read c.requires))) at is.known.rules.overruling in
-    let (so, shut, has) = told_of known _ is.all_groups is.agents is.read (
+    let (so, shut, has) = told_of known _ is.agents is.read (
       all.so (All-nil (IsSo known)),
       each_stays is_closing_cause (ClosesToOne agents lines) _ _ (λ warning _. after.kept warning)
           closed.told,
