@@ -1,10 +1,12 @@
 //! Looks for needless rules of a crawler. Only that the verdicts stay is proved of it; `same` checks the whole
 //! file without the lines that are found.
-ghost use Rattle.std.specs.Prelude.{◌≡◌, ◌≢◌, ◌++◌, ◌<◌, [], All, IfOk, IsPermutation, IsTrue, OnOk, false, length};
+ghost use Rattle.std.specs.Prelude.{◌≡◌, ◌≢◌, ◌++◌, ◌<◌, [], All, IfOk, IsPermutation, IsTrue, OnOk, false};
+ghost use Rattle.std.specs.Prelude.{length};
 ghost use Rattle.texting_robots.specs.Pattern.{dollar, star};
 ghost use Rattle.texting_robots.specs.Callers.{unplaced};
 ghost use Rattle.robots_rules.specs.Same.{IsComparison};
-ghost use Rattle.robots_rules.specs.Search.{AreApart, Covers, IsNoRival, IsOutcome, IsReducedTo, Replaces, least_rival, others};
+ghost use Rattle.robots_rules.specs.Search.{AreApart, Covers, IsNoRival, IsOutcome, IsReducedTo, Replaces};
+ghost use Rattle.robots_rules.specs.Search.{least_rival, others};
 
 use crate::compare::{Comparison, compare, is_below};
 use crate::rule::Rule;
@@ -152,7 +154,8 @@ fn are_apart(one: &[u8], other: &[u8]) -> bool
     false
 }
 
-/// How many bytes a rule of the other kind has to have at least, so that the rule doesn't decide in its place.
+/// How many bytes a rule of the other kind has to have at least, so that the rule doesn't decide in its
+/// place.
 fn least_rival(rule: &Rule) -> usize
     ensures { result ≡ least_rival rule.now.rule }
 {
