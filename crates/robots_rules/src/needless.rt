@@ -275,6 +275,21 @@ fn covered(
     })
 }
 
+/// The rule at this place is an Allow, and no Disallow below it may match a text that it matches.
+fn is_allowed_anyway(rules: &[Rule], at: usize) -> bool
+    requires { at < length rules.now }
+    ensures { IsTrue result → IsReducedTo rules.now (others at rules.now) }
+{
+    let rule = &rules[at];
+    if !rule.is_allow {
+        return false;
+    }
+    if has_rival(rules, rule, 0) {
+        return false;
+    }
+    true
+}
+
 /// Why the rule at this place is needless, if it is. No reason if none is found.
 fn cause_of(
     alloc: Global,
@@ -297,7 +312,7 @@ fn cause_of(
     if above.reason.is_some() {
         return Ok(above);
     }
-    if rule.is_allow && !has_rival(rules, rule, 0) {
+    if is_allowed_anyway(rules, at) {
         return Ok(Cause {
             reason: Some(Reason::AllowedAnyway),
             is_sure: true,
@@ -375,8 +390,10 @@ fn outcome_of(
         return Ok(Outcome::Stays);
     }
     let cause = cause_of(alloc, budget, rules, at, &shown)?;
-    if let (Some(reason), true) = (cause.reason, cause.is_sure) {
-        return Ok(Outcome::Goes(reason));
+    if cause.is_sure {
+        if let Some(reason) = cause.reason {
+            return Ok(Outcome::Goes(reason));
+        }
     }
     if is_needed_on_mixed(alloc, rules, at, budget)? {
         return Ok(Outcome::Stays);
