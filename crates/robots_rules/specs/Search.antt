@@ -2,7 +2,8 @@
 use Rattle.std.specs.Prelude.{◌≡◌, ◌≢◌, ◌+◌, ◌<◌, ◌≤◌, ◌⊎◌, ℕ, All, Bool, List, [], ◌++◌, drop, if◌then◌else◌}
 use Rattle.std.specs.Prelude.{length, map, take}
 use Rattle.std.specs.{BTreeMap.BTreeMap, BTreeMap.get, Option.is_some, Ordering.nat_cmp}
-use Rattle.texting_robots.specs.Callers.{IsRejected, LineValue, Matches, PlacedRule, Rule, file_bodies, file_lines}
+use Rattle.texting_robots.specs.Callers.{IsRejected, LineValue, Matches, PlacedRule, Rule, file_bodies}
+use Rattle.texting_robots.specs.Callers.{file_lines}
 use Rattle.texting_robots.specs.Callers.{robots_file, rules_for}
 use Rattle.texting_robots.specs.Callers.{sitemaps_in, unplaced}
 use Rattle.robots_rules.specs.{Internal.rank_of, Same.HaveSameVerdicts}

@@ -1,5 +1,6 @@
 //! Which lines of a file have rules that are needless for every crawler.
-ghost use Rattle.std.specs.Prelude.{◌≡◌, ◌∷◌, All, Contains, IfOk, IsTrue, List, bytes_eq, codes, false, map, ℕ};
+ghost use Rattle.std.specs.Prelude.{◌≡◌, ◌∷◌, All, Contains, IfOk, IsTrue, List, bytes_eq, codes, false, map};
+ghost use Rattle.std.specs.Prelude.{ℕ};
 ghost use Rattle.std.specs.List.{list_any};
 ghost use Rattle.texting_robots.specs.Callers.{agents_in, file_bodies, file_lines};
 ghost use Rattle.robots_rules.specs.Blocks.{AreFoundIn, begin_with_mark, left_from};

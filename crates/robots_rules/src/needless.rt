@@ -1,10 +1,12 @@
 //! Looks for needless rules of a crawler. Only that the verdicts stay is proved of it; `same` checks the whole
 //! file without the lines that are found.
-ghost use Rattle.std.specs.Prelude.{◌≡◌, ◌≢◌, ◌++◌, ◌<◌, [], All, IfOk, IsPermutation, IsTrue, OnOk, false, length};
+ghost use Rattle.std.specs.Prelude.{◌≡◌, ◌≢◌, ◌++◌, ◌<◌, [], All, IfOk, IsPermutation, IsTrue, OnOk, false};
+ghost use Rattle.std.specs.Prelude.{length};
 ghost use Rattle.texting_robots.specs.Pattern.{dollar, star};
 ghost use Rattle.texting_robots.specs.Callers.{unplaced};
 ghost use Rattle.robots_rules.specs.Same.{IsComparison};
-ghost use Rattle.robots_rules.specs.Search.{AreApart, Covers, IsNoRival, IsOutcome, IsReducedTo, Replaces, least_rival, others};
+ghost use Rattle.robots_rules.specs.Search.{AreApart, Covers, IsNoRival, IsOutcome, IsReducedTo, Replaces};
+ghost use Rattle.robots_rules.specs.Search.{least_rival, others};
 
 use crate::compare::{Comparison, compare, is_below};
 use crate::rule::Rule;
@@ -152,7 +154,8 @@ fn are_apart(one: &[u8], other: &[u8]) -> bool
     false
 }
 
-/// How many bytes a rule of the other kind has to have at least, so that the rule doesn't decide in its place.
+/// How many bytes a rule of the other kind has to have at least, so that the rule doesn't decide in its
+/// place.
 fn least_rival(rule: &Rule) -> usize
     ensures { result ≡ least_rival rule.now.rule }
 {
@@ -272,6 +275,21 @@ fn covered(
     })
 }
 
+/// The rule at this place is an Allow, and no Disallow below it may match a text that it matches.
+fn is_allowed_anyway(rules: &[Rule], at: usize) -> bool
+    requires { at < length rules.now }
+    ensures { IsTrue result → IsReducedTo rules.now (others at rules.now) }
+{
+    let rule = &rules[at];
+    if !rule.is_allow {
+        return false;
+    }
+    if has_rival(rules, rule, 0) {
+        return false;
+    }
+    true
+}
+
 /// Why the rule at this place is needless, if it is. No reason if none is found.
 fn cause_of(
     alloc: Global,
@@ -294,7 +312,7 @@ fn cause_of(
     if above.reason.is_some() {
         return Ok(above);
     }
-    if rule.is_allow && !has_rival(rules, rule, 0) {
+    if is_allowed_anyway(rules, at) {
         return Ok(Cause {
             reason: Some(Reason::AllowedAnyway),
             is_sure: true,
@@ -372,8 +390,10 @@ fn outcome_of(
         return Ok(Outcome::Stays);
     }
     let cause = cause_of(alloc, budget, rules, at, &shown)?;
-    if let (Some(reason), true) = (cause.reason, cause.is_sure) {
-        return Ok(Outcome::Goes(reason));
+    if cause.is_sure {
+        if let Some(reason) = cause.reason {
+            return Ok(Outcome::Goes(reason));
+        }
     }
     if is_needed_on_mixed(alloc, rules, at, budget)? {
         return Ok(Outcome::Stays);

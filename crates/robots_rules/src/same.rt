@@ -1,7 +1,8 @@
 //! Whether a file means the same without some of its lines: a file with the others is read, and each crawler
 //! has to have exactly the rules there that the search has left of its own.
 ghost use Rattle.std.specs.Prelude.{◌≡◌, ◌∷◌, [], All, IfOk, IsTrue, codes, false, map};
-ghost use Rattle.texting_robots.specs.Callers.{IsRejected, delay_for, file_bodies, file_lines, sitemaps_in, unplaced};
+ghost use Rattle.texting_robots.specs.Callers.{IsRejected, delay_for, file_bodies, file_lines, sitemaps_in};
+ghost use Rattle.texting_robots.specs.Callers.{unplaced};
 ghost use Rattle.robots_rules.specs.Blocks.{begin_with_mark, left_from};
 ghost use Rattle.robots_rules.specs.Search.{IsSameWithout, IsSettled, is_found};
 ghost use Rattle.robots_rules.specs.Needless.{MeanTheSame};

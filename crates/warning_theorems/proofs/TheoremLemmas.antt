@@ -43,8 +43,8 @@ alike file [] agent are deleted text answer =
     let lines = file_lines file in
     subst (λ (left : List LineValue). IsVerdict (rules_for agent lines) text answer
     ↔ IsVerdict (rules_for agent left) text answer) (sym (all_lines 0 lines)) (λ is. is, λ is. is)
-alike file (one ∷ more) agent are deleted =
-    (deleted (numbers_of (one ∷ more)) (are.deletable (λ none. cc)).lines).verdicts
+alike file (one ∷ more) agent are deleted text answer =
+    (deleted (numbers_of (one ∷ more)) (are.deletable (λ none. cc)).lines).verdicts text answer
 
 all_read : (requested : RequestValue) (file : List ℕ) (audit : AuditValue)
     (is : IsAuditOf requested file audit)

@@ -12,7 +12,8 @@ loop-other-preserved c =
     = take_more c.args.rules.now i other c.loop-other-test.true
     ∙ ap (λ r. before ++ r ∷ []) (sym c.other-item.is) in
     let P = IsNoRival c.args.least c.args.rule.now in
-    subst (All P) (sym taken) (All-push P before other c.loop-other.invariant (c.is_rival.ensures c.if-is_rival.false))
+    subst (All P) (sym taken)
+    (All-push P before other c.loop-other.invariant (c.is_rival.ensures c.if-is_rival.false))
 
 pub returns : goal.returns
 returns c = λ _.
