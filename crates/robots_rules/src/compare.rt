@@ -26,7 +26,8 @@ pub enum Comparison {
     Undecided,
 }
 
-/// The lowest first: the longer pattern is higher, and of the same length an Allow.
+/// The lowest first: the longer pattern is higher, and of the same length an Allow. The third key is for
+/// `merged`, which finds a rule of both lists only where both are in one order.
 fn order(one: &Item<'_>, other: &Item<'_>) -> Ordering {
     one.rest()
         .len()
@@ -66,7 +67,8 @@ fn is_ascending(items: &[Item<'_>]) -> bool
     true
 }
 
-/// The lowest first.
+/// The lowest first. No order is promised: the caller tests it by `is_ascending`, which is why the contract only
+/// speaks of items that ascend.
 fn sorted(alloc: Global, rules: &[Rule]) -> Result<Vec<Item<'_>>, AllocError>
     ensures { IfOk result (λ items. AreAscending items.items → Decide (unplaced rules.now) items.items) }
 {

@@ -95,6 +95,8 @@ fn write_counts(page: &mut Page, warnings: &[Warning<'_>]) {
     write_count(page, Level::Note, counts.notes);
 }
 
+/// Lists the first of these warnings, and of the others those without a row. `all` are the warnings that are
+/// shown, and `rows` is how many rows the table of lines has.
 fn write_findings(
     alloc: Global,
     page: &mut Page,

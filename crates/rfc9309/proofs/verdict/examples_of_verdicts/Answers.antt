@@ -1,3 +1,5 @@
+-- Rules that pass a computed test (`is_usual`) and have plain paths are comparable, so the computed verdict is
+-- the standard's (`agreed`). Then the three examples.
 use Rattle.std.proofs.Common.{◌≡◌, ◌≢◌, ◌<◌, ◌∷◌, ◌&&◌, Bool, true, false, inl, inr, List, [], ℕ, codes}
 use Rattle.std.proofs.Common.{get_or, length, map, nat_lt, refl, ap, arith, subst}
 use Rattle.std.specs.List.{AllByRecursion as Each, AllZip, Contains, list_all}
@@ -19,6 +21,7 @@ abbrev is_trimmed : List ℕ → Bool
 is_trimmed [] = true
 is_trimmed (b ∷ path) = is_ascii_graphic b && is_ascii_graphic (get_or (b ∷ path) (length path) 0)
 
+-- trimmed, and each Disallow but an empty one has more than one octet
 abbrev is_usual : Reading → rfc.Member → Bool
 is_usual stays (rfc.Allow path) = is_trimmed path
 is_usual stays (rfc.Disallow []) = true
