@@ -1,4 +1,5 @@
--- What the search keeps true: it takes rules away from a crawler's, and the verdicts stay.
+-- What the search for needless rules (`needless`, `lines`, `same`) keeps true: it takes rules away from a
+-- crawler's, and the verdicts stay. The search for states, in `search`, has its own in `Internal`.
 use Rattle.std.specs.Prelude.{◌≡◌, ◌≢◌, ◌+◌, ◌<◌, ◌≤◌, ◌⊎◌, ℕ, All, Bool, List, [], ◌++◌, drop, if◌then◌else◌}
 use Rattle.std.specs.Prelude.{length, map, take}
 use Rattle.std.specs.{BTreeMap.BTreeMap, BTreeMap.get, Option.is_some, Ordering.nat_cmp}
