@@ -269,7 +269,7 @@ def warning_lines(warnings, file="robots.txt", agent=None, seeks_needless=False)
 
 
 VERDICTS = "RFC 9309 syntax, and verdicts for paths and queries in normal form (%20 for a space, not %41 for A)"
-KEYS = set("like args agent robots file expect old from pieces room out more rfc warn err status indented".split())
+KEYS = set("like args agent robots file expect old from pieces room out json more rfc warn err status indented".split())
 
 
 def files_beside(case):
@@ -323,15 +323,38 @@ def input_of(case, indented=False):
     return b"".join(spelled(line) + b"\n" for line in [case["agent"], *urls, ""]) + robots
 
 
-def with_texts(out):
-    """JSON in which [NAME] has become the text of that warning, whose level comes first."""
-    name = re.compile(r'("line":[^,]*,"name":"[a-z0-9-]+","text":)"\[([a-z0-9-]+)(?: ([^]]*))?\]')
-
-    def with_text(found):
-        level, text = level_and_text(found[2], found[3] or "")
-        return f'"level":"{level}",{found[1]}{json.dumps(text, ensure_ascii=False)[:-1]}'
-
-    return name.sub(with_text, out)
+def json_of(case):
+    """The report of `json` in one line: of each crawler its group, what it may fetch, and the number of its rules, and below that its
+    verdicts; then rows and sitemaps."""
+    agents, rows, sitemaps = [], [], []
+    for line in spelled(case["json"]).decode().split("\n"):
+        kind, first, *rest = [*line.split(" ", 2), ""]
+        value = rest[0] or None if rest else None
+        if kind == "crawler":
+            name, group, place, fetch, rules, more = re.fullmatch(r"crawler (.*): (\w+)(?: (\d+))?, (\S+), (\d+)(.*)", line).groups()
+            ignored_by = IGNORING if ", ignored" in more else []
+            own = {key: int(number) for key, number in re.findall(r", (delay|rejected) (\d+)", more)}
+            agents.append({
+                "agent": name, "delay": own.get("delay"), "group": {"ignored_by": ignored_by, "kind": group, "line": place and int(place)},
+                "may_fetch": None if fetch == "null" else fetch, "rejected": own.get("rejected"), "rules": int(rules),
+                "vendor": (re.search(r", vendor (\w+)", more) or ["", "same"])[1], "verdicts": [],
+            })  # fmt: skip
+        elif kind in ("allow", "deny"):
+            agents[-1]["verdicts"].append({"allowed": kind == "allow", "line": None if first == "-" else int(first), "url": value})
+        elif kind == "sitemap":
+            sitemaps.append(line.removeprefix("sitemap "))
+        elif line != "no rows":
+            shown = int(value) if first == "crawl-delay" else value
+            rows.append({"comment": None, "kind": first, "membership": kind, "number": len(rows) + 1, "value": shown})
+    standard, _, place = case.get("rfc", "").rpartition(" ")
+    has_verdicts, place = place == "verdicts" or None, int(place) if place.isdecimal() else None
+    warnings = [parts_of(it) for it in spelled(case.get("warn", "")).decode().splitlines()]
+    report = {
+        "agents": agents, "has_rfc_9309_syntax": has_verdicts or standard == "syntax" or None, "has_rfc_9309_verdicts": has_verdicts,
+        "lines": rows if rows or "no rows" in case["json"] else None, "rfc_9309_line": place, "sitemaps": sitemaps,
+        "warnings": [{"level": level, "line": int(line) if line else None, "name": name, "text": text} for line, name, level, text in warnings],
+    }  # fmt: skip
+    return json.dumps(report, ensure_ascii=False, separators=(",", ":")).encode() + b"\n"
 
 
 def standard_lines(words):
@@ -352,8 +375,8 @@ def with_standard(out, words):
 def wanted_of(case):
     out = case.get("out", "")
     out = lines(with_standard(out, case["rfc"]) if case.get("rfc") else out)
-    if out.startswith(b"{"):
-        out = with_texts(out.decode()).encode()
+    if "json" in case:
+        return Result(case.get("status", 0), json_of(case), lines(case.get("err", "")))
     if "room" in case:
         out = out[: case["room"] if case["room"] != "closed" else 0]
     warnings = spelled(case.get("warn", "")).decode().splitlines()

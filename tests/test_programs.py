@@ -32,6 +32,7 @@ or one that is left out, leaves it.
 | `agent`, `robots` | for `robots_verdict`: the input is this crawler, the URLs in `out`, and this file |
 | `out`, `err` | the lines of standard output and standard error; none if left out |
 | `warn` | instead of `err`, for each warning, also if the program counts it only, a line `[LINE] NAME [DETAIL]`; the detail is its URL, the name of one of several crawlers in quotes, or the directive that may be meant. Messages come from tests/warnings.txt |
+| `json` | instead of `out`, a report as JSON, with what `rfc` and `warn` say: `crawler NAME: GROUP [LINE], MAY_FETCH, RULES` and possibly `ignored`, `delay`, `rejected` and `vendor`; below it verdicts; then rows as `MEMBERSHIP KIND VALUE`, or `no rows`, and each `sitemap` |
 | `status` | the exit status, if it isn't 0 |
 | `rfc` | what the report says of the file by RFC 9309: `verdicts`, `syntax LINE`, or the first line that isn't of its syntax |
 | `like`, `more` | a case above, whose keys apply here too; more lines of standard output. Keys above all cases apply to each |
@@ -40,8 +41,7 @@ or one that is left out, leaves it.
 
 The detail in `warn` can also be the level, if the name has several; a word of the message, such as
 `comma`, `invisible` or `=`; the number in `(3 rules)` or `(see line 3)`; or for `needless-rule`,
-`never`, `nothing`, `allowed` or `covered`, and then the line. In JSON, a warning is written without
-its level, and with `[NAME]` or `[NAME DETAIL]` as its text. In strings, `\\` is a backslash, `\r`
+`never`, `nothing`, `allowed` or `covered`, and then the line. In strings, `\\` is a backslash, `\r`
 CR, `\xHH` a byte, `\{N TEXT}` N times the TEXT, and `\[NAME]` a phrase of tests/support.py.
 `pytest tests -k 'URL and denied'` runs the cases with these words in their names.
 
