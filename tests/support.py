@@ -278,9 +278,10 @@ def files_beside(case):
 
 
 def rows_of(table, columns):
-    """The cases of a table of `[[rows]]`, each with its own keys: those of the table, and the cells of a row, whose keys `columns` names."""
-    keys = {key: value for key, value in table.items() if key not in ("columns", "cases")}
-    for row in table["cases"].splitlines():
+    """The cases of a table of `[[rows]]`, each with its own keys: those of the table, and the cells of a row, whose keys `columns` names. All
+    rows are repeated with each word of `each`."""
+    keys = {key: value for key, value in table.items() if key not in ("columns", "each", "cases")}
+    for row in [it.replace("{each}", word) for word in table.get("each", "-").split() for it in table["cases"].splitlines()]:
         case = dict(keys)
         for key, cell in zip(table.get("columns", columns).split(), row.split(" | ")):
             if cell or key == "name":
@@ -304,6 +305,13 @@ def cases_of(text):
             case["out"] += "\n" + case.pop("more")
         cases[name] = case
     return cases
+
+
+def warnings_of(case):
+    """What `warn` lists; `3-5 NAME` are three of them."""
+    for line in spelled(case.get("warn", "")).decode().splitlines():
+        several = re.match(r"(\d+)-(\d+) ", line)
+        yield from [f"{number} {line[several.end():]}" for number in range(int(several[1]), int(several[2]) + 1)] if several else [line]
 
 
 def lines(text):
@@ -348,7 +356,7 @@ def json_of(case):
             rows.append({"comment": None, "kind": first, "membership": kind, "number": len(rows) + 1, "value": shown})
     standard, _, place = case.get("rfc", "").rpartition(" ")
     has_verdicts, place = place == "verdicts" or None, int(place) if place.isdecimal() else None
-    warnings = [parts_of(it) for it in spelled(case.get("warn", "")).decode().splitlines()]
+    warnings = map(parts_of, warnings_of(case))
     report = {
         "agents": agents, "has_rfc_9309_syntax": has_verdicts or standard == "syntax" or None, "has_rfc_9309_verdicts": has_verdicts,
         "lines": rows if rows or "no rows" in case["json"] else None, "rfc_9309_line": place, "sitemaps": sitemaps,
@@ -379,10 +387,9 @@ def wanted_of(case):
         return Result(case.get("status", 0), json_of(case), lines(case.get("err", "")))
     if "room" in case:
         out = out[: case["room"] if case["room"] != "closed" else 0]
-    warnings = spelled(case.get("warn", "")).decode().splitlines()
     named = re.match(r"(?!-)\S+", case.get("args", ""))  # a named file is the first argument in golden cases
     file = named[0] if named else "robots.txt"
     agents = re.findall(r"--(?:user-)?agent[ =](\S+)", case.get("args", ""))
     agent = agents[0] if len(agents) == 1 else None
     seeks_needless = bool(re.search(r"--needless|--only[ =]needless-", case.get("args", "")))
-    return Result(case.get("status", 0), out, lines(case.get("err", "")) + warning_lines(warnings, file, agent, seeks_needless).encode())
+    return Result(case.get("status", 0), out, lines(case.get("err", "")) + warning_lines([*warnings_of(case)], file, agent, seeks_needless).encode())

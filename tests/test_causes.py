@@ -5,7 +5,7 @@ import functools
 from os.path import commonprefix
 
 import pytest
-from support import ALL_WARNINGS, ROOT, cases_of, parts_of, repeated, spelled
+from support import ALL_WARNINGS, ROOT, cases_of, parts_of, repeated, warnings_of
 
 
 def row_of(name, level, text):
@@ -16,7 +16,7 @@ def row_of(name, level, text):
 
 def given(case):
     """The numbers of the warnings that a case says are given."""
-    return {row_of(*parts_of(line)[1:]) for line in spelled(case.get("warn", "")).decode().splitlines()}
+    return {row_of(*parts_of(line)[1:]) for line in warnings_of(case)}
 
 
 @functools.cache
