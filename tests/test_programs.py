@@ -136,7 +136,7 @@ def test_all_golden_cases_are_run():
     """Each table of each file, each row of `[[rows]]`, and the case in this module's comment."""
     texts = [path.read_text() for path in Path(ROOT, "tests/golden").glob("*/*.toml")]
     count = sum(len(re.findall(r"""^\[["'].*["']\]$""", text, re.M)) for text in texts)
-    tables = [it for text in texts for it in re.findall(r"^(?:each = '(.*)'\ncol.*\n)?cases = '''\n(.*?)\n?'''$", text, re.M | re.S)]
+    tables = [it for text in texts for it in re.findall(r"^(?:each = '([^\n]*)'\ncolumns[^\n]*\n)?cases = '''\n(.*?)\n?'''$", text, re.M | re.S)]
     count += sum((rows.count("\n") + 1) * max(len(words.split()), 1) for words, rows in tables)
     folders = {path.name for path in Path(ROOT, "tests/golden").iterdir() if path.is_dir()}
     values = [it.values for it in golden()]
