@@ -99,14 +99,28 @@ PHRASES = {
     "segment": "URL has a . or .. segment or a #, which crawlers resolve or drop; write the path that they ask for",
     "space": "white space in a URL; write it as %20, and another URL or a comment on a line of its own",
     "usage": "usage: robots_audit [OPTIONS] FILE [URL]..",
+    "1": "expect.txt:1:",
+    "applies": "but its vendor applies the group Googlebot to it, and",
+    "not applied": "but its vendor doesn't apply the group * to it",
+    "normal": "but in the normal forms of RFC 9309,",
+    "other path": "but crawlers may ask for another path or query:",
+    "form": 'write "allow AGENT URL" or "deny AGENT URL", or for a pattern allow-all or deny-all',
+    "pattern": "a pattern starts with / or *, has no #, a $ only at its end (a rule with text after it matches nothing), and with a $ at most 4,096 bytes",
+    "help": "For more information, try '--help'.",
+    "options": "Usage: robots_audit [OPTIONS] FILE [URL]..",
+    "files": "old: old.txt, new: -",
+    "no change": "no URL's verdict changes",
 }
+PHRASES["no file"] = f"""robots_audit: missing FILE; {PHRASES['usage']}
+example: robots_audit robots.txt /search
+example: curl -fsSL https://example.com/robots.txt | robots_audit --agent Googlebot -"""
 
 
 def spelled(text):
-    r"""The bytes that a golden case means: \\ is a backslash, \r CR, \xHH a byte, \{N TEXT} N times the TEXT, \[NAME] a phrase, \* who may
+    r"""The bytes that a golden case means: \\ is a backslash, \r CR, \xHH a byte, \{N TEXT} N times the TEXT, \[NAME] a phrase or the message of a warning, \* who may
     fetch what is denied to *, \i their names in JSON, and \v what --version says of proofs."""
     escapes = {"\\": "\\", "r": "\r", "*": STILL_OPEN, "i": json.dumps(IGNORING, separators=(",", ":")), "v": PROOF}
-    escapes |= {f"[{name}]": phrase for name, phrase in PHRASES.items()}
+    escapes |= {f"[{name}]": phrase for name, phrase in [*PHRASES.items(), *((name, its[-1][1]) for name, its in WARNINGS.items())]}
     found = re.compile(rb"\\(?:x([0-9A-F]{2})|(\[[^]]+\]|.?))")
     return found.sub(lambda it: bytes.fromhex(it[1].decode()) if it[1] else escapes[it[2].decode()].encode(), repeated(text).encode())
 
