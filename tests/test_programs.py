@@ -42,7 +42,7 @@ or one that is left out, leaves it. All cases are repeated with each word of `ea
 The detail in `warn` can also be the level, if the name has several; a word of the message, such as
 `comma`, `invisible` or `=`; the number in `(3 rules)` or `(see line 3)`; or for `needless-rule`,
 `never`, `nothing`, `allowed` or `covered`, and then the line. In strings, `\\` is a backslash, `\r`
-CR, `\xHH` a byte, `\{N TEXT}` N times the TEXT, and `\[NAME]` a phrase of tests/support.py.
+CR, `\xHH` a byte, `\{N TEXT}` N times the TEXT, and `\[NAME]` a phrase of tests/support.py or a warning's message.
 `pytest tests -k 'URL and denied'` runs the cases with these words in their names.
 
 Larger inputs are made here.
