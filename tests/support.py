@@ -99,14 +99,28 @@ PHRASES = {
     "segment": "URL has a . or .. segment or a #, which crawlers resolve or drop; write the path that they ask for",
     "space": "white space in a URL; write it as %20, and another URL or a comment on a line of its own",
     "usage": "usage: robots_audit [OPTIONS] FILE [URL]..",
+    "1": "expect.txt:1:",
+    "applies": "but its vendor applies the group Googlebot to it, and",
+    "not applied": "but its vendor doesn't apply the group * to it",
+    "normal": "but in the normal forms of RFC 9309,",
+    "other path": "but crawlers may ask for another path or query:",
+    "form": 'write "allow AGENT URL" or "deny AGENT URL", or for a pattern allow-all or deny-all',
+    "pattern": "a pattern starts with / or *, has no #, a $ only at its end (a rule with text after it matches nothing), and with a $ at most 4,096 bytes",
+    "help": "For more information, try '--help'.",
+    "options": "Usage: robots_audit [OPTIONS] FILE [URL]..",
+    "files": "old: old.txt, new: -",
+    "no change": "no URL's verdict changes",
 }
+PHRASES["no file"] = f"""robots_audit: missing FILE; {PHRASES['usage']}
+example: robots_audit robots.txt /search
+example: curl -fsSL https://example.com/robots.txt | robots_audit --agent Googlebot -"""
 
 
 def spelled(text):
-    r"""The bytes that a golden case means: \\ is a backslash, \r CR, \xHH a byte, \{N TEXT} N times the TEXT, \[NAME] a phrase, \* who may
+    r"""The bytes that a golden case means: \\ is a backslash, \r CR, \xHH a byte, \{N TEXT} N times the TEXT, \[NAME] a phrase or the message of a warning, \* who may
     fetch what is denied to *, \i their names in JSON, and \v what --version says of proofs."""
     escapes = {"\\": "\\", "r": "\r", "*": STILL_OPEN, "i": json.dumps(IGNORING, separators=(",", ":")), "v": PROOF}
-    escapes |= {f"[{name}]": phrase for name, phrase in PHRASES.items()}
+    escapes |= {f"[{name}]": phrase for name, phrase in [*PHRASES.items(), *((name, its[-1][1]) for name, its in WARNINGS.items())]}
     found = re.compile(rb"\\(?:x([0-9A-F]{2})|(\[[^]]+\]|.?))")
     return found.sub(lambda it: bytes.fromhex(it[1].decode()) if it[1] else escapes[it[2].decode()].encode(), repeated(text).encode())
 
@@ -269,7 +283,7 @@ def warning_lines(warnings, file="robots.txt", agent=None, seeks_needless=False)
 
 
 VERDICTS = "RFC 9309 syntax, and verdicts for paths and queries in normal form (%20 for a space, not %41 for A)"
-KEYS = set("like args agent robots file expect old from pieces room out more rfc warn err status indented".split())
+KEYS = set("like args agent robots file expect old from pieces room out json more rfc warn err status indented".split())
 
 
 def files_beside(case):
@@ -278,9 +292,10 @@ def files_beside(case):
 
 
 def rows_of(table, columns):
-    """The cases of a table of `[[rows]]`, each with its own keys: those of the table, and the cells of a row, whose keys `columns` names."""
-    keys = {key: value for key, value in table.items() if key not in ("columns", "cases")}
-    for row in table["cases"].splitlines():
+    """The cases of a table of `[[rows]]`, each with its own keys: those of the table, and the cells of a row, whose keys `columns` names. All
+    rows are repeated with each word of `each`."""
+    keys = {key: value for key, value in table.items() if key not in ("columns", "each", "cases")}
+    for row in [it.replace("{each}", word) for word in table.get("each", "-").split() for it in table["cases"].splitlines()]:
         case = dict(keys)
         for key, cell in zip(table.get("columns", columns).split(), row.split(" | ")):
             if cell or key == "name":
@@ -306,6 +321,13 @@ def cases_of(text):
     return cases
 
 
+def warnings_of(case):
+    """What `warn` lists; `3-5 NAME` are three of them."""
+    for line in spelled(case.get("warn", "")).decode().splitlines():
+        several = re.match(r"(\d+)-(\d+) ", line)
+        yield from [f"{number} {line[several.end():]}" for number in range(int(several[1]), int(several[2]) + 1)] if several else [line]
+
+
 def lines(text):
     """The bytes of these lines, each ended by LF."""
     return spelled(text) + b"\n" if text else b""
@@ -323,15 +345,38 @@ def input_of(case, indented=False):
     return b"".join(spelled(line) + b"\n" for line in [case["agent"], *urls, ""]) + robots
 
 
-def with_texts(out):
-    """JSON in which [NAME] has become the text of that warning, whose level comes first."""
-    name = re.compile(r'("line":[^,]*,"name":"[a-z0-9-]+","text":)"\[([a-z0-9-]+)(?: ([^]]*))?\]')
-
-    def with_text(found):
-        level, text = level_and_text(found[2], found[3] or "")
-        return f'"level":"{level}",{found[1]}{json.dumps(text, ensure_ascii=False)[:-1]}'
-
-    return name.sub(with_text, out)
+def json_of(case):
+    """The report of `json` in one line: of each crawler its group, what it may fetch, and the number of its rules, and below that its
+    verdicts; then rows and sitemaps."""
+    agents, rows, sitemaps = [], [], []
+    for line in spelled(case["json"]).decode().split("\n"):
+        kind, first, *rest = [*line.split(" ", 2), ""]
+        value = rest[0] or None if rest else None
+        if kind == "crawler":
+            name, group, place, fetch, rules, more = re.fullmatch(r"crawler (.*): (\w+)(?: (\d+))?, (\S+), (\d+)(.*)", line).groups()
+            ignored_by = IGNORING if ", ignored" in more else []
+            own = {key: int(number) for key, number in re.findall(r", (delay|rejected) (\d+)", more)}
+            agents.append({
+                "agent": name, "delay": own.get("delay"), "group": {"ignored_by": ignored_by, "kind": group, "line": place and int(place)},
+                "may_fetch": None if fetch == "null" else fetch, "rejected": own.get("rejected"), "rules": int(rules),
+                "vendor": (re.search(r", vendor (\w+)", more) or ["", "same"])[1], "verdicts": [],
+            })  # fmt: skip
+        elif kind in ("allow", "deny"):
+            agents[-1]["verdicts"].append({"allowed": kind == "allow", "line": None if first == "-" else int(first), "url": value})
+        elif kind == "sitemap":
+            sitemaps.append(line.removeprefix("sitemap "))
+        elif line != "no rows":
+            shown = int(value) if first == "crawl-delay" else value
+            rows.append({"comment": None, "kind": first, "membership": kind, "number": len(rows) + 1, "value": shown})
+    standard, _, place = case.get("rfc", "").rpartition(" ")
+    has_verdicts, place = place == "verdicts" or None, int(place) if place.isdecimal() else None
+    warnings = map(parts_of, warnings_of(case))
+    report = {
+        "agents": agents, "has_rfc_9309_syntax": has_verdicts or standard == "syntax" or None, "has_rfc_9309_verdicts": has_verdicts,
+        "lines": rows if rows or "no rows" in case["json"] else None, "rfc_9309_line": place, "sitemaps": sitemaps,
+        "warnings": [{"level": level, "line": int(line) if line else None, "name": name, "text": text} for line, name, level, text in warnings],
+    }  # fmt: skip
+    return json.dumps(report, ensure_ascii=False, separators=(",", ":")).encode() + b"\n"
 
 
 def standard_lines(words):
@@ -352,14 +397,13 @@ def with_standard(out, words):
 def wanted_of(case):
     out = case.get("out", "")
     out = lines(with_standard(out, case["rfc"]) if case.get("rfc") else out)
-    if out.startswith(b"{"):
-        out = with_texts(out.decode()).encode()
+    if "json" in case:
+        return Result(case.get("status", 0), json_of(case), lines(case.get("err", "")))
     if "room" in case:
         out = out[: case["room"] if case["room"] != "closed" else 0]
-    warnings = spelled(case.get("warn", "")).decode().splitlines()
     named = re.match(r"(?!-)\S+", case.get("args", ""))  # a named file is the first argument in golden cases
     file = named[0] if named else "robots.txt"
     agents = re.findall(r"--(?:user-)?agent[ =](\S+)", case.get("args", ""))
     agent = agents[0] if len(agents) == 1 else None
     seeks_needless = bool(re.search(r"--needless|--only[ =]needless-", case.get("args", "")))
-    return Result(case.get("status", 0), out, lines(case.get("err", "")) + warning_lines(warnings, file, agent, seeks_needless).encode())
+    return Result(case.get("status", 0), out, lines(case.get("err", "")) + warning_lines([*warnings_of(case)], file, agent, seeks_needless).encode())

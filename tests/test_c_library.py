@@ -220,15 +220,13 @@ ADDRESSES = {
     "http://a.xn--/": "http://a.xn--",
     "https://\u1e9e/": "https://xn--zca",
 }
-NO_ADDRESS = """ftp://linux-isos.org/ ipfs://etc/ file:///x foo:/bar data:,x mailto:ferris@rust.com /rust/v1/index.html http://:::cnn.com/
-http://:80/a https://?<a> x://@ http://a:99999999/ http://a:65536/ http://a:8o/ x://h:1\\ http://[::1 http://[::1/"a" http://256.256.256.256/a
-http://1.2.3.4.5/a#c https://a\u200db/ http://xn--.\u00e9/""".split()
+NO_ADDRESS = ["https://a b/", "ftp://linux-isos.org/", "file:///x", "https://?<a> x://@", "http://a:65536/", 'http://[::1/"a"', "https://a\u200db/", "http://1.2.3.4.5/a#c"]
 
 
 def test_addresses(robots):
     for url, site in ADDRESSES.items():
         assert robots.address(url) == f"{site}/robots.txt"
-    for url in [*NO_ADDRESS, "https://a b/"]:
+    for url in NO_ADDRESS:
         assert status_of(robots, robots.address, url) == (robots.NO_ADDRESS, 0), url
 
 

@@ -66,10 +66,6 @@ def agent(value):
 
 # ---- lines
 
-PAGE = (
-    b"User-Agent: SmerBot\nDisallow: /path\nAllow:    /path/exception   # ONLY THIS IS ALLOWED\n"
-    b"Crawl-delay : 60 # Very slow delay\n\nsitemap: https://example.com/sitemap.xml"
-)
 SIX = [agent(b"foo"), allow(b"/some/path"), agent(b"bar"), *raw(b"", b""), disallow(b"/")]
 MARKED = [agent(b"foo"), allow(b"/AnyValue")]
 
@@ -81,32 +77,15 @@ TEXTS = [
     (b"", []),
     (b"Disallow: /a\r\0Allow: /b", [disallow(b"/a"), *raw(b"\0Allow: /b")]),
     (b"User-Agent: foo\nAllow: /some/path\nUser-Agent: bar\n\n\n        Disallow: /", SIX),
-    (b"User-Agent: foo\r\n        Allow: /some/path\r\nUser-Agent: bar\r\n\r\n\r\nDisallow: /\r\n", SIX),
     (b"\xbbAllow: /", [allow(b"/")]),
     (b"\xef\x11\xbfUser-Agent: foo", raw(b"\x11\xbfUser-Agent: foo")),
     (b"User-Agent: foo\n\xef\xbb\xbfAllow: /AnyValue", [agent(b"foo"), *raw(b"\xef\xbb\xbfAllow: /AnyValue")]),
     (b"\xef\xbb\xbfUser-Agent: foo\nAllow: /AnyValue", MARKED),
     (b"\xef\xbbUser-Agent: foo\nAllow: /AnyValue", MARKED),
     (b"\xefUser-Agent: foo\nAllow: /AnyValue", MARKED),
-    (
-        PAGE,
-        [agent(b"SmerBot"), disallow(b"/path"), allow(b"/path/exception"), delay(60_000_000), *raw(b"")]
-        + [("Sitemap", b"https://example.com/sitemap.xml")],
-    ),
-    (b"Site map", raw(b"Site map")),
-    (b"Disallow", raw(b"Disallow")),
-    (b"user-agent:", [agent(b"")]),
-    (b"user-agent FooBot", [agent(b"FooBot")]),
-    (b"Sitemap:", [("Sitemap", b"")]),
-    (b"DISALLAW\t:\t/a\t# x", [disallow(b"/a")]),
-    (b"Allow: /a\xc2\xa0", [allow(b"/a")]),
-    (b"Disallow #/x", [allow(b"/")]),
+    (b"Crawl-delay: 3.14", [delay(3_140_000)]),
     (b"Disallow#x", raw(b"Disallow#x")),
-    (b"Disallow:/a:b", [disallow(b"/a:b")]),
-    (b"    crawl-delay  : 3.14", [delay(3_140_000)]),
-    (b"    crawl-delay  : 0.0", [delay(0)]),
-    (b"    crawl-delay  : -1.618", raw(b"    crawl-delay  : -1.618")),
-    (b"Crawl-delay: wait # x", raw(b"Crawl-delay: wait # x")),
+    (b"DISALLAW\t:\t/a\t# x", [disallow(b"/a")]),
     # a line's value is the bytes that it holds, and a delay has none
     (b"User-agent: A\nNoindex: /e\nSitemap: d", [agent(b"A"), *raw(b"Noindex: /e"), ("Sitemap", b"d")]),
     (b"\r" * 1_000_000, raw(b"")),
@@ -152,27 +131,14 @@ def test_files_have_their_lines_and_bodies(printed):
     assert found == [(some(line), some(body)) for line, body in FILE_LINES] + [("None", "None")] * 2
 
 
-# Files: one with a rule before the first user-agent line, a group of two crawlers, and a group of another one; and one in
-# which a delay ends the user-agent lines of a group, and the last group has no rule.
+# A rule before the first user-agent line, a group of two crawlers, and a group of another one.
 GROUPS = b"Disallow: /x\nUser-agent: a\nUser-agent: B\nDisallow: /y\nUser-agent: c\nAllow: /z"
-DELAYED = b"User-agent: a\nCrawl-delay: 1\nUser-agent: b\nAllow: /\nUser-agent: a\n"
 
 # A crawler, a file, whether it names the crawler, and a character for each line: `+` in the crawler's group, `-` in another,
 # a space in none.
 MASKS = [
     ("B", GROUPS, True, " +++--"),
-    ("c", GROUPS, True, " ---++"),
     ("d", GROUPS, False, " -----"),
-    ("*", GROUPS, False, " -----"),
-    ("a", DELAYED, True, "++--+"),
-    ("b", DELAYED, True, "--++-"),
-    # the group of `*` applies to every crawler that no line names
-    ("d", b"User-agent: a\nUser-agent: *\nDisallow: /x", False, "+++"),
-    ("a", b"User-agent: a\nAllow: /\nUser-agent: *\nAllow: /", True, "++--"),
-    # other lines belong to no group, and end none
-    ("a", b"Sitemap: s\nUser-agent: b\n\nSitemap: s\nUser-agent: a\nx\nDisallow: /x\n# y\nAllow: /y", True, " +  + + +"),
-    # without a user-agent line all lines apply to every crawler
-    ("a", b"Allow: /\nSitemap: s\nCrawl-delay: 1\n\nDisallow: /x", False, "+ + +"),
 ]
 MEMBERSHIPS = {"+": "Own", "-": "Other", " ": "Ungrouped"}
 
@@ -193,28 +159,19 @@ def test_each_line_has_its_group(printed, crawler, file, named, mask):
 # A pattern, a text, and whether the pattern matches it.
 MATCHES = [
     ("", "/x", True),
-    ("*", "", True),
-    ("$", "", True),
     ("$", "/", False),
     ("$$", "", True),
     ("*$", "/x", True),
     # a star stands for any number of bytes
     ("/a*", "/a", True),
     ("/fish*$", "/fishy", True),
-    # the first segment is at the beginning
-    ("/fish*$", "/shark/fish", False),
     # segments don't overlap
-    ("a*a", "a", False),
     ("a*a", "aba", True),
     ("/*ab*ba$", "/aba", False),
     ("/*ab*ba$", "/abba", True),
     # each is at the leftmost place, but the last one before `$` at the end
     ("/*aa*ab", "/aaab", True),
-    ("/*aab", "/aaab", True),
     ("/*abab$", "/ababab", True),
-    # after `$` there can be stars, but no other byte
-    ("/a$*", "/a", True),
-    ("/a$b", "/a$b", False),
     ("/*aab*aab$", "/" + "a" * 500 + "b" + "a" * 500 + "b", True),
     *(("*" * 1_000_000 + "$", text, True) for text in ("", "/x", "$")),
 ]
@@ -313,10 +270,8 @@ def test_patterns_of_each_size(printed, part):
 # Texts, and why they have no robots.txt address.
 NO_ADDRESS = {
     "ftp://linux-isos.org/": "EmptyHost",
-    "ipfs://etc/": "EmptyHost",
     "mailto:ferris@rust.com": "SetHostOnCannotBeABaseUrl",
     "/rust/v1/index.html": "RelativeUrlWithoutBase",
-    "http://:::cnn.com/": "EmptyHost",
     "http://a:8o/": "InvalidPort",
     "http://[::1": "InvalidIpv6Address",
     "http://1.2.3.4.5/": "InvalidIpv4Address",
@@ -384,9 +339,6 @@ def check_url(lines, verdict):
 
 # A file, a limit, a text, and the verdict on it as a URL.
 URLS = [
-    # URLs keep their query and fragment
-    ("Disallow: /a$", NO_LIMIT, "https://example.com/a", -1),
-    ("Disallow: /a$", NO_LIMIT, "https://example.com/a#b", 0),
     ("User-agent: *\nDisallow: /%C3%A9?q", NO_LIMIT, "HTTPS://Example.com:443/x/../é?q#f", -2),
     # the limit cuts the value, what is before it, nothing, and what is after a byte order mark
     ("Disallow: /abc", 13, "/abx", -1),
@@ -395,8 +347,6 @@ URLS = [
     ("Disallow: /abc", 10, "/abc", 1),
     ("Disallow: /abc", 10, "x", 0),
     ("Disallow: /abc", 10, "/robots.txt", 0),
-    ("Disallow: /abc", NO_LIMIT, "/abx", 0),
-    ("Disallow: /abc", NO_LIMIT, "/abc", -1),
     ("\ufeffDisallow: /a", 15, "/a", -1),
     ("\ufeffDisallow: /a", 15, "/x", 0),
     ("\ufeffDisallow: /a", 14, "/x", -1),
@@ -502,22 +452,9 @@ def test_each_crawler_gets_its_own_groups(printed, crawler, group, numbers, rule
 
 # Two files, and whether they have the same verdicts.
 FILES = [
-    ("", "", True),
-    ("Disallow: /a\nDisallow: /ab", "Disallow: /a", True),
     ("Disallow: /a*", "Disallow: /a", True),
     ("Disallow: /a$", "Disallow: /a", False),
     ("Disallow: /*a*b$", "Disallow: /*a*b", False),
-    # of two rules of the same length, the Allow decides
-    ("Disallow: /a\nAllow: /a", "Allow: /a", True),
-    # a longer rule decides, though it matches the same paths
-    ("Disallow: /a*\nAllow: /a", "Disallow: /a", True),
-    ("Disallow: /a*\nAllow: /a", "Allow: /a", False),
-    # `/robots.txt` is always allowed
-    ("Disallow: /\nAllow: /robots.txt$", "Disallow: /", True),
-    # no path begins without a slash
-    ("Disallow: a", "", True),
-    # another crawler's group
-    ("User-agent: *\nDisallow: /a\nUser-agent: Other\nDisallow: /b", "Disallow: /a", True),
 ]
 
 

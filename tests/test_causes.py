@@ -2,13 +2,10 @@
 one word of the arguments that isn't an option, and in which it isn't given. Their names: `/usr/bin/python3 tests/test_causes.py`."""
 
 import functools
-import re
 from os.path import commonprefix
 
 import pytest
-from support import ALL_WARNINGS, ROOT, cases_of, level_and_text, parts_of, repeated, spelled
-
-IN_JSON = r'"line":[^,]*,"name":"[a-z0-9-]+","text":"\[([a-z0-9-]+)(?: ([^]]*))?\]'
+from support import ALL_WARNINGS, ROOT, cases_of, parts_of, repeated, warnings_of
 
 
 def row_of(name, level, text):
@@ -19,9 +16,7 @@ def row_of(name, level, text):
 
 def given(case):
     """The numbers of the warnings that a case says are given."""
-    shown = [parts_of(line)[1:] for line in spelled(case.get("warn", "")).decode().splitlines()]
-    shown += [(name, *level_and_text(name, detail)) for name, detail in re.findall(IN_JSON, case.get("out", ""))]
-    return {row_of(*it) for it in shown}
+    return {row_of(*parts_of(line)[1:]) for line in warnings_of(case)}
 
 
 @functools.cache

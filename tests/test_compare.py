@@ -256,30 +256,19 @@ def test_no_command_of_a_workflow(tmp_path):
     assert reported(for_ferris(tmp_path, b"", b"Disallow: /", "/##[error]x", "/#["), "old.txt (empty)") == (1, lines, "")
 
 
-def test_files_by_name(tmp_path):
-    (tmp_path / "robots.txt").write_bytes(OLD)
-    assert reported(for_ferris(tmp_path, OLD, NEW, file="robots.txt"), new="robots.txt") == (0, NOTHING, "")
-
-
-def test_older_file_from_standard_input(tmp_path):
-    (tmp_path / "robots.txt").write_bytes(NEW)
-    result = run("robots_audit", ["--compare", "-", "robots.txt", "--agent=Googlebot"], OLD, cwd=tmp_path)
-    assert reported(result, "-", "robots.txt") == (1, GOOGLEBOT, "")
-
-
-@pytest.mark.parametrize("name, shown", [("", '""'), ("Googlebot/2.1", "Googlebot/2.1"), ("Googlebot.2", "Googlebot.2"), ("Googlebot*", "Googlebot*"), (" Bingbot", " Bingbot"), ("a\x1bb", "a%1Bb"), ("Caf\u00e9", "Caf\u00e9")])
+@pytest.mark.parametrize("name, shown", [("", '""'), ("Googlebot/2.1\x1b", "Googlebot/2.1%1B")])
 def test_name_that_no_crawler_has(tmp_path, name, shown):
     for words in ([f"--agent={name}"], ["--agent=Ferris", f"--agent={name}"]):
         assert outcome(compare(tmp_path, OLD, OLD, *words)) == (2, "", f"robots_audit: {shown}: {NAME}\n")
 
 
-@pytest.mark.parametrize("url, shown", [("", '""'), ("products/tea", "products/tea"), ("e.com/a", "e.com/a"), ("ftp://e.com/a", "ftp://e.com/a"), ("https:/a", "https:/a"), ("https://", "https://"), ("http://[1/a", "http://[1/a"), ("a\x1bb", "a%1Bb")])
+@pytest.mark.parametrize("url, shown", [("", '""'), ("ftp://e.com/\x1b", "ftp://e.com/%1B")])
 def test_neither_a_path_nor_a_url(tmp_path, url, shown):
     for words in ([url], ["/", "https://e.com/a", "HTTP://e.com", url, "tea"]):
         assert outcome(compare(tmp_path, OLD, NEW, *words)) == (2, "", f"robots_audit: {shown}: {URL}\n")
 
 
-@pytest.mark.parametrize("name", ["*", "Googlebot", "Offline Explorer", "new.txt"])
+@pytest.mark.parametrize("name", ["*", "Offline Explorer"])
 def test_an_argument_that_may_be_a_crawler(tmp_path, name):
     assert outcome(compare(tmp_path, OLD, NEW, name, "tea")) == (2, "", f"robots_audit: {name}: {MAYBE}\n")
 

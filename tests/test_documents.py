@@ -1,5 +1,5 @@
 """What documents show is what the sources and the programs have: contracts, code, commands with their output, options, warnings, errors,
-examples, links and names. tests/test_facts.py has the columns of their tables, tests/test_claims.py what is called proved or tested."""
+examples, links and names. tests/test_claims.py has what is called proved or tested."""
 
 import json
 import os
@@ -183,17 +183,6 @@ def test_documents_are_short():
 @pytest.mark.parametrize("name", PAGES)
 def test_prose_has_at_most_100_columns(name):
     assert not [line for line in prose(PAGES[name]) if len(line) > 100]
-
-
-PRIVATE_WORDS = r"want of memory|headline|captured?|overlong|behind|beside|stands?|stood|refus\w+|lent|mostly|hands? in|handed|spelled|told"
-
-
-@pytest.mark.parametrize("name", PAGES)
-def test_documents_use_plain_words(name):
-    """The main theorem has words of its own; everything else avoids them, and others that a reader would have to learn."""
-    document = PAGES[name].replace(section(PROOFS, "The main theorem"), "")
-    text = re.sub(r"`[^`]*`", "", "\n".join([*prose(document), *(" | ".join(row) for row in tables(document))]))
-    assert not re.findall(rf"\b(?:{PRIVATE_WORDS})\b", text, re.I)
 
 
 # ---- code, commands and their output

@@ -47,21 +47,6 @@ def test_explanation(name, tmp_path):
     assert [line.split(":")[0] for line in below] in (["given"], ["given", "proved"])
 
 
-@pytest.mark.parametrize(
-    "name, words, none, some",
-    [
-        ("looks-like-utf-16", "it has at least four bytes and every second one of the first 64 is NUL", [b"a\0b", b"a\0" * 31 + b"aa"], [b"a\0b\0", b"a\0" * 32 + b"aa"]),
-        ("file-too-large", "the file has more than 512,000 bytes", [b"#" * 512_000], [b"#" * 512_001]),
-        ("delay-over-a-day", "a delay is longer than 86,400 seconds", [b"Crawl-delay: 86400"], [b"Crawl-delay: 86401"]),
-    ],
-)
-def test_numbers_of_explanations(name, words, none, some):
-    assert words in explained(name)[1][0]
-    for files, is_given in [(none, False), (some, True)]:
-        for file in files:
-            assert (f"[{name}]" in run("robots_audit", ["-"], file).err) is is_given
-
-
 def test_sentences_about_proofs():
     """The sentences of explanations that say what is proved, and their theorems, are those of tests/theorems.toml; nothing else says so."""
     rows = tomllib.loads((ROOT / "tests/theorems.toml").read_text())["proved"]

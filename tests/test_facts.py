@@ -1,9 +1,9 @@
-"""Facts that no program prints: numbers of the header, the known crawlers, the columns of tables, and the keys of golden cases."""
+"""Facts that no program prints: numbers of the header, the known crawlers, and the keys of golden cases."""
 
 import re
 
 import pytest
-from support import CRATES, DOCUMENTS, KEYS, ROOT, run, tables
+from support import CRATES, KEYS, ROOT, run, tables
 
 SOURCES = "".join(path.read_text() for path in sorted(CRATES.glob("*/src/**/*.rt")))
 
@@ -65,22 +65,3 @@ def test_crawler_with_another_group_has_its_note(name):
 def test_keys_of_golden_cases():
     table = [row for row in tables((ROOT / "tests/test_programs.py").read_text()) if row[0].startswith("`")]
     assert {name for row in table for name in re.findall(r"`([^`]+)`", row[0])} == KEYS
-
-
-# ---- tables whose rows are tested by their columns' names: a table with other names would be passed over
-
-COLUMNS = {
-    "docs/SPECIFICATION.md": {
-        "Directive | Field names", "Line | Read as", "File | URL | Result", "URL | Match target",
-    },
-    "docs/COMPATIBILITY.md": {
-        "File | URL | RFC 9309 | Google | Rust crate | Here | Warning", "Input | RFC 9309 | Google | Rust crate | Here",
-        "Section | Requirement | Here", "URL | Rust crate | Here",
-    },
-}  # fmt: skip
-
-
-@pytest.mark.parametrize("name", COLUMNS)
-def test_tables_have_the_columns_by_which_they_are_tested(name):
-    first = re.findall(r"^\| (.*) \|\n\|---", DOCUMENTS[name], re.M)
-    assert COLUMNS[name] <= set(first) <= COLUMNS[name] | {"Difference | Parser | File | URL | There | Here"}

@@ -22,7 +22,7 @@ status = 1
 
 `[[rows]]` is a table with a case in each line of its `cases`. Its `columns`, or else those above all cases, name the keys of the cells
 between ` | `, in which ⏎ is a line feed and `-` an empty text. A cell replaces the table's value for its key, or the `{}` in that; an empty cell,
-or one that is left out, leaves it.
+or one that is left out, leaves it. All cases are repeated with each word of `each` in place of `{each}`.
 
 | Key | Meaning |
 |---|---|
@@ -31,7 +31,8 @@ or one that is left out, leaves it.
 | `expect`, `old` | runs in a folder with a file `expect.txt` or `old.txt` of this text |
 | `agent`, `robots` | for `robots_verdict`: the input is this crawler, the URLs in `out`, and this file |
 | `out`, `err` | the lines of standard output and standard error; none if left out |
-| `warn` | instead of `err`, for each warning, also if the program counts it only, a line `[LINE] NAME [DETAIL]`; the detail is its URL, the name of one of several crawlers in quotes, or the directive that may be meant. Messages come from tests/warnings.txt |
+| `warn` | instead of `err`, for each warning, also if the program counts it only, a line `[LINE] NAME [DETAIL]`; the detail is its URL, the name of one of several crawlers in quotes, or the directive that may be meant. `3-5 NAME` are three warnings. Messages come from tests/warnings.txt |
+| `json` | instead of `out`, a report as JSON, with what `rfc` and `warn` say: `crawler NAME: GROUP [LINE], MAY_FETCH, RULES` and possibly `ignored`, `delay`, `rejected` and `vendor`; below it verdicts; then rows as `MEMBERSHIP KIND VALUE`, or `no rows`, and each `sitemap` |
 | `status` | the exit status, if it isn't 0 |
 | `rfc` | what the report says of the file by RFC 9309: `verdicts`, `syntax LINE`, or the first line that isn't of its syntax |
 | `like`, `more` | a case above, whose keys apply here too; more lines of standard output. Keys above all cases apply to each |
@@ -40,9 +41,8 @@ or one that is left out, leaves it.
 
 The detail in `warn` can also be the level, if the name has several; a word of the message, such as
 `comma`, `invisible` or `=`; the number in `(3 rules)` or `(see line 3)`; or for `needless-rule`,
-`never`, `nothing`, `allowed` or `covered`, and then the line. In JSON, a warning is written without
-its level, and with `[NAME]` or `[NAME DETAIL]` as its text. In strings, `\\` is a backslash, `\r`
-CR, `\xHH` a byte, `\{N TEXT}` N times the TEXT, and `\[NAME]` a phrase of tests/support.py.
+`never`, `nothing`, `allowed` or `covered`, and then the line. In strings, `\\` is a backslash, `\r`
+CR, `\xHH` a byte, `\{N TEXT}` N times the TEXT, and `\[NAME]` a phrase of tests/support.py or a warning's message.
 `pytest tests -k 'URL and denied'` runs the cases with these words in their names.
 
 Larger inputs are made here.
@@ -59,7 +59,7 @@ from itertools import product
 from pathlib import Path
 
 import pytest
-from support import ROOT, WARNINGS, Result, cases_of, files_beside, input_of, program, repeated, run, spelled, wanted_of, warning_lines, with_standard
+from support import ROOT, WARNINGS, Result, cases_of, files_beside, input_of, parts_of, program, repeated, run, spelled, wanted_of, warning_lines, warnings_of, with_standard
 
 def golden():
     """The arguments of test_golden for each case, that of this module's comment too."""
@@ -136,7 +136,8 @@ def test_all_golden_cases_are_run():
     """Each table of each file, each row of `[[rows]]`, and the case in this module's comment."""
     texts = [path.read_text() for path in Path(ROOT, "tests/golden").glob("*/*.toml")]
     count = sum(len(re.findall(r"""^\[["'].*["']\]$""", text, re.M)) for text in texts)
-    count += sum(rows.count("\n") + 1 for text in texts for rows in re.findall(r"^cases = '''\n(.*?)\n?'''$", text, re.M | re.S))
+    tables = [it for text in texts for it in re.findall(r"^(?:each = '([^\n]*)'\ncolumns[^\n]*\n)?cases = '''\n(.*?)\n?'''$", text, re.M | re.S)]
+    count += sum((rows.count("\n") + 1) * max(len(words.split()), 1) for words, rows in tables)
     folders = {path.name for path in Path(ROOT, "tests/golden").iterdir() if path.is_dir()}
     values = [it.values for it in golden()]
     assert len([indented for _, _, indented in values if not indented]) == count + 1
@@ -144,8 +145,7 @@ def test_all_golden_cases_are_run():
 
 
 def test_golden_cases_have_each_warning():
-    warned = {line.split()[0] for _, case, _ in (it.values for it in golden()) for line in re.sub(r"(?m)^\d+ ", "", case.get("warn", "")).split("\n") if line}
-    assert warned == set(WARNINGS)
+    assert {parts_of(line)[1] for it in golden() for line in warnings_of(it.values[1])} == set(WARNINGS)
 
 
 @pytest.mark.parametrize("start, misses", [("/a", "\t\\^{}"), ("/a?x", "\t'`")], ids=["path", "query"])

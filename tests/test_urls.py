@@ -79,15 +79,10 @@ SPACE = PHRASES["space"]
 COMMA = "another URL after a comma; write each URL as a line or an argument of its own"
 SLIPS = {
     "a sitemap": (b'<?xml version="1.0"?>', 1, TAG),
-    "an element of a sitemap": (b"<url><loc>https://example.com/</loc></url>", 1, TAG),
     "markup after a path": (b"/a\n/b<br>", 2, TAG),
-    "the end of a tag": (b"/a>", 1, TAG),
     "two paths": (b"/a /b", 1, SPACE),
-    "columns": (b"# none\nhttps://example.com/a\t12\n", 2, SPACE),
-    "a no-break space": ("/a\u00a0b".encode(), 1, SPACE),
     "a no-break space at the end": ("/a\u00a0\n".encode(), 1, SPACE),
     "lines that end with CR": (b"/a\r/b\r", 1, SPACE),
-    "a comment after a path": (b"/a\n/b # tea\n", 2, SPACE),
     "two URLs": (b"https://example.com/a,https://example.com/b", 1, COMMA),
     "a path and a URL": (b"/a,HTTP://example.com/b", 1, COMMA),
 }

@@ -15,7 +15,7 @@ for_one_or_all = pytest.mark.parametrize("for_all", [False, True], ids=["for one
 def warnings(file, for_all):
     row = FILES[file]
     crawler = [] if for_all else ["--agent", row.get("agent", "Googlebot")]
-    urls = [f"https://example.com{path}" for path in row["urls"]]
+    urls = [f"https://example.com{path}" for path in row.get("urls", ["/"])]
     return json.loads(run("robots_audit", ["--json", *crawler, WILD / file, *urls]).out)["warnings"]
 
 
@@ -23,7 +23,7 @@ def warnings(file, for_all):
 @for_one_or_all
 def test_faults_are_found(file, for_all):
     row = FILES[file]
-    wanted = {*row.get("gives", []), *row.get("to_all" if for_all else "to_one", [])}
+    wanted = {*row.get("gives", []), *(row.get("to_all", []) if for_all else [])}
     assert wanted - {warning["name"] for warning in warnings(file, for_all)} == set()
 
 

@@ -80,11 +80,6 @@ def test_what_to_do_for_a_url(caches):
         cache.look("ftp://a.example/")
 
 
-def test_half_of_a_short_lifetime(caches):
-    site, _ = fetched(caches(lifetime=600), A, file())
-    assert (site.refresh, site.expires) == (caches.clock.now + 300, caches.clock.now + 600)
-
-
 def test_an_older_file_counts_while_a_newer_one_is_fetched_in_time(caches):
     cache = caches()
     old, _ = fetched(cache, A, file())
@@ -452,13 +447,6 @@ def test_a_number_that_is_none(name, value):
         RobotsCache(**{name: value})
     with pytest.raises(ValueError, match="^after_30_days is 'open': it has to be"):
         RobotsCache(after_30_days="open")
-
-
-def test_a_decision_is_true_if_the_crawler_may_fetch(caches):
-    cache = caches()
-    site, _ = fetched(cache, A, file())
-    assert cache.decide(site, "http://a.example/", "x") and not cache.decide(site, "http://a.example/private/", "x")
-    assert not cache.decide(fetched(cache, HTTP, BUSY)[0], "http://h.example/", "x")
 
 
 FIELDS = {"Location": "http://b.example/r"}

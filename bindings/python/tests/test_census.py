@@ -141,14 +141,11 @@ VIDEO = record_of("response", "https://a/video", b"HTTP/1.1 200 OK\r\n\r\n" + by
     "data, sites, error",
     [
         (b"WARC/1.0\r\nContent-Length: -42\r\n\r\n" + SOUND, [], "unread: ValueError: a record has no length"),
-        (b"WARC/1.0\r\nWARC-Type: response\r\n\r\n" + SOUND, [], "unread: ValueError: a record has no length"),
         (SOUND + b"garbage" + SOUND, ["sound"], "unread: ValueError: no record begins here"),
-        (SOUND + SOUND[:-10], ["sound"], "unread: ValueError: the record is cut"),
         (SOUND + VIDEO[:-10], ["sound"], "unread: ValueError: the record is cut"),
         (SOUND + SOUND[:60], ["sound"], "unread: ValueError: a head is cut or too long"),
         (SOUND + b"WARC/1.0\r\nA: " + b"a" * 5_000_000 + SOUND, ["sound"], "unread: ValueError: a head is cut or too long"),
         (response("", b"Disallow: /") + SOUND, ["sound"], "damaged: ValueError: the URL has no host"),
-        (response(".", b"Disallow: /") + SOUND, ["sound"], "damaged: ValueError: the URL has no host"),
         (response("a b", b"Disallow: /").replace(b"a b", b"a^b") + SOUND, ["sound"], "damaged: UrlError: 'https://a^b/robots.txt' is no URL"),
         (response("a", b"", "ICY 200 OK") + SOUND, ["sound"], "damaged: ValueError: the response has no status"),
         (record_of("response", "https://a/robots.txt", b"HTTP/1.1 200 OK\r\nA: b\r\n") + SOUND, ["sound"], "damaged: ValueError: a head is cut"),
@@ -181,28 +178,22 @@ def packed(body, encoding="gzip"):
 
 # A record, and its body, or why it is left out, or what is wrong with it.
 READ = [
-    *((packed(PACKED, it), b"Disallow: /") for it in ("gzip", "GZIP", "x-gzip")),
-    *((packed(b"Disallow: /", it), b"Disallow: /") for it in ("identity", "", "br")),  # the archive has undone one
+    *((packed(PACKED, it), b"Disallow: /") for it in ("GZIP", "x-gzip")),
+    *((packed(b"Disallow: /", it), b"Disallow: /") for it in ("identity", "br")),  # the archive has undone one
     (packed(PACKED + b"\r\n<!-- -->"), b"Disallow: /"),
-    (packed(PACKED + PACKED), b"Disallow: /Disallow: /"),
     (packed(gzip.compress(b"#" * 50_000_000, mtime=0)), LONG[: census.FILE_LIMIT]),
     (response("a", b"Disallow: /", "HTTP/2 200", b"A: b\r\n" * 500), b"Disallow: /"),
     (response("a", b"Disallow: /\xff", more=b"Content-Length: 5\r\n"), b"Disallow: /\xff"),
     (response("a", b"Disallow: /", more=b"Transfer-Encoding: chunked\r\n"), b"Disallow: /"),
     (response("a", LONG, more=b"Content-Length: 5000000\r\n", fields="WARC-Truncated: length\r\n"), LONG),
     (response("a", b"Disallow: /", fields="WARC-Truncated: time\r\n"), "incomplete"),
-    (response("a", LONG, "HTTP/1.1 206 Partial Content"), "incomplete"),
     (response("a", b"Disallow: /", more=b"Content-Length: 12\r\n"), "incomplete"),
     (packed(PACKED[:-9]), "incomplete"),
     (response("a", b"b\r\nDisallow: /\r\n", more=b"Transfer-Encoding: chunked\r\n"), "incomplete"),
-    (response("a", b"c\r\nDisallow: /", more=b"Transfer-Encoding: chunked\r\n"), "incomplete"),
-    (response("a", b"", "HTTP/1.1 304 Not Modified"), "with status 3xx"),
     (response("a", b"", "HTTP/2 404"), "with status 4xx"),
-    (response("a", b"", "HTTP/1.0 503 Busy"), "with status 5xx"),
     (record_of("revisit", "https://a/robots.txt", b"HTTP/1.1 200 OK\r\n\r\n"), "revisits"),
     (record_of("request", "https://a/robots.txt", b"GET /robots.txt HTTP/1.1\r\n\r\n"), "other records"),
     (response("a", b"Disallow: /").replace(b"https", b"ftp"), "other records"),
-    (response("a", b"Disallow: /").replace(b"/robots.txt", b"/b/robots.txt"), "other records"),
     (response("a", b"Disallow: /").replace(b"/robots.txt", b"/robots.txt?b"), "other records"),
     (response("a\\@b", b"Disallow: /"), "other records"),  # for a browser, the host is a
     *((packed(PACKED, it), ValueError(f"encoded as {it}, which")) for it in ("br", "deflate", "gzip, identity")),
@@ -338,17 +329,13 @@ def test_no_text_of_an_archive_steers_a_terminal_or_a_spreadsheet(tmp_path):
     "words, error",
     [
         (["--agents", "X/1.0"], "'X/1.0' is no product token"),
-        (["--agents", " ,"], "there has to be a URL and an agent"),
         (["--batch", "0"], "at least one record"),
-        (["--batch", "-5"], "at least one record"),
         (["--workers", "-1"], "no number of workers"),
         (["--scheduler", "tcp://127.0.0.1:1"], "--scheduler needs --parts"),
         (["--parts", "/dev/null"], "/dev/null"),
         (["/usr", "--parts", "/usr/lib/parts"], "/usr/lib/parts is in a source"),
         (["missing.jsonl"], "missing.jsonl isn't a folder, or a file"),
-        (["/dev/null"], "/dev/null isn't a folder, or a file"),
         (["--csv", "/no/folder/a.csv"], "/no/folder/a.csv"),
-        (["--svg", "/"], "Is a directory"),
     ],
 )
 def test_what_the_program_cannot_use_is_an_error_first(sources, monkeypatch, capsys, words, error):

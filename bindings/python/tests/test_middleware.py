@@ -43,16 +43,11 @@ WITH_SITEMAPS = RULES + "".join(f"Sitemap: {it}\n" for it in SITEMAPS).encode()
 # the answers for robots.txt, and which pages are fetched then
 MEANINGS = {
     "200": (answers(200), PUBLIC),
-    "200 without a byte": (answers(200, b""), PAGES),
     "200 with more than 512,000 bytes": (answers(200, LONG), PUBLIC),
     "200 without an end": (endless, PUBLIC),
     "five redirects": (redirects(5), PUBLIC),
     "six redirects": (redirects(6), PAGES),
     "301 without a location": (answers(301), []),
-    "301 to another scheme": (answers(301, Location="data:text/plain,"), []),
-    "206": (answers(206), []),
-    "304": (answers(304, b""), []),
-    "403": (answers(403, CLOSED), PAGES),
     "404": (answers(404, CLOSED), PAGES),
     "500": (FAILS, []),
     "nothing": (closes, []),
@@ -72,12 +67,8 @@ LATER = {
     "200, then 500": ([answers(200), FAILS], PUBLIC),
     "200, then nothing": ([answers(200), closes], PUBLIC),
     "200, then half a body": ([answers(200), HALF], PUBLIC),
-    "200, then 429": ([answers(200), answers(429, b"")], PUBLIC),
-    "200, 500, then 200": ([answers(200), FAILS, answers(200)], PUBLIC),
     "200, then another file": ([answers(200), answers(200, CLOSED)], ["/"]),
-    "200, then 404": ([answers(200), answers(404, CLOSED)], PAGES),
     "200, 404, then 500": ([answers(200), answers(404), FAILS], ["/", "/private/x", "/public/a"]),
-    "404, then 500": ([answers(404), FAILS], ["/"]),
     "200 with sitemaps": ([answers(200, WITH_SITEMAPS)], PUBLIC),
 }
 EXPIRES = {"TEXTING_ROBOTS_LIFETIME": 0.1, "TEXTING_ROBOTS_RETRY": 0.1, "DOWNLOAD_DELAY": 0.3, "RANDOMIZE_DOWNLOAD_DELAY": False}
@@ -134,7 +125,7 @@ def test_what_is_fetched_after_a_later_answer(crawls, name):
 
 
 def test_the_file_is_fetched_once_and_first(crawls):
-    for name in ("200", "403", "500"):
+    for name in ("200", "404", "500"):
         assert [index for index, path in enumerate(crawls[0][name].paths()) if path == "/robots.txt"] == [0]
 
 

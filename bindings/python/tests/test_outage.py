@@ -9,8 +9,8 @@ import types
 
 import package
 import pytest
-from sites import PUBLIC, RULES, Site, answers, closes, crawled, never, served
-from test_middleware import CLOSED, FAILS, HALF, MIDDLEWARE, PAGES, TOLERANCE, Engine, file, gaps, ours
+from sites import PUBLIC, RULES, Site, answers, crawled, never, served
+from test_middleware import FAILS, HALF, MIDDLEWARE, TOLERANCE, Engine, file, gaps, ours
 
 package.needs("scrapy")
 pytestmark = pytest.mark.alone("crawls")
@@ -34,11 +34,8 @@ HANGS = WAITS | {"TEXTING_ROBOTS_TIMEOUT": 4}
 OUTAGES = {
     "500": ([FAILS, FAILS, answers(200)], WAITS, 3, PUBLIC),
     "503 with a time": ([BUSY, answers(200)], WAITS, 2, PUBLIC),
-    "closed": ([closes, closes, answers(200)], WAITS, 3, PUBLIC),
     "half a body": ([HALF, answers(200)], WAITS, 2, PUBLIC),
     "no answer": ([never, answers(200)], HANGS, 2, PUBLIC),
-    "then no file": ([FAILS, answers(404)], WAITS, 2, PAGES),
-    "then all is denied": ([FAILS, answers(200, CLOSED)], WAITS, 2, []),
     "with retries by Scrapy": ([FAILS, answers(200)], WAITS | {"RETRY_ENABLED": True}, 2, PUBLIC),
     "for longer than requests may wait": ([FAILS], WAITS | {"TEXTING_ROBOTS_RETRY": 4, "TEXTING_ROBOTS_PARKED_SECONDS": 5}, 2, []),
     "for longer, by the server": ([answers(503, b"", **{"Retry-After": "9"})], WAITS | {"TEXTING_ROBOTS_PARKED_SECONDS": 5}, 1, []),
