@@ -214,11 +214,11 @@ def group_file(r):
 
 
 FIELDS = [*NAMES, *map(str.title, NAMES), *IGNORED, "", "Disallow\u200b", "User-agent\u200b", "Host", "Host", "\xe9llow"]
-FIELDS += "User-agnet User-agents Agent Usragnt Alow Allowed Sitemaps xAllow Allow- Allow-x Disallow_ Disallowed Stmp".split()
+FIELDS += "User-agnet User-agents Agent Usragnt Alow Allowed Sitemaps xAllow Allow- Allow-x Disallow_ Disallowed Stmp Allow/ab Disallow.ab Sitemap/ab".split()
 SEPARATORS = [": "] * 5 + [":", " :", "  :", "\t:\t", " ", "\t", "", "=", ";", "::", ":\xa0", " \xa0"]
 VALUES = ["", "*", "/a ", "/a\xa0", "\u3000/a", "/a \x0b", "/a\u200b", "a.b/", "a.b:80", "http://a", "/\udcff", "/ # Allow: /"]
 SEAMS = [*" \t*x-$?=/9\xa0#", "\\n", "\\r"]
-INNER_FIELDS = "Allow: DISALLOW: disallow: Sitemap: Crawl-delay: User-agent: Useragent:".split()
+INNER_FIELDS = "Allow: DISALLOW: disallow: Sitemap: Crawl-delay: User-agent: Useragent: Allow User-agent".split()
 INNER = r"(?i:user-agent:)|([ \t*]|\\[nr]|[A-Za-z0-9/$?=](?=[ADSC]))(?i:allow|disallow|sitemap|crawl-delay):"
 
 
