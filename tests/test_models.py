@@ -235,7 +235,7 @@ def line_file(r):
 
 def check(make, model):
     r = random.Random(120)
-    files = [make(r) for _ in range(1500)]
+    files = [make(r) for _ in range(1000)]
     wanted = [sorted(map(parts_of, model(*file))) for file in files]
     names = {name for some in wanted for _, name, *_ in some}
     for (text, args), some in zip(files, wanted):
