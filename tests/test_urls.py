@@ -81,6 +81,8 @@ SLIPS = {
     "a sitemap": (b'<?xml version="1.0"?>', 1, TAG),
     "an element of a sitemap": (b"<url><loc>https://example.com/</loc></url>", 1, TAG),
     "markup after a path": (b"/a\n/b<br>", 2, TAG),
+    "the start of a tag": (b"/a<", 1, TAG),
+    "the end of one": (b"/a>", 1, TAG),
     "the end of a tag": (b"/a>", 1, TAG),
     "two paths": (b"/a /b", 1, SPACE),
     "columns": (b"# none\nhttps://example.com/a\t12\n", 2, SPACE),
