@@ -22,6 +22,7 @@ ANY = {
         ["Googlebot", "Googlebot-Image", "Googlebot-News", "Googlebot-Video", "Google-InspectionTool", "Storebot-Google", "Google-CloudVertexBot", "Applebot"],
         "line 2 denies it",
     ),
+    "sixteen": (b"".join(b"User-agent: %c\n" % it for it in b"abcdefghijklmnop") + b"Disallow: /a", b"allow any /a", [*"abcdefghijklmnop"], "line 17 denies it"),
     "a group of this name": (b"User-agent: any\nDisallow: /a", b"allow any /a", ["any"], "line 2 denies it"),
 }
 

@@ -257,6 +257,10 @@ def test_title_without_an_agent(file, crawlers):
     assert f"<title>robots.txt for {crawlers}</title>" in page("-", file=file)
 
 
+def test_title_with_star():
+    assert "<title>robots.txt for *</title>" in page("--agent=*", "-", file=b"Disallow: /a")
+
+
 def test_title_with_an_agent_twice():
     assert "<title>robots.txt for Ferris</title>" in page("--agent=Ferris", "--agent=ferris", "-", file=b"User-agent: A")
 

@@ -80,6 +80,8 @@ COMMA = "another URL after a comma; write each URL as a line or an argument of i
 SLIPS = {
     "a sitemap": (b'<?xml version="1.0"?>', 1, TAG),
     "markup after a path": (b"/a\n/b<br>", 2, TAG),
+    "the start of a tag": (b"/a<", 1, TAG),
+    "the end of a tag": (b"/a>", 1, TAG),
     "two paths": (b"/a /b", 1, SPACE),
     "a no-break space at the end": ("/a\u00a0\n".encode(), 1, SPACE),
     "lines that end with CR": (b"/a\r/b\r", 1, SPACE),
