@@ -103,7 +103,6 @@ fn has_closing(rules: &[SiteRule<'_>]) -> bool
     rules.iter().any(|rule| is_closing(rule))
 }
 
-#[tactic(auto, using(crate::proofs::ClosedLemmas::none_closing))]
 fn first_closing(
     alloc: Global,
     exempt: &Patterns,
