@@ -74,7 +74,6 @@ fn is_reported(all_groups: bool, repeats: bool, has_allow: bool, labeled: &Label
 }
 
 /// The numbers of rules that are checked and repeat a rule above them in their group.
-#[tactic(auto, using(crate::proofs::RepeatedLemmas::found_next))]
 pub(crate) fn repeated(
     alloc: Global,
     all_groups: bool,

@@ -1,9 +1,9 @@
 -- The values of the rules of a group that were seen so far.
-use Rattle.std.specs.Prelude.{◌≡◌, ◌+◌, ℕ, All, Bool, List, Some, bytes_eq, slice_get, true}
+use Rattle.std.specs.Prelude.{◌≡◌, ◌+◌, ℕ, Bool, List, Some, bytes_eq, slice_get, true}
 use Rattle.std.specs.{HashSet.contains}
 use Rattle.texting_robots.specs.Callers.{Allow, Disallow, LineValue}
 use Rattle.robots_warnings.specs.declared.{values.Value.Value, repeated.Seen.Seen}
-use Rattle.robots_warnings.specs.{Facts.is_rule, Repeated.IsAbove, Repeated.IsRepeat}
+use Rattle.robots_warnings.specs.{Facts.is_rule, Repeated.IsAbove}
 
 abbrev pub value_eq : Value → Value → Bool
 value_eq one two = bytes_eq one.bytes.now two.bytes.now
@@ -14,11 +14,6 @@ pub record HasSeen (seen : Seen) (lines : List LineValue) (position : ℕ) : Typ
       → IsAbove lines position (Allow key.bytes.now)
   pub disallows : (key : Value) → contains value_eq seen.disallows key ≡ true
       → IsAbove lines position (Disallow key.bytes.now)
-
--- what was found above this position
-pub record IsFoundUpto (seen : Seen) (found : List ℕ) (lines : List LineValue) (position : ℕ) : Type 0 where
-  pub has : HasSeen seen lines position
-  pub are : All (IsRepeat lines) found
 
 -- the line at this position is added to those above it; `is`: it repeats a rule
 pub record AddsLine (old new : Seen) (line : LineValue) (is : Bool) : Type 0 where
