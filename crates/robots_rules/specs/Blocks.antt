@@ -1,7 +1,7 @@
 -- Files from which rules or lines are deleted.
 use Rattle.std.specs.Prelude.{◌≡◌, ℕ, ◌+◌, Bool, true, false, not, ◌&&◌, ◌||◌, List, [], ◌∷◌, Option, Some}
 use Rattle.std.specs.Prelude.{None, if◌then◌else◌, ◌≢◌, ◌⊎◌, ◌↔◌, ◌==◌, ◌++◌, map}
-use Rattle.std.specs.{Option.option_map_or, List.concat}
+use Rattle.std.specs.{Option.option_map_or, List.concat, List.list_any}
 use Rattle.texting_robots.specs.{Group.is_agent, Line.LineValue, Cut.IsCut, Cut.Pair, Line.without_bom}
 use Rattle.robots_rules.specs.{declared.blocks.Block.Block}
 use Rattle.texting_robots.specs.Callers.{IsFileRejected, IsRobotOfFile, IsVerdict, RobotValue, file_bodies}
@@ -35,6 +35,9 @@ keep_blocks_from gone block position [] = not block.is_lost
 keep_blocks_from gone block position (line ∷ lines) =
     option_map_or (λ (next : Block). keep_blocks_from gone next (position + 1) lines)
     (block_after block (gone (position + 1)) line) false
+
+abbrev pub KeepBlocks : (ℕ → Bool) → List LineValue → Type 0
+KeepBlocks gone lines = keep_blocks_from gone no_rule 0 lines ≡ true
 
 -- the lines that are left of those from a position on
 abbrev pub left_from : {A : Type 0} → (ℕ → Bool) → ℕ → List A → List A
@@ -81,10 +84,12 @@ begin_with_mark [] = false
 begin_with_mark ([] ∷ bodies) = false
 begin_with_mark ((b ∷ body) ∷ bodies) = (b == 0xEF) || ((b == 0xBB) || (b == 0xBF))
 
--- the lines of the file with these numbers can be deleted together, and the first line that stays doesn't
--- begin with a byte of the byte order mark, which isn't read at the start of a file
+-- the lines of the file with these numbers can be deleted together: they are rules, and each block that has
+-- rules keeps one, as other parsers may ignore delays; and the first line that stays doesn't begin with a byte
+-- of the byte order mark, which isn't read at the start of a file
 pub record CanBeDeleted (numbers : List ℕ) (file : List ℕ) : Type 0 where
   pub lines : AreDeletable numbers (file_lines file)
+  pub blocks : KeepBlocks (λ n. list_any (λ number. number == n) numbers) (file_lines file)
   pub front : begin_with_mark (lines_without numbers (file_bodies file)) ≡ false
 
 -- the found rules of a file

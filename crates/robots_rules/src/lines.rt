@@ -3,7 +3,7 @@ ghost use Rattle.std.specs.Prelude.{◌≡◌, ◌∷◌, All, Contains, IfOk, I
 ghost use Rattle.std.specs.Prelude.{ℕ};
 ghost use Rattle.std.specs.List.{list_any};
 ghost use Rattle.texting_robots.specs.Callers.{agents_in, file_bodies, file_lines};
-ghost use Rattle.robots_rules.specs.Blocks.{AreFoundIn, begin_with_mark, left_from};
+ghost use Rattle.robots_rules.specs.Blocks.{AreFoundIn, KeepBlocks, begin_with_mark, left_from};
 ghost use Rattle.robots_rules.specs.Search.{IsSettled, is_found, names_of, rule_at};
 ghost use Rattle.robots_rules.specs.Needless.{nothing};
 
@@ -18,6 +18,9 @@ use texting_robots::{RobotError, Site};
 
 /// How many times the check begins anew, without the rules that another crawler turned out to need.
 const ROUNDS: usize = 8;
+
+/// How many rules the crawlers may have in all: what is left of them is kept until the end, in about 85 MB.
+const MOST_RULES: usize = 1_000_000;
 
 /// The rules that are left of the crawler's own.
 fn settled_for<'a>(
@@ -53,6 +56,20 @@ fn crawlers_of(alloc: Global, site: &Site) -> Result<Vec<&str>, AllocError>
     }
     agents.push("*")?;
     Ok(agents)
+}
+
+/// Whether the crawlers have more rules in all than are kept. A rule counts for each that has it.
+fn have_too_many(site: &Site, crawlers: &[&str]) -> bool {
+    let mut count: usize = 0;
+    for agent in crawlers {
+        for _ in site.rules(agent) {
+            count = count.saturating_add(1);
+        }
+        if count > MOST_RULES {
+            return true;
+        }
+    }
+    false
 }
 
 /// The rules in the lines that stay are needed.
@@ -97,7 +114,8 @@ fn are_free(rules: &[NeedlessRule], stays: &LineNumbers) -> bool {
 /// None is in a line that stays, each block that has rules keeps one, and the first line that stays doesn't
 /// begin with a byte of the byte order mark.
 fn can_be_removed(rules: &[NeedlessRule], progress: &Progress, text: &[u8]) -> bool
-    ensures { IsTrue result
+    ensures keep { IsTrue result → KeepBlocks (is_found progress.now.found) (file_lines text.now) }
+    ensures front { IsTrue result
         → begin_with_mark (left_from (is_found progress.now.found) 0 (file_bodies text.now)) ≡ false }
 {
     if !are_free(rules, &progress.stays) {
@@ -152,6 +170,7 @@ fn checked(
     requires names { (agent : List ℕ) → Contains (codes "*" ∷ agents_in (file_lines site.now)) agent
         → Contains (names_of settled.now) agent }
     requires rules { rules.items ≡ map rule_at progress.now.found.entries }
+    requires blocks { KeepBlocks (is_found progress.now.found) (file_lines site.now) }
     requires front { begin_with_mark (left_from (is_found progress.now.found) 0 (file_bodies site.now)) ≡ false }
     ensures { IfOk result (λ found. AreFoundIn site.now found.rules) }
 {
@@ -172,6 +191,9 @@ fn settled_lines(alloc: Global, site: &Site) -> Result<Needless, RobotError>
     let mut budget = BUDGET;
     let mut stays = BTreeSet::new(alloc);
     let crawlers = crawlers_of(alloc, site)?;
+    if have_too_many(site, &crawlers) {
+        return Ok(nothing(alloc));
+    }
     for _ in 0..ROUNDS {
         let mut progress = Progress {
             found: BTreeMap::new(alloc),
@@ -191,9 +213,10 @@ fn settled_lines(alloc: Global, site: &Site) -> Result<Needless, RobotError>
 
 /// The rules that are needless for every crawler that gets them, and can be removed together without changing
 /// a verdict. The last rule of a block isn't found, and `Allow: /` and an empty Disallow aren't, which are
-/// meant as they are. None is found if a rule is too long, if crawlers need each other's rules in too many
-/// ways, or if the first line that stays begins with a byte of the byte order mark. If the file is larger
-/// than the site's limit, deleting lines from it lets others be read.
+/// meant as they are. None is found if a rule is too long, if the crawlers have more than 1,000,000 rules in
+/// all, if they need each other's rules in too many ways, or if the first line that stays begins with a byte
+/// of the byte order mark. If the file is larger than the site's limit, deleting lines from it lets others be
+/// read.
 pub fn needless_lines(alloc: Global, site: &Site) -> Result<Needless, AllocError>
     ensures { IfOk result (λ found. AreFoundIn site.now found.rules) }
 {

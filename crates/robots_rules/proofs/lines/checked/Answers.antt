@@ -5,4 +5,5 @@ use Rattle.robots_rules.proofs.lines.checked.Goals as goal
 pub returns-then-branch : goal.returns-then-branch
 returns-then-branch c =
     are_found_in c.args.progress.now.found c.args.rules.items c.requires.rules c.args.site.now
-    c.args.settled.now (c.in_ok-is_same_without.ensures (search rules)) c.requires.names c.requires.front
+    c.args.settled.now (c.in_ok-is_same_without.ensures (search rules)) c.requires.names c.requires.blocks
+    c.requires.front

@@ -11,5 +11,8 @@ checked-requires-clause-names c = λ agent has.
     rw c.as_slice-then-can_be_removed.ensures.value (subst (λ (all : List (List ℕ)). Contains all agent) (sym names)
     (c.in_ok-crawlers.ensures agent has))
 
+pub returns-then-have_too_many : goal.returns-then-have_too_many
+returns-then-have_too_many c = rw c.nothing.ensures (nothing_found c.args.site.now [] refl)
+
 pub returns : goal.returns
-returns c = rw c.nothing.ensures (nothing_found c.args.site.now [] refl)
+returns c = rw c.nothing-2.ensures (nothing_found c.args.site.now [] refl)
