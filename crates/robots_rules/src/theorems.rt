@@ -7,7 +7,8 @@ ghost use Rattle.robots_rules.specs.declared.needless.NeedlessRule.{NeedlessRule
 ghost use Rattle.robots_rules.specs.Blocks.{AreFoundIn, AreWholeLines, HaveSameRobot, IsLeftOf};
 ghost use Rattle.robots_rules.specs.Needless.{AreDeletable, lines_without, numbers_of};
 
-/// Deleting lines that can be deleted changes no verdict of any crawler, whether the file names it or not.
+/// Deleting lines that can be deleted changes no verdict of any crawler whose name is UTF-8, whether the file
+/// names it or not.
 pub fn deleting_changes_no_verdict()
     ensures { (lines : List LineValue) (numbers : List ℕ) → AreDeletable numbers lines → (agent : List ℕ)
         → IsUtf8 agent → (text : List ℕ) (answer : Bool)
