@@ -84,14 +84,14 @@ begin_with_mark [] = false
 begin_with_mark ([] ∷ bodies) = false
 begin_with_mark ((b ∷ body) ∷ bodies) = (b == 0xEF) || ((b == 0xBB) || (b == 0xBF))
 
--- the lines of the file with these numbers can be deleted together: they are rules, and each block that has
--- rules keeps one, as other parsers may ignore delays; and the first line that stays doesn't begin with a byte
--- of the byte order mark, which isn't read at the start of a file
+-- The lines of the file with these numbers can be deleted together. They are rules, and each block that has
+-- rules keeps one, as other parsers may ignore delays. The first line that stays doesn't begin with a byte of
+-- the byte order mark, which isn't read at the start of a file.
 pub record CanBeDeleted (numbers : List ℕ) (file : List ℕ) : Type 0 where
   pub lines : AreDeletable numbers (file_lines file)
   pub blocks : KeepBlocks (λ n. list_any (λ number. number == n) numbers) (file_lines file)
   pub front : begin_with_mark (lines_without numbers (file_bodies file)) ≡ false
 
--- the found rules of a file
+-- the lines of the found rules, if any, can be deleted together
 pub record AreFoundIn (file : List ℕ) (found : List NeedlessRule) : Type 0 where
   pub deletable : found ≢ [] → CanBeDeleted (numbers_of found) file

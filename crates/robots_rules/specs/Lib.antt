@@ -3,3 +3,4 @@ pub mod Internal
 pub mod Needless
 pub mod Search
 pub mod Blocks
+pub mod Examples

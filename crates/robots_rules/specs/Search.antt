@@ -35,16 +35,20 @@ Covers wide narrow = (text : List ℕ) → text ≢ robots_file → Matches narr
 abbrev pub AreApart : List ℕ → List ℕ → Type 0
 AreApart one other = (text : List ℕ) → Matches one text → ¬ Matches other text
 
--- how many bytes a rule of the other kind has to have, so that the rule doesn't decide in its place
+-- how many bytes a rival, a rule of the other kind, has to have at least to rank above the replacement
 abbrev pub least_rival : Rule → ℕ
 least_rival rule = if rule.1 then length rule.0 + 1 else length rule.0
 
--- it doesn't decide where the rule would, were it deleted, unless it is shorter
+-- The other rule is no rival that ranks between the rule and its replacement, which has to have at least so
+-- many bytes: it is of the rule's kind, is shorter, ranks at least as high as the rule, or matches none of its
+-- texts.
 abbrev pub IsNoRival : ℕ → PlacedRule → PlacedRule → Type 0
 IsNoRival least rule other = other.rule.1 ≢ rule.rule.1 → least ≤ length other.rule.0
     → rank_of other.rule < rank_of rule.rule → AreApart other.rule.0 rule.rule.0
 
--- if the other one of these rules matches every text that the rule matches, the rule changes no verdict
+-- The other rule ranks at least as high as the rule, or it is of the same kind and no rule of the other kind
+-- that could match the same texts ranks between. If it is another one of the rules and covers the rule, the
+-- rule changes no verdict.
 abbrev pub Replaces : List PlacedRule → PlacedRule → PlacedRule → Type 0
 Replaces rules rule other =
     (rank_of rule.rule ≤ rank_of other.rule)

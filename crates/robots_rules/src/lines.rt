@@ -47,7 +47,8 @@ fn has_star(agents: &[&str]) -> bool
 
 /// Each once.
 fn crawlers_of(alloc: Global, site: &Site) -> Result<Vec<&str>, AllocError>
-    ensures { IfOk result (λ crawlers. (agent : List ℕ) → Contains (codes "*" ∷ agents_in (file_lines site.now)) agent
+    ensures { IfOk result (λ crawlers. (agent : List ℕ)
+        → Contains (codes "*" ∷ agents_in (file_lines site.now)) agent
         → Contains (map (λ crawler. crawler.now) crawlers.items) agent) }
 {
     let mut agents = site.agents(alloc)?;
@@ -171,7 +172,8 @@ fn checked(
         → Contains (names_of settled.now) agent }
     requires rules { rules.items ≡ map rule_at progress.now.found.entries }
     requires blocks { KeepBlocks (is_found progress.now.found) (file_lines site.now) }
-    requires front { begin_with_mark (left_from (is_found progress.now.found) 0 (file_bodies site.now)) ≡ false }
+    requires front { begin_with_mark (left_from (is_found progress.now.found) 0 (file_bodies site.now))
+        ≡ false }
     ensures { IfOk result (λ found. AreFoundIn site.now found.rules) }
 {
     let undecided = numbers_in(alloc, &progress.undecided)?;

@@ -62,7 +62,8 @@ enum Outcome {
 
 /// The same rule, or another one with its pattern.
 fn copied(alloc: Global, rule: &Rule, is_allow: bool) -> Result<Rule, AllocError>
-    ensures { IfOk result (λ made. made ≡ record { rule = (rule.now.rule.0, is_allow); line = rule.now.line }) }
+    ensures { IfOk result (λ made. made
+        ≡ record { rule = (rule.now.rule.0, is_allow); line = rule.now.line }) }
 {
     let mut pattern = String::new(alloc);
     pattern.push_str(rule.pattern.as_str())?;
@@ -114,7 +115,7 @@ fn covers(alloc: Global, budget: &mut usize, wide: &Rule, narrow: &Rule) -> Resu
     }
 }
 
-/// The same, if it matches the texts of the other one, without which it isn't looked at for long.
+/// `covers`, which is asked only if `wide` matches the texts in `shown`.
 fn is_wider(
     alloc: Global,
     budget: &mut usize,
@@ -154,8 +155,7 @@ fn are_apart(one: &[u8], other: &[u8]) -> bool
     false
 }
 
-/// How many bytes a rule of the other kind has to have at least, so that the rule doesn't decide in its
-/// place.
+/// How many bytes a rival, a rule of the other kind, has to have at least to rank above this replacement.
 fn least_rival(rule: &Rule) -> usize
     ensures { result ≡ least_rival rule.now.rule }
 {
@@ -163,7 +163,8 @@ fn least_rival(rule: &Rule) -> usize
     if rule.is_allow { len + 1 } else { len }
 }
 
-/// It has at least so many bytes, and may decide where the rule would, were it deleted.
+/// The other rule is a rival that may decide in place of the rule's replacement, were the rule deleted: it is
+/// of the other kind, has at least so many bytes, ranks below the rule, and may match some of its texts.
 fn is_rival(other: &Rule, rule: &Rule, least: usize) -> bool
     ensures { result ≡ false → IsNoRival least rule.now other.now }
 {

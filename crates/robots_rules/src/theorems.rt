@@ -6,8 +6,10 @@ ghost use Rattle.texting_robots.specs.Callers.{rules_for};
 ghost use Rattle.robots_rules.specs.declared.needless.NeedlessRule.{NeedlessRule};
 ghost use Rattle.robots_rules.specs.Blocks.{AreFoundIn, AreWholeLines, HaveSameRobot, IsLeftOf};
 ghost use Rattle.robots_rules.specs.Needless.{AreDeletable, lines_without, numbers_of};
+ghost use Rattle.robots_rules.specs.Examples as example;
 
-/// Deleting lines that can be deleted changes no verdict of any crawler, whether the file names it or not.
+/// Deleting lines that can be deleted changes no verdict of any crawler whose name is UTF-8, whether the file
+/// names it or not.
 pub fn deleting_changes_no_verdict()
     ensures { (lines : List LineValue) (numbers : List ℕ) → AreDeletable numbers lines → (agent : List ℕ)
         → IsUtf8 agent → (text : List ℕ) (answer : Bool)
@@ -32,4 +34,10 @@ pub fn each_file_has_whole_lines()
 pub fn others_have_the_rules_of_star()
     ensures { (agent : List ℕ) (lines : List LineValue) → is_named agent lines ≡ false
         → placed_rules agent lines ≡ placed_rules (codes "*") lines }
+{}
+
+/// Worked examples. `specs/Examples.antt` shows by them what can't be deleted.
+pub fn examples()
+    ensures not_both { example.not_both }
+    ensures between { example.between }
 {}
