@@ -251,10 +251,14 @@ def test_page_has_the_sentence_about_the_standard(file, sentence):
     assert entries_of("-", file=file).get("Syntax") == sentence
 
 
-@pytest.mark.parametrize("file, crawlers", [(b"Disallow: /a", "all crawlers"), (b"User-agent: A\nDisallow: /a", "2 crawlers")])
-def test_title_without_an_agent(file, crawlers):
+@pytest.mark.parametrize("file, crawlers, heading", [
+    (b"Disallow: /a", "all crawlers", "Crawler"),
+    (b"User-agent: A\nDisallow: /a", "2 crawlers", "Crawlers"),
+])
+def test_title_and_heading_without_an_agent(file, crawlers, heading):
     """The second report is about `*` and `A`."""
-    assert f"<title>robots.txt for {crawlers}</title>" in page("-", file=file)
+    written = page("-", file=file)
+    assert f"<title>robots.txt for {crawlers}</title>" in written and f"<h2>{heading}</h2>" in written
 
 
 def test_title_with_star():
