@@ -1,22 +1,18 @@
 -- If each block that has rules keeps one, the lines that are left apply to the same crawlers.
-use Rattle.std.proofs.Common.{◌≡◌, ◌<◌, ◌≤◌, inl, inr, ℕ, ◌+◌, ◌==◌, Bool, true, false, not, ◌&&◌, ◌||◌, []}
-use Rattle.std.proofs.Common.{IsTrue}
-use Rattle.std.proofs.Common.{List, ◌∷◌, Option, Some, None, ap, ap₂, sym, refl, ◌∙◌, arith, drop}
-use Rattle.std.proofs.Common.{filter, filter_map, length, length-drop, map, slice_get, if◌then◌else◌}
-use Rattle.std.specs.{List.cons_option, List.enumerate_from, List.list_any, Option.option_or}
-use Rattle.std.proofs.lemmas.Bool.{cases_Bool, cases_eq, false≢true}
-use Rattle.texting_robots.specs.{Executable.delay_for, declared.groups.GroupTracker.GroupTracker}
+use Rattle.std.proofs.Common.{◌≡◌, ℕ, ◌+◌, ◌==◌, Bool, true, false, not, ◌||◌, []}
+use Rattle.std.proofs.Common.{List, ◌∷◌, Option, Some, None, ap, sym, refl, ◌∙◌, arith}
+use Rattle.std.proofs.Common.{filter, filter_map, map, if◌then◌else◌}
+use Rattle.std.specs.{List.enumerate_from, List.list_any}
+use Rattle.texting_robots.specs.{declared.groups.GroupTracker.GroupTracker}
 use Rattle.texting_robots.specs.{Line.LineValue, Rules.PlacedRule, Rules.unplaced, Theorems.Same}
-use Rattle.texting_robots.specs.Line.{Raw, delay_in, is_raw}
-use Rattle.texting_robots.specs.Group.{group_name, is_agent, passes_at}
-use Rattle.texting_robots.specs.Executable.{captured_delays, captured_lines, delay_before_agents, placed_in}
-use Rattle.texting_robots.specs.Executable.{placed_rules, rules_for, sitemap_in, sitemaps_in}
-use Rattle.texting_robots.specs.Internal.Group.{from_captured, if_captured, start_of, step}
-use Rattle.texting_robots.proofs.Shared.{at_front, captured_walked, only_agents, raw_changes_nothing}
-use Rattle.texting_robots.proofs.Shared.{before_agent, before_agents}
+use Rattle.texting_robots.specs.Line.{Raw, is_raw}
+use Rattle.texting_robots.specs.Group.{group_name, is_agent}
+use Rattle.texting_robots.specs.Executable.{captured_lines, placed_in}
+use Rattle.texting_robots.specs.Executable.{placed_rules, rules_for}
+use Rattle.texting_robots.specs.Internal.Group.{from_captured, start_of, step}
+use Rattle.texting_robots.proofs.Shared.{captured_walked, only_agents, raw_changes_nothing}
 use Rattle.robots_rules.specs.{declared.blocks.Block.Block}
 use Rattle.robots_rules.specs.Blocks.{block_after, is_rule, keep_blocks_from, left_from, no_rule}
-use Rattle.robots_rules.specs.Blocks.{with_rule}
 use Rattle.robots_rules.specs.Needless.{lines_without, without}
 
 abbrev pub among : List ℕ → ℕ → Bool

@@ -1,5 +1,5 @@
 -- States agree on every text if each of them is checked, and lists of rules if their states do.
-use Rattle.std.proofs.Common.{◌≡◌, inl, inr, ℕ, ◌+◌, ◌<◌, Bool, true, false, ◌==◌}
+use Rattle.std.proofs.Common.{◌≡◌, inl, inr, ℕ, ◌<◌, Bool, true, false, ◌==◌}
 use Rattle.std.proofs.Common.{List, [], ◌∷◌, ◌++◌}
 use Rattle.std.proofs.Common.{All, Contains, arith, get_or, length, sym}
 use Rattle.std.proofs.Common.{◌∙◌}

@@ -1,9 +1,9 @@
 -- What the check at the end says of the found lines.
-use Rattle.std.proofs.Common.{◌≡◌, ◌+◌, ◌<◌, ◌∙◌, ℕ, zero, suc, Bool, true, false, not, List, [], ◌∷◌, ◌++◌}
+use Rattle.std.proofs.Common.{◌≡◌, ◌+◌, ◌∙◌, ℕ, zero, suc, Bool, true, false, List, [], ◌∷◌, ◌++◌}
 use Rattle.std.proofs.Common.{All}
 use Rattle.std.proofs.Common.{ap, arith, codes, filter, length, map, refl, subst, subst₂, sym, take, take_all}
 use Rattle.std.proofs.Common.{◌==◌}
-use Rattle.std.specs.{BTreeMap.keys, Ordering.nat_cmp, Cmp.nat_cmp_total, Bool.Decides}
+use Rattle.std.specs.{BTreeMap.keys, Cmp.nat_cmp_total, Bool.Decides}
 use Rattle.std.proofs.lemmas.List.Elements.{All-contains, Contains-append_left, Contains-push}
 use Rattle.std.proofs.lemmas.{Bool.Decides.same_from_decides}
 use Rattle.std.proofs.lemmas.Map.{Lookups.exact_unsigned, Views.btree_map_contains_key_iff}

@@ -1,7 +1,7 @@
 -- States of the search. In a state, each rule has what is left of its pattern, as another rule.
 use Rattle.std.specs.Prelude.{◌≡◌, ℕ, zero, suc, ◌+◌, ◌*◌, ◌<◌, ◌≤◌, Bool, true, false, List, [], ◌∷◌}
 use Rattle.std.specs.Prelude.{◌++◌, ◌&&◌, ◌||◌, All}
-use Rattle.std.specs.Prelude.{Contains, codes, cond, drop, if◌then◌else◌, length, not, slice_index_or, take}
+use Rattle.std.specs.Prelude.{Contains, codes, cond, drop, if◌then◌else◌, length, not, slice_index_or}
 use Rattle.texting_robots.specs.{Pattern.star, Rules.Rule, Verdict.IsVerdict}
 use Rattle.texting_robots.proofs.Shared.{matches}
 use Rattle.robots_rules.specs.declared.compare.Comparison.{Comparison}

@@ -39,9 +39,9 @@ AreApart one other = (text : List ℕ) → Matches one text → ¬ Matches other
 abbrev pub least_rival : Rule → ℕ
 least_rival rule = if rule.1 then length rule.0 + 1 else length rule.0
 
--- The other rule is no rival that ranks between the rule and its replacement, which has to have at least so
--- many bytes: it is of the rule's kind, is shorter, ranks at least as high as the rule, or matches none of its
--- texts.
+-- The other rule is no rival, which would rank between the rule and its replacement and so have at least
+-- `least` bytes: it is of the rule's kind, is shorter, ranks at least as high as the rule, or matches none of
+-- its texts.
 abbrev pub IsNoRival : ℕ → PlacedRule → PlacedRule → Type 0
 IsNoRival least rule other = other.rule.1 ≢ rule.rule.1 → least ≤ length other.rule.0
     → rank_of other.rule < rank_of rule.rule → AreApart other.rule.0 rule.rule.0

@@ -67,8 +67,8 @@ fn is_ascending(items: &[Item<'_>]) -> bool
     true
 }
 
-/// The lowest first. No order is promised: the caller tests it by `is_ascending`, which is why the contract only
-/// speaks of items that ascend.
+/// The lowest first. No order is promised: the caller tests it by `is_ascending`, which is why the contract
+/// only speaks of items that ascend.
 fn sorted(alloc: Global, rules: &[Rule]) -> Result<Vec<Item<'_>>, AllocError>
     ensures { IfOk result (λ items. AreAscending items.items → Decide (unplaced rules.now) items.items) }
 {

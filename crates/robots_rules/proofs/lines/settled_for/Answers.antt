@@ -1,5 +1,3 @@
-use Rattle.std.proofs.Common.{ap, refl}
-use Rattle.texting_robots.specs.Callers.{unplaced}
 use Rattle.robots_rules.proofs.lines.settled_for.Goals as goal
 
 pub returns-clause-settled : goal.returns-clause-settled

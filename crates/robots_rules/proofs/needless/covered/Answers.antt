@@ -1,4 +1,4 @@
-use Rattle.std.proofs.Common.{◌≡◌, ◌+◌, drop, rules, sym, take}
+use Rattle.std.proofs.Common.{◌+◌, drop, rules, sym, take}
 use Rattle.std.proofs.lemmas.List.Elements.{Contains-append_left}
 use Rattle.robots_rules.proofs.ReplacedLemmas.{replaced}
 use Rattle.robots_rules.proofs.needless.covered.Goals as goal

@@ -1,6 +1,6 @@
 use Rattle.std.proofs.Common.{All, IsTrue, refl, rules}
 use Rattle.std.proofs.lemmas.Result.{IfOk-weaker}
-use Rattle.texting_robots.specs.Callers.{file_lines, sitemaps_in}
+use Rattle.texting_robots.specs.Callers.{file_lines}
 use Rattle.robots_rules.specs.{Search.IsSameWithout, Search.SettledValue, Needless.MeanTheSame}
 use Rattle.robots_rules.proofs.SettledLemmas.{same_without}
 use Rattle.robots_rules.proofs.same.is_same_without.Goals as goal
