@@ -110,5 +110,4 @@ def test_other_crates_use_the_shared_lemmas_of_the_library():
     assert modules == {"Shared", "robot", "site"}
     used = {name for text in texts for names in re.findall(r"\bproofs(?:\.|::)Shared(?:\.|::)(\w+|{[^}]*})", text) for name in re.findall(r"\w+", names)}
     shared = re.findall(r"(\w+)[,}]", (CRATES / "texting_robots/proofs/Shared.antt").read_text().split("\n\n")[1])
-    unused = {"suffix_trans"}  # it goes with the next change of the library, after which all is proved anew
-    assert sorted(used) == sorted({*shared} - unused)
+    assert sorted(used) == sorted({*shared})

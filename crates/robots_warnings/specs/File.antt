@@ -3,12 +3,6 @@ use Rattle.std.specs.Prelude.{ℕ, List, map}
 use Rattle.texting_robots.specs.Callers.{LineValue, Label, bodies_read, group_name, labels_of}
 use Rattle.texting_robots.specs.Callers.{lines_read}
 
-abbrev pub space : ℕ
-space = 32
-
-abbrev pub tab : ℕ
-tab = 9
-
 abbrev pub hash : ℕ
 hash = 35
 

@@ -3,7 +3,8 @@ use Rattle.std.specs.Prelude.{◌≡◌, ◌≤◌, ◌<◌, ◌+◌, ℕ, List,
 use Rattle.texting_robots.specs.{Callers.LineValue, Group.is_agent, Group.passes_at}
 use Rattle.robots_warnings.specs.{Facts.is_rule}
 
--- the line is above this position, with no user-agent line from there on to the position
+-- the line is above this position, with no user-agent line from there on to the position; both may be above
+-- the first user-agent line
 pub record IsAbove (lines : List LineValue) (position : ℕ) (line : LineValue) : Type 0 where
   pub other : ℕ
   pub above : other < position

@@ -14,8 +14,8 @@ use std::alloc::{AllocError, Global};
 use std::collections::{BTreeMap, HashMap};
 use texting_robots::site::{Site, SiteRule};
 
-/// For a pattern, as it is compared, the index of the first Allow of it; for a sitemap, the first line that
-/// lists it.
+/// For each text, its first place: for a pattern, as it is compared, the index of its first Allow; for a
+/// sitemap, the first line that lists it.
 pub(crate) type Places = HashMap<String, usize>;
 
 /// For the number of a line, another line that contradicts it.
@@ -70,7 +70,8 @@ fn note(others: &mut Others, number: usize, other: usize) -> Result<(), AllocErr
     Ok(())
 }
 
-/// The line of a Disallow's first Allow of the same, of these rules, if it isn't an empty Disallow.
+/// For a Disallow, the line of the first Allow with the same pattern, empty Disallows left out; `allowed` is
+/// what `first_allows` returns for these rules.
 #[tactic(auto, using(crate::proofs::RuleLemmas::opposed))]
 fn allow_beside(
     alloc: Global,

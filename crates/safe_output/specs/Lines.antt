@@ -1,4 +1,4 @@
--- Lines that several reports contain.
+-- Lines, each with its end.
 use Rattle.std.specs.Prelude.{ℕ, List, [], ◌∷◌, ◌++◌, flat_map}
 
 abbrev pub lf : ℕ

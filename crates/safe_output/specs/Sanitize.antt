@@ -27,10 +27,11 @@ is_printable has_lines char = not (is_unsafe char) || (has_lines && char == lf)
 abbrev pub is_printable_byte : Bool → ℕ → Bool
 is_printable_byte has_lines byte = nat_lt byte 0x80 && is_printable has_lines byte
 
--- `##[`, with which a command begins in a workflow on GitHub, such as `##[error]`, anywhere in a line
+-- with `##[` a command begins in a workflow on GitHub, such as `##[error]`
 abbrev pub begins_command : List ℕ → Bool
 begins_command text = starts_with nat_eq text (codes "##[")
 
+-- such a command works anywhere in a line
 abbrev pub has_command : List ℕ → Bool
 has_command text = somewhere begins_command text
 

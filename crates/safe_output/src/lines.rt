@@ -1,4 +1,5 @@
-//! Lines that several reports contain.
+//! Appends lines and numbers to a `String` as they are: for robots_verdict and the C library. Reports, whose
+//! text must be safe to show, use `report`.
 ghost use Rattle.std.specs.Prelude.{◌≡◌, ◌++◌, ◌∷◌, [], OnOk, string_bytes};
 ghost use Rattle.std.specs.Io.{StartsWith};
 ghost use Rattle.safe_output.specs.Lines.{ended};

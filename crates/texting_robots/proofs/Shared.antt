@@ -17,7 +17,6 @@ pub use Rattle.texting_robots.proofs.RulesLemmas.{any_unplaced, before_agent, be
 pub use Rattle.texting_robots.proofs.RulesLemmas.{option_or_none}
 pub use Rattle.texting_robots.proofs.SiteOwnLemmas.{same_robot}
 pub use Rattle.texting_robots.proofs.SegmentLemmas.{in_front, only_wildcards_match, plain_wildcards}
-pub use Rattle.texting_robots.proofs.SegmentLemmas.{suffix_trans}
 pub use Rattle.texting_robots.proofs.VerdictLemmas.{one_verdict}
 pub use Rattle.texting_robots.proofs.VerdictLemmas.{order_changes_nothing, same_verdicts}
 pub use Rattle.texting_robots.proofs.MainTheoremLemmas.{answers_computed, computed_are}

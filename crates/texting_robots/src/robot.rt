@@ -217,6 +217,10 @@ impl Robot {
 
     /// [`Robot::decision_within`] for a view of `text`. A rule with a pair of adjacent bytes after
     /// a `*` that the text lacks is usually passed over, as one look. Finding pairs isn't counted.
+    ///
+    /// # Errors
+    ///
+    /// `TooCostly`, as for [`Robot::decision_within`].
     pub fn decision_of_target(
         &self,
         text: &str,
