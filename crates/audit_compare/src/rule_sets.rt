@@ -63,6 +63,16 @@ fn copy_of(alloc: Global, rule: &Rule) -> Result<Rule, AllocError>
     })
 }
 
+fn copies_of(alloc: Global, rules: &[Rule]) -> Result<Vec<Rule>, AllocError>
+    ensures { IfOk result (λ copies. copies.items ≡ rules.now) }
+{
+    let mut copies = Vec::new(alloc);
+    for rule in rules {
+        copies.push(copy_of(alloc, rule)?)?;
+    }
+    Ok(copies)
+}
+
 /// Those of the rules that the others lack, in order.
 pub(crate) fn rules_lacked(
     alloc: Global,
@@ -72,9 +82,7 @@ pub(crate) fn rules_lacked(
     ensures { IfOk result (λ lacked. lacked.items ≡ rules_lacked others.now rules.now) }
 {
     let set = RuleSet::of(alloc, others)?;
-    rules
-        .iter()
-        .filter(|rule| !set.contains(rule))
-        .map(|rule| copy_of(alloc, rule))
-        .try_collect(alloc)
+    let mut lacked = copies_of(alloc, rules)?;
+    lacked.retain(|rule| !set.contains(rule));
+    Ok(lacked)
 }

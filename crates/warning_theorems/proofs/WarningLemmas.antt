@@ -15,6 +15,7 @@ use Rattle.robots_warnings.specs.{Closed.matches_no_path, Rules.begins_oddly, Ru
 use Rattle.robots_warnings.specs.Crawlers.{IsPastLimit}
 use Rattle.robots_warnings.specs.Positions.{is_above_agents, is_outside}
 use Rattle.texting_robots.proofs.Shared.{some_passes, only_wildcards_match}
+use Rattle.rfc9309.proofs.HasFormLemmas.{next_place}
 
 pub below_agent : (name : List ℕ) (lines : List LineValue) (place : ℕ) (membership : Membership)
     → HasMembership name lines place membership → is_outside membership ≡ false
@@ -58,7 +59,7 @@ dollar_inside_matches_nothing (b ∷ value) text inside m = elim (cases_Bool (b 
       false≢true (sym (other_bytes value (rw is at inside))
       ∙ (only_wildcards_match (escaped value)).1 (subst (Matches (escaped value)) gone later))
   | inr other ↦
-      (grind (arith, dollar_inside_matches_nothing value))
+      (grind (arith, next_place dollar, dollar_inside_matches_nothing value))
 ]
 
 pub odd_start_matches_no_path : (value text : List ℕ) → begins_oddly value ≡ true
@@ -81,7 +82,7 @@ inside_matches_nothing (b ∷ pattern) text inside m = elim (cases_Bool (b == do
       false≢true (sym (other_than_wildcards pattern (rw is at inside))
       ∙ (only_wildcards_match pattern).1 (subst (Matches pattern) gone later))
   | inr other ↦
-      (grind (arith, inside_matches_nothing pattern))
+      (grind (arith, next_place dollar, inside_matches_nothing pattern))
 ]
 
 odd_matches_nothing : (pattern text : List ℕ) → begins_oddly pattern ≡ true

@@ -1,4 +1,6 @@
-use Rattle.std.proofs.Common.{◌∙◌, sym}
+use Rattle.std.proofs.Common.{◌∙◌, ap, sym}
+use Rattle.texting_robots.specs.Callers.{lines_read}
+use Rattle.audit_compare.specs.EveryUrl.{lines_of_group}
 use Rattle.audit_compare.proofs.EveryUrlLemmas.{rules_read, verdicts_by}
 use Rattle.audit_compare.proofs.vendor.at_vendor.Goals as goal
 
@@ -16,8 +18,10 @@ returns-clause-ok c =
       newer_is = c.in_ok-from_str-2.ensures.ok ∙ new_name;
       verdicts_are = verdicts_by _ _ _ _ _
           (old.ok.rules_are
-          ∙ rules_read _ c.args.agent.now _ _ (old.agent ∙ old_name) c.file_of_group-old_file.ensures.lines)
+          ∙ rules_read _ c.args.agent.now _ _ (old.agent ∙ old_name) (c.file_of_group-old_file.ensures.lines
+          ∙ ap (lines_of_group (lines_read c.args.older.now.bytes.now)) (sym old.agent)))
           (new.ok.rules_are
-          ∙ rules_read _ c.args.agent.now _ _ (new.agent ∙ new_name) c.file_of_group-new_file.ensures.lines)
+          ∙ rules_read _ c.args.agent.now _ _ (new.agent ∙ new_name) (c.file_of_group-new_file.ensures.lines
+          ∙ ap (lines_of_group (lines_read c.args.newer.now.bytes.now)) (sym new.agent)))
           (c.in_ok-verdicts.ensures.ok _ _ old.ok new.ok);
     }

@@ -9,7 +9,7 @@ pub loop-expectation-preserved : goal.loop-expectation-preserved
 loop-expectation-preserved c =
     let file = c.args.read.now.bytes.now in
     record {
-      latest = c.in_ok-latest.ensures.crawler;
+      latest = c.in_ok-latest-2.ensures.crawler;
       hold = λ none.
           let (before, passes) = c.in_ok-add_if_failing.ensures none in
           All-more (λ (one : Expectation). Holds file (expectation_value one)) _ _ _
