@@ -60,7 +60,7 @@ def test_a_shared_object_over_the_archive_exports_only_its_own_calls(installed, 
 
 
 def test_each_call_of_the_header_is_exported(shared_object):
-    """And nothing else: the proved functions, which don't take NULL, aren't. None is inline, so other languages can bind each."""
+    """And nothing else, as the proved functions, which don't take NULL. None is inline, so other languages can bind each."""
     header = re.sub(r"/\*.*?\*/", "", (LIBRARY / "robots.h").read_text(), flags=re.S)
     assert "inline" not in header
     names = subprocess.run(["nm", "-D", "--defined-only", shared_object], capture_output=True, text=True).stdout
@@ -341,7 +341,7 @@ def test_random_files_have_the_verdicts_of_robots_verdict(robots, seed):
 
 
 def guarded(data, at_end):
-    """The address of these bytes in a page that can only be read, at its end or its start, between two that can't be."""
+    """The address of these bytes in a page that can only be read, between two that can't be."""
     page, kept = mmap.PAGESIZE, mmap.mmap(-1, 3 * mmap.PAGESIZE)
     start = page + (page - len(data)) * at_end
     kept[start : start + len(data)] = data
@@ -422,7 +422,7 @@ def test_example_reports_what_cannot_be_read_or_written(example, shared_object, 
 
 @pytest.mark.parametrize("later", [0, 1], ids=["one allocation", "one and all later ones"])
 def test_example_in_c_reports_each_failed_allocation(failing_heap, objects, tmp_path, later):
-    """And frees what it has allocated, but for the buffers of its input and output. It may have written the beginning of its report."""
+    """After a beginning of its report at most. It frees all but the buffers of its input and output."""
     ask = compiled(tmp_path / "ask", *STRICT, "examples/ask.c", *objects)
     words = ["Ferris", "https://\u00e9.example/\u00e9", "/a"], b"Disallow: /a\nCrawl-delay: 1\nSitemap: b\n"
     right, number, reported = run(ask, *words), 0, 0

@@ -1,5 +1,4 @@
-"""The HTML page: it has what the JSON has, untrusted text becomes no element, and a browser displays it without a message or a request.
-What html.parser reads is checked everywhere; Chromium, where it is installed, has to read the same."""
+"""The HTML page: it has what the JSON has, and untrusted text becomes no element. Chromium, where it is installed, reads the same."""
 
 import json
 import re
@@ -63,7 +62,7 @@ def contrast(one, other):
 
 
 def test_texts_have_contrast():
-    """In light and dark mode and in print, each color of a text has a contrast of at least 4.5 to each background that it occurs on."""
+    """In light and dark mode and in print, texts have a contrast of at least 4.5 to each background."""
     schemes = [dict(re.findall(r"--(\w+): (#\w+)", block)) for block in re.findall(r":root \{([^}]*)\}", STYLE)]
     assert len(schemes) == 3
     used = {"fg": "bg head alert warn hint hit", "dim": "bg head hit", "link": "bg", "yes": "bg", "no": "bg"}
@@ -360,7 +359,7 @@ def test_table_of_lines_has_bodies_of_500_lines():
 
 
 def test_page_is_accessible():
-    """Each link has its target, headings are in order, a table has a caption, and a heading of a row or column says so."""
+    """Links have targets, headings are in order, a table has a caption, and headings say of what they are."""
     for args in ([*FERRIS, *URLS], ["-", *URLS]):
         elements = Reader(page(*args)).elements
         ids = [own["id"] for _, own, _ in elements if "id" in own]
@@ -438,8 +437,7 @@ PAGES = {
 
 @pytest.mark.parametrize("name", PAGES)
 def test_browser_reads_the_page(browser, tmp_path, name):
-    """It reads the same elements as html.parser, reports nothing, requests nothing else, applies the style and needs no sideways
-    scrolling."""
+    """It reads the same elements, reports and requests nothing, applies the style, and needs no sideways scrolling."""
     args, file = PAGES[name]
     path = tmp_path / "page.html"
     path.write_text(page(*args, file=file), newline="")

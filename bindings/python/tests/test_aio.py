@@ -251,7 +251,7 @@ def test_an_error_of_the_callers_leaves_nobody_waiting(caplog):
 
 
 def moments(robots, patiences, pause=0.0):
-    """When calls for a site end, which begin one after another, and are cancelled after so many seconds, or None for one that is."""
+    """When calls that begin one after another end; None for one that is cancelled after so many seconds."""
 
     async def call(loop, number, patience):
         await asyncio.sleep(number * pause)

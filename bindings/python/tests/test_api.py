@@ -85,8 +85,7 @@ def test_verdicts_within_a_budget():
 
 
 def test_size():
-    """Each byte of a file is kept once for one agent, and else twice. A robot takes 74 bytes for each of 60 rules, and the one of all agents
-    that no line names is shared."""
+    """A file's bytes are kept once for one agent, else twice. A robot takes 74 for each of 60 rules, and agents without a line share one."""
     empty, long = Robots(b""), Robots(b"#" * 1000)
     assert long.size == 1000 and long.allowed("/", "x") and empty.allowed("/", "x") and long.size - empty.size == 1000
     assert long.allowed("/", "y") and empty.allowed("/", "y") and long.size - empty.size == 2000

@@ -1,4 +1,4 @@
-"""The cache of robots.txt files, which makes no requests: what it asks for after each response, what counts when, and what it keeps."""
+"""The cache of robots.txt files, which makes no requests: what it asks for, what counts when, and what it keeps."""
 
 import doctest
 import gzip
@@ -45,7 +45,7 @@ def caches():
 
 
 def fetched(cache, url, *responses):
-    """What is known of a URL's site after these responses to the requests that are asked for, and the addresses of those."""
+    """What is known of a URL's site after these responses, and the addresses that were asked for."""
     look, asked, known = cache.look(url), [], {}
     fetch, responses = look.fetch, list(responses)
     while fetch and responses:

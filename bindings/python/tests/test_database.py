@@ -1,4 +1,4 @@
-"""The database of a cache of robots.txt files: what it keeps, for the next start and for several processes, and what becomes of faults."""
+"""The database of a cache: what it keeps for the next start and for several processes, and what becomes of faults."""
 
 import signal
 import sqlite3
@@ -128,7 +128,7 @@ def test_a_database_may_be_used_from_any_thread(caches, tmp_path):
 
 @pytest.mark.alone
 def test_a_lock_of_another_program(caches, tmp_path, caplog):
-    """It is waited for 0.2 seconds, and not again within a second; what couldn't be written is as soon as it is over."""
+    """It is waited for 0.2 seconds, once in a second; what couldn't be written is written afterwards."""
     path = tmp_path / "robots.sqlite3"
     cache = caches(database=path)
     other = sqlite3.connect(path, isolation_level=None)

@@ -1,4 +1,4 @@
-"""RobotFileParser and Protego in place of those of urllib and Protego, whose own tests are run if they are there."""
+"""RobotFileParser and Protego in place of those of urllib and Protego, with urllib's own tests."""
 
 import contextlib
 import copy
@@ -422,7 +422,7 @@ VERSIONS = "User-agent: FerrisBot/1.0\nDisallow: /a\nCrawl-delay: 1\nRequest-rat
 
 @pytest.mark.parametrize("parse", BOTH)
 def test_a_name_with_a_version(parse):
-    """Is asked first, and then the product token; neither as another version, nor of the file itself, whose names have none."""
+    """Is asked first, and then the product token; neither as another version, nor of the file itself."""
     parser = parse(VERSIONS)
     for user_agent, path, delay in [(FERRIS, "/a", 1), ("ferrisbot/1.0", "/a", 1), ("FerrisBot/2.0", "/b", 2), ("FerrisBot", "/b", 2)]:
         assert [it for it in ("/a", "/b") if not fetchable(parser, it, user_agent)] == [path] and parser.crawl_delay(user_agent) == delay

@@ -20,7 +20,7 @@ WHEEL = next((package.BUILT / "dist").iterdir())
 
 @pytest.fixture(scope="module")
 def installed_python(tmp_path_factory):
-    """The Python of a new virtual environment with the wheel, and with nothing else but cffi, which is taken from here."""
+    """The Python of a new virtual environment with the wheel, and with cffi from here."""
     folder = tmp_path_factory.mktemp("venv")
     subprocess.run([sys.executable, "-m", "venv", "--without-pip", folder], check=True)
     python = folder / "bin/python"
@@ -56,7 +56,7 @@ def test_the_wheel_is_for_every_cpython_and_exports_nothing():
 
 
 def test_metadata_of_any_version_of_setuptools():
-    """As an index accepts it: a license expression, or before setuptools 77 a text, and no classifier of a license."""
+    """As an index accepts it: a license expression, or a text before setuptools 77, and no classifier of it."""
     (path,) = package.SITE.glob("*.dist-info/METADATA")
     lines = email.message_from_string(path.read_text())
     assert [lines[it] for it in ("License-Expression", "License") if it in lines] == ["MIT OR Apache-2.0"]

@@ -72,7 +72,7 @@ def test_golden_case_of_the_example_programs(ask, case):
 
 
 def test_each_allocation_fails_in_turn(ask, tmp_path):
-    """The library reports it as an error, and Rust aborts, except where it can do without. Any other report is right."""
+    """It is an error of the library, or Rust aborts, or does without it, and then its report is right."""
     heap = compiled(tmp_path / "heap.so", "-shared", "-fPIC", "tests/failing_heap.c")
     call = [ask, ["a", "https://\u00e9/", "/a"], b"Disallow: /a\nCrawl-delay: 1\nSitemap: b"]
     right, reported, number = run(*call), 0, 0
