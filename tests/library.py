@@ -13,6 +13,7 @@ from support import CC, CRATES, ROOT
 
 LIBRARY = CRATES / "robots_c"
 ARCHIVE = LIBRARY / "out/librobots_c.a"
+HEADER = re.sub(r"/\*.*?\*/", "", (LIBRARY / "robots.h").read_text(), flags=re.S)  # without comments
 ROWS = {name: row.split() for name, row in re.findall(r"^(\w+)[^:#\n]*:(.*)$", (ROOT / "crates.txt").read_text(), re.M)}
 
 

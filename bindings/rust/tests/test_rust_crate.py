@@ -7,7 +7,7 @@ import subprocess
 from pathlib import Path
 
 import pytest
-from library import LIBRARY, archive
+from library import HEADER, archive
 from support import ROOT, cases_of, compiled, input_of, run, spelled, wanted_of
 from test_documents import code
 
@@ -141,15 +141,14 @@ def in_rust(declared):
 
 
 def test_the_raw_crate_has_the_calls_and_constants_of_the_header():
-    header = re.sub(r"/\*.*?\*/", "", (LIBRARY / "robots.h").read_text(), flags=re.S)
     raw = (CRATE / "sys/src/lib.rs").read_text()
     found = {name: [" ".join(it.split()) for it in words.split(",") if it] for name, words in re.findall(r"pub fn (\w+)\(([^)]*)\)", raw)}
-    declared = re.findall(r"^(?:ROBOTS_CHECK )?(const \w+ \*|\w+ )(robots_\w+)\(([^)]*)\)(?:\s+ROBOTS_NONNULL\([\d, ]+\))?;", header, re.M)
+    declared = re.findall(r"^(?:ROBOTS_CHECK )?(const \w+ \*|\w+ )(robots_\w+)\(([^)]*)\)(?:\s+ROBOTS_NONNULL\([\d, ]+\))?;", HEADER, re.M)
     assert len(declared) >= 23
     assert found == {name: [in_rust(it) for it in words.split(",") if it != "void"] for _, name, words in declared}
     for kind, name, _ in declared:
         result = in_rust(f"{kind} result").removeprefix("result: ")
         assert re.search(rf"pub fn {name}\([^)]*\){'' if result == 'c_void' else f' -> {re.escape(result)}'};", raw)
-    numbers = re.findall(r"^(?:    |#define )(ROBOTS_\w+)(?: =)? (-?\d+)\b,?", header, re.M)
+    numbers = re.findall(r"^(?:    |#define )(ROBOTS_\w+)(?: =)? (-?\d+)\b,?", HEADER, re.M)
     constants = re.findall(r"^pub const (ROBOTS_\w+): \w+ = (-?\d+);", raw.replace("_000", "000"), re.M)
     assert set(constants) - set(numbers) == {("ROBOTS_VERSION", "10000")} and len(constants) == 17
