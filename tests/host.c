@@ -1,8 +1,5 @@
-/* Calls the functions of robots.h: the worked examples, what a failed call leaves unchanged, a buffer that is one byte or one number
- * too small, and then each allocation failing in turn, alone and with all that follow.
- *
- * It is linked with --wrap for malloc, realloc and free, so that it sees each allocation of the library. Each line says how one case
- * went, and the last one is 'N passed, N failed'. */
+/* Calls the functions of robots.h: worked examples, what a failed call leaves unchanged, buffers that are one byte or number too small,
+ * and then each allocation failing in turn. It is linked with --wrap, so that it sees the allocations. Each line says how a case went. */
 #include "robots.h"
 #include <stdbool.h>
 #include <stdio.h>
@@ -113,21 +110,17 @@ static struct outcome text_is(int32_t status, const char *out, size_t len, const
     return (struct outcome){status, right, counted && all_are(out, 99, 77)};
 }
 
-static struct outcome list_sitemaps(const robots_site *site, size_t room) {
+static struct outcome list(int32_t (*call)(const robots_site *, char *, size_t, size_t *), const robots_site *site, const char *wanted, size_t room) {
     char out[99];
     size_t len = 7;
     memset(out, 77, sizeof out);
-    int32_t status = robots_site_sitemaps(site, out, room, &len);
-    return text_is(status, out, len, sitemaps, room);
+    int32_t status = call(site, out, room, &len);
+    return text_is(status, out, len, wanted, room);
 }
 
-static struct outcome list_agents(const robots_site *site, size_t room) {
-    char out[99];
-    size_t len = 7;
-    memset(out, 77, sizeof out);
-    int32_t status = robots_site_agents(site, out, room, &len);
-    return text_is(status, out, len, "*\nA\n", room);
-}
+static struct outcome list_sitemaps(const robots_site *site, size_t room) { return list(robots_site_sitemaps, site, sitemaps, room); }
+
+static struct outcome list_agents(const robots_site *site, size_t room) { return list(robots_site_agents, site, "*\nA\n", room); }
 
 static struct outcome find_address(const char *url, size_t room) {
     char out[99];
@@ -160,22 +153,7 @@ static struct outcome batch_with(const robots_robot *robot) {
     return results(robots_query_batch(robot, joined, length, ends, count, out), out, 7);
 }
 
-/* Opens a site and its robot, closes the site, and queries. */
-static struct outcome outlive_site(void) {
-    robots_robot *robot = NULL;
-    robots_site *site = NULL;
-    int32_t status = robots_site_open(FILE_OF(file), &site);
-    if (status == ROBOTS_OK)
-        status = robots_site_robot(site, ROBOTS_STRING("Bot"), &robot, NULL);
-    robots_site_close(site);
-    struct outcome outcome = {status, false, robot == NULL};
-    if (status == ROBOTS_OK)
-        outcome = batch_with(robot);
-    robots_close(robot);
-    return outcome;
-}
-
-/* What RFC 9309, 2.3.1 says about responses (the tests of the package have each kind of status), and the files for those that bring none. */
+/* What RFC 9309, 2.3.1 says about responses, and the file for those that bring none. */
 static void try_responses(void) {
     static const struct {
         uint32_t status, redirects;
@@ -317,7 +295,7 @@ static bool is(struct outcome outcome, int32_t status) {
     return outcome.status == status && (status == ROBOTS_OK ? outcome.right : outcome.untouched);
 }
 
-/* Opens a robot of a site, closes the site, and queries the robot. */
+/* Opens a robot of a site, closes the site, and makes a batch of queries. */
 static struct outcome keep_robot_of(robots_site *site) {
     robots_robot *robot = NULL;
     size_t line = 7;
@@ -325,9 +303,9 @@ static struct outcome keep_robot_of(robots_site *site) {
     robots_site_close(site);
     if (status != ROBOTS_OK)
         return (struct outcome){status, false, robot == NULL && line == 7};
-    struct outcome many = query_with(robot, COUNT);
+    struct outcome batch = batch_with(robot);
     robots_close(robot);
-    return (struct outcome){many.status, many.right && line == 7, many.untouched && line == 7};
+    return (struct outcome){batch.status, batch.right && line == 7, batch.untouched && line == 7};
 }
 
 /* Opens a site and makes each call on it. What needs no memory is never reported as out of memory. */
@@ -461,7 +439,6 @@ static void try_examples(void) {
     try_small_buffers();
     try_batch();
     try_budgets();
-    tell("a robot that outlives its site", is(outlive_site(), ROBOTS_OK));
     tell("results and their lines", robots_may_fetch(0) == 1 && robots_may_fetch(3) == 1 && robots_may_fetch(-2) == 0
         && robots_line(0) == 0 && robots_line(3) == 3 && robots_line(-2) == 2);
     try_responses();
@@ -494,7 +471,6 @@ int main(void) {
         fail_each("an address", whole_address, all_later);
         fail_each("a robot", keep, all_later);
         fail_each("a site", keep_site, all_later);
-        fail_each("a robot that outlives its site, and a batch", outlive_site, all_later);
     }
     printf("%d passed, %d failed\n", passed, failed);
     return failed != 0;

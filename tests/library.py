@@ -1,4 +1,4 @@
-"""The C library crates/robots_c for the tests of the C library and of its bindings: built, installed, and as a module for Python."""
+"""The C library crates/robots_c for tests: built, installed, and as a module for Python."""
 
 import fcntl
 import importlib
@@ -13,6 +13,7 @@ from support import CC, CRATES, ROOT
 
 LIBRARY = CRATES / "robots_c"
 ARCHIVE = LIBRARY / "out/librobots_c.a"
+HEADER = re.sub(r"/\*.*?\*/", "", (LIBRARY / "robots.h").read_text(), flags=re.S)  # without comments
 ROWS = {name: row.split() for name, row in re.findall(r"^(\w+)[^:#\n]*:(.*)$", (ROOT / "crates.txt").read_text(), re.M)}
 
 
@@ -39,7 +40,7 @@ def rlib(name):
 
 
 def build_archive():
-    """Proves the exports and builds the library over what `rt ci` left, as `rt lib` does over libraries that it proves once more."""
+    """Proves the exports, and builds the library over what `rt ci` left."""
     for name in below("robots_c"):
         assert is_built(rlib(name), name), f"crates/{name} isn't built: run `rt ci`, or `rt lib` in crates/robots_c"
     words = [kit() / "bin/rattle", "build", "--crate-name", "robots_c", "src/lib.rt", "--crate-type", "staticlib"]
@@ -56,7 +57,7 @@ def build_archive():
 
 
 def archive():
-    """The path of the library, which is built if its sources have changed, by one process if tests run in several."""
+    """The path of the library, which one process builds if its sources have changed."""
     ARCHIVE.parent.mkdir(exist_ok=True)
     folder = os.open(ARCHIVE.parent, os.O_RDONLY)
     try:

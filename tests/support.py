@@ -19,7 +19,7 @@ PAGES = DOCUMENTS | {f"bindings/{it}/README.md": (ROOT / f"bindings/{it}/README.
 
 
 def toolchain():
-    """The toolchain that PROOFS names. Other builds of it with the same logic accept the same proofs: `rt` may be one of them."""
+    """The toolchain that PROOFS names; `rt` may be another build of it with the same logic."""
     (named,) = re.findall(r"^ +(rattle-kit-\w+ logic [0-9a-f]+)$", DOCUMENTS["docs/PROOFS.md"], re.M)
     ours = subprocess.run(["rt", "version"], capture_output=True, text=True).stdout.splitlines()[0]
     assert named.split()[1:] == ours.split()[1:], f"PROOFS names {named}, and this is {ours}"
@@ -32,7 +32,7 @@ PROOF = "not proved" if (CRATES / "robots_audit/out/not-proved").exists() else f
 
 @dataclass
 class Result:
-    """What a program wrote and ended with. Bytes that aren't UTF-8 are surrogates, so that pytest can show a difference by lines."""
+    """What a program wrote and ended with. Bytes that aren't UTF-8 are surrogates."""
 
     status: int
     out: str
@@ -117,8 +117,8 @@ example: curl -fsSL https://example.com/robots.txt | robots_audit --agent Google
 
 
 def spelled(text):
-    r"""The bytes that a golden case means: \\ is a backslash, \r CR, \xHH a byte, \{N TEXT} N times the TEXT, \[NAME] a phrase or the message of a warning, \* who may
-    fetch what is denied to *, \i their names in JSON, and \v what --version says of proofs."""
+    r"""The bytes that a golden case means, by tests/test_programs.py; \* is who may fetch what is denied to *, \i their names in JSON,
+    and \v what --version says of proofs."""
     escapes = {"\\": "\\", "r": "\r", "*": STILL_OPEN, "i": json.dumps(IGNORING, separators=(",", ":")), "v": PROOF}
     escapes |= {f"[{name}]": phrase for name, phrase in [*PHRASES.items(), *((name, its[-1][1]) for name, its in WARNINGS.items())]}
     found = re.compile(rb"\\(?:x([0-9A-F]{2})|(\[[^]]+\]|.?))")
@@ -159,10 +159,7 @@ WORDS = {"space", "comma", "tag", "invisible", "=", "??", "nothing"}  # each in 
 
 
 def level_and_text(name, detail=""):
-    """The level and message of a warning. Its detail is the level; a word of its message; the field name or crawler that may be meant,
-    possibly after a name in quotes and `warning`; how many rules it is about; the line of another rule, possibly before `large` for a
-    large file; the kind of a needless rule, possibly with such a line; the name of one of several crawlers, in quotes, and that of the
-    group that its vendor applies, or how many others are closed out; or else the URL that the warning is about."""
+    """The level and message of a warning with this detail; tests/test_programs.py says what that may be."""
     if name == "needless-rule":
         kind, _, other = detail.partition(" ")
         level, text = WARNINGS[name][NEEDLESS.index(kind)]
@@ -212,7 +209,7 @@ def also_in(lines, text):
 
 
 def warning_line(warning, file="robots.txt", also=()):
-    """The line on standard error for such a warning about the file with this name; `also` are the lines of others that it has."""
+    """The line on standard error for a warning about this file; `also` are the other lines that it has."""
     line, name, level, text = parts_of(warning)
     return f"{file}:{line}{':' if line else ''} {level}: {text}{also_in(also, text)} [{name}]\n"
 
@@ -247,8 +244,7 @@ def together(lines):
 
 
 def warning_lines(warnings, file="robots.txt", agent=None, seeks_needless=False):
-    """The lines for such warnings, by line and level, those with one message as one; of each name and level the first twenty, and how many
-    more there are; and how many of each level, in how many messages, and what of other crawlers' rules isn't checked."""
+    """The lines for such warnings: those with one message as one, of each name and level the first twenty, and how many there are."""
     joined, met = [], {}
     ordered = sorted(warnings, key=order_of)
     needless = [int(line) for line, name, *_ in map(parts_of, ordered) if name == "needless-rule"]
@@ -287,13 +283,12 @@ KEYS = set("like args agent robots file expect old from pieces room out json mor
 
 
 def files_beside(case):
-    """The files of the folder in which a golden case runs, by name; if there are none, it runs in that of the repository."""
+    """The files of the folder in which a golden case runs, if it has any, by name."""
     return {f"{key}.txt": spelled(case[key]) for key in ("expect", "old") if key in case}
 
 
 def rows_of(table, columns):
-    """The cases of a table of `[[rows]]`, each with its own keys: those of the table, and the cells of a row, whose keys `columns` names. All
-    rows are repeated with each word of `each`."""
+    """The cases of a table of `[[rows]]`, each with the table's keys and those of its cells, once for each word of `each`."""
     keys = {key: value for key, value in table.items() if key not in ("columns", "each", "cases")}
     for row in [it.replace("{each}", word) for word in table.get("each", "-").split() for it in table["cases"].splitlines()]:
         case = dict(keys)
@@ -305,7 +300,7 @@ def rows_of(table, columns):
 
 
 def cases_of(text):
-    """The cases of a file by name, each with all its keys: its own, those of the case that it is `like`, and the file's defaults."""
+    """The cases of a file by name, each with the keys of the case that it is `like`, and the file's defaults."""
     tables = tomllib.loads(text)
     defaults = {key: value for key, value in tables.items() if isinstance(value, (bool, int, str))}
     columns = defaults.pop("columns", "")
@@ -334,8 +329,7 @@ def lines(text):
 
 
 def input_of(case, indented=False):
-    """The bytes on standard input. For robots_verdict they can be an agent, the URLs of the expected lines, and a robots.txt file, of
-    which `indented` begins each line but the first with eight spaces."""
+    """The bytes on standard input. For robots_verdict: an agent, the URLs of the expected lines, and a file, whose later lines `indented` indents."""
     if "agent" not in case:
         return spelled(case.get("file", ""))
     robots = spelled(case["robots"])
@@ -346,8 +340,7 @@ def input_of(case, indented=False):
 
 
 def json_of(case):
-    """The report of `json` in one line: of each crawler its group, what it may fetch, and the number of its rules, and below that its
-    verdicts; then rows and sitemaps."""
+    """The report of `json` in one line: crawlers with their verdicts, rows and sitemaps."""
     agents, rows, sitemaps = [], [], []
     for line in spelled(case["json"]).decode().split("\n"):
         kind, first, *rest = [*line.split(" ", 2), ""]

@@ -1,8 +1,7 @@
-"""Each allocation of a program fails in turn, and so does each read and write: the program gives the right result or reports the
-failure, writes nothing else, and frees all that it allocated. If no allocation fails, none is reported, whatever the size of an input.
+"""Each allocation, read and write of a program fails in turn: it gives the right result or reports the failure, writes nothing else, and
+frees all that it allocated. No size of an input is out of memory.
 
-The program texting_robots_tests makes the call of the library that its input names; tests/host.c does the same through the C library. `rt ci`
-runs the program with enough memory.
+The program texting_robots_tests makes the call of the library that its input names.
 """
 
 import json
@@ -210,8 +209,7 @@ WRITTEN = {
 
 @pytest.mark.parametrize("what", WRITTEN)
 def test_robots_audit_reports_a_failed_write(failing_heap, long_file, made, what):
-    """It writes a beginning of its report and says that it can't write the rest, or the whole report and a beginning of what it says on
-    standard error."""
+    """It writes a beginning of its report and says so, or all of it and a beginning of its messages."""
 
     def is_reported(result, right, number):
         if result.status == 2:

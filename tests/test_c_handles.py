@@ -9,9 +9,9 @@ import subprocess
 from pathlib import Path
 
 import pytest
-from library import LIBRARY, random_case
+from library import HEADER, random_case
 from support import CC, Result, compiled, run
-from test_c_library import STRICT, needs
+from test_c_library import STRICT, needs, sanitized
 
 TOOLS = {
     "sanitizer": ["-fsanitize=thread"],
@@ -202,8 +202,7 @@ def batch(library, robot, urls):
 def test_null_is_reported_where_it_is_forbidden(tmp_path):
     """The compiler warns of it, by the header alone, for each parameter that isn't a text, a buffer or `line`."""
     needs(CC, "-xc")
-    header = re.sub(r"/\*.*?\*/", "", (LIBRARY / "robots.h").read_text(), flags=re.S)
-    calls = re.findall(r"\b(robots_\w+)\(([^)]*)\)\s+ROBOTS_NONNULL\(([\d, ]+)\)", header)
+    calls = re.findall(r"\b(robots_\w+)\(([^)]*)\)\s+ROBOTS_NONNULL\(([\d, ]+)\)", HEADER)
     assert len(calls) >= 17
     for name, parameters, numbers in calls:
         pointers = [number for number, it in enumerate(parameters.split(","), 1) if "*" in it]
@@ -216,7 +215,7 @@ def test_null_is_reported_where_it_is_forbidden(tmp_path):
         assert ended.returncode != 0 and "onnull" in ended.stderr, name
 
 
-@pytest.mark.parametrize("sanitizers", [[], ["-g", "-fsanitize=address,undefined", "-fno-sanitize-recover=all"]], ids=["plain", "sanitized"])
+@sanitized
 def test_called_from_cplusplus(objects, tmp_path, sanitizers):
     needs("g++", *sanitizers, "-xc++")
     (tmp_path / "program.cpp").write_text(CPLUSPLUS)

@@ -13,7 +13,7 @@ from decimal import Decimal
 from pathlib import Path
 
 import pytest
-from library import LIBRARY, archive, make, random_case
+from library import HEADER, LIBRARY, archive, make, random_case
 from support import CC, CRATES, ROOT, SIZES, Result, cases_of, compiled, input_of, program, run, shown, spelled, wanted_of
 
 STRICT = ["-Wpedantic", "-Werror", f"-I{LIBRARY}"]
@@ -26,7 +26,11 @@ def needs(*words):
         pytest.skip(f"{' '.join(words)} builds no program")
 
 
-@pytest.mark.parametrize("sanitizers", [[], ["-g", "-fsanitize=address,undefined", "-fno-sanitize-recover=all"]], ids=["plain", "sanitized"])
+SANITIZERS = ["-g", "-fsanitize=address,undefined", "-fno-sanitize-recover=all"]
+sanitized = pytest.mark.parametrize("sanitizers", [[], SANITIZERS], ids=["plain", "sanitized"])
+
+
+@sanitized
 def test_called_from_c(objects, tmp_path, sanitizers):
     needs(CC, *sanitizers, "-xc")
     wraps = "-Wl,--wrap=malloc,--wrap=realloc,--wrap=free"
@@ -52,20 +56,22 @@ def test_library_packaged_in_a_folder_with_any_name(tmp_path, name):
 EXPORTS = (ROOT / "bindings/c/exports").read_text()
 
 
+def exported(shared_object):
+    """The names that it exports, as `nm` lists them."""
+    return subprocess.run(["nm", "-D", "--defined-only", shared_object], capture_output=True, text=True).stdout
+
+
 def test_a_shared_object_over_the_archive_exports_only_its_own_calls(installed, tmp_path):
     (tmp_path / "own.c").write_text('#include "robots.h"\nint own(void) { return robots_may_fetch(0) + robots_decide(0, 0, 0, 0, 0, 0, 0, 0, 0); }\n')
     own = compiled(tmp_path / "own.so", f"-I{LIBRARY}", "-shared", "-fPIC", tmp_path / "own.c", installed / "lib/librobots_c.a")
-    names = subprocess.run(["nm", "-D", "--defined-only", own], capture_output=True, text=True).stdout
-    assert re.findall(r"^\w+ [A-Z] (\w+)$", names, re.M) == ["own"]
+    assert re.findall(r"^\w+ [A-Z] (\w+)$", exported(own), re.M) == ["own"]
 
 
 def test_each_call_of_the_header_is_exported(shared_object):
-    """And nothing else: the proved functions, which don't take NULL, aren't. None is inline, so other languages can bind each."""
-    header = re.sub(r"/\*.*?\*/", "", (LIBRARY / "robots.h").read_text(), flags=re.S)
-    assert "inline" not in header
-    names = subprocess.run(["nm", "-D", "--defined-only", shared_object], capture_output=True, text=True).stdout
-    calls = sorted(re.findall(r"\b(robots_\w+)\(", header))
-    assert sorted(re.findall(r"^\w+ T (\w+)@@ROBOTS_C_1.0$", names, re.M)) == calls == sorted(re.findall(r"\brobots_\w+(?=;)", EXPORTS))
+    """And nothing else, as the proved functions, which don't take NULL. None is inline, so other languages can bind each."""
+    assert "inline" not in HEADER
+    calls = sorted(re.findall(r"\b(robots_\w+)\(", HEADER))
+    assert sorted(re.findall(r"^\w+ T (\w+)@@ROBOTS_C_1.0$", exported(shared_object), re.M)) == calls == sorted(re.findall(r"\brobots_\w+(?=;)", EXPORTS))
 
 
 @pytest.fixture
@@ -93,30 +99,22 @@ def test_installed_after_make_without_the_toolchain_and_uninstalled(installed, t
 
 
 @pytest.fixture(scope="session")
-def moved(installed, tmp_path_factory):
-    """A folder with an installation that was made for another one."""
-    folder = tmp_path_factory.mktemp("moved")
-    ended = make("install", f"OUT={installed}/out", "PREFIX=/opt/robots", f"DESTDIR={folder}")
-    assert ended.returncode == 0, ended.stderr
-    return folder / "opt/robots"
-
-
-@pytest.fixture(scope="session")
-def spaced(installed, tmp_path_factory):
-    """A folder whose name has a space, with an installation that was made for it."""
-    folder = tmp_path_factory.mktemp("two") / "two words"
-    ended = make("install", f"OUT={installed}/out", f"PREFIX={folder}")
-    assert ended.returncode == 0, ended.stderr
-    return folder
+def folders(installed, tmp_path_factory):
+    """Installations for their folder, moved to another one, and in one whose name has a space."""
+    folder = tmp_path_factory.mktemp("folders")
+    for words in (["PREFIX=/opt/robots", f"DESTDIR={folder}"], [f"PREFIX={folder}/two words"]):
+        ended = make("install", f"OUT={installed}/out", *words)
+        assert ended.returncode == 0, ended.stderr
+    return {"installed": installed, "moved": folder / "opt/robots", "spaced": folder / "two words"}
 
 
 @pytest.mark.parametrize("linked", ["shared", "static"])
 @pytest.mark.parametrize("folder", ["installed", "moved", "spaced"])
-def test_program_with_the_installed_library(request, tmp_path, folder, linked):
+def test_program_with_the_installed_library(folders, tmp_path, folder, linked):
     if not shutil.which("pkg-config"):
         pytest.skip("pkg-config is missing")
     words = ["pkg-config", *["--define-prefix"] * (folder != "spaced"), "--cflags", "--libs", "robots_c"]
-    folder = request.getfixturevalue(folder)
+    folder = folders[folder]
     path = {"PKG_CONFIG_PATH": f"{folder}/lib/pkgconfig"}
     words = shlex.split(subprocess.run(words, env=os.environ | path, capture_output=True, text=True).stdout)
     way = [f"-Wl,-rpath,{folder}/lib"] if linked == "shared" else ["-static"]
@@ -135,12 +133,12 @@ target_link_libraries(ask robots_c::{target})
 
 @pytest.mark.parametrize("target", ["robots_c", "shared"])
 @pytest.mark.parametrize("folder", ["installed", "moved"])
-def test_program_built_by_cmake(request, tmp_path, folder, target):
+def test_program_built_by_cmake(folders, tmp_path, folder, target):
     if not shutil.which("cmake"):
         pytest.skip("cmake is missing")
     shutil.copy(ROOT / "examples/ask.c", tmp_path)
     (tmp_path / "CMakeLists.txt").write_text(CMAKE.format(target=target))
-    for words in (["-S", ".", "-B", "out", f"-DCMAKE_PREFIX_PATH={request.getfixturevalue(folder)}"], ["--build", "out"]):
+    for words in (["-S", ".", "-B", "out", f"-DCMAKE_PREFIX_PATH={folders[folder]}"], ["--build", "out"]):
         ended = subprocess.run(["cmake", *words], cwd=tmp_path, capture_output=True, text=True)
         assert ended.returncode == 0, ended.stdout + ended.stderr
     assert run(tmp_path / "out/ask", ["Ferris", "/a"], b"Disallow: /a") == Result(1, b"delay none\ndeny 1 /a\n", b"")
@@ -151,7 +149,7 @@ def test_program_built_by_cmake(request, tmp_path, folder, target):
 
 def test_texts_of_statuses(robots):
     """bindings/c/robots.c and examples/robots.py have the same ones, in the order of the statuses."""
-    header = re.search(r"^enum robots_status \{.*?^\};", (LIBRARY / "robots.h").read_text(), re.M | re.S)[0]
+    header = re.search(r"^enum robots_status \{.*?^\};", HEADER, re.M | re.S)[0]
     numbers = {name: int(number) for name, number in re.findall(r"^    (ROBOTS_\w+) = (-?\d+)\b", header, re.M)}
     source = (ROOT / "bindings/c/robots.c").read_text()
     texts = {numbers[name]: text for name, text in re.findall(r'case (ROBOTS_\w+): return "([^"]*)";', source)}
@@ -161,8 +159,7 @@ def test_texts_of_statuses(robots):
 
 def test_each_status_has_to_be_used():
     """The compiler warns of a call whose status is ignored."""
-    header = re.sub(r"/\*.*?\*/", "", (LIBRARY / "robots.h").read_text(), flags=re.S)
-    declared = re.findall(r"^(ROBOTS_CHECK )?int32_t (robots_\w+)\(", header, re.M)
+    declared = re.findall(r"^(ROBOTS_CHECK )?int32_t (robots_\w+)\(", HEADER, re.M)
     assert len(declared) >= 15 and [name for check, name in declared if not check] == []
 
 
@@ -341,7 +338,7 @@ def test_random_files_have_the_verdicts_of_robots_verdict(robots, seed):
 
 
 def guarded(data, at_end):
-    """The address of these bytes in a page that can only be read, at its end or its start, between two that can't be."""
+    """The address of these bytes in a page that can only be read, between two that can't be."""
     page, kept = mmap.PAGESIZE, mmap.mmap(-1, 3 * mmap.PAGESIZE)
     start = page + (page - len(data)) * at_end
     kept[start : start + len(data)] = data
@@ -354,29 +351,30 @@ def guarded(data, at_end):
 @pytest.mark.parametrize("at_end", [False, True], ids=["after an unreadable page", "before an unreadable page"])
 def test_nothing_outside_of_the_texts_is_read(robots, at_end):
     chance, line, out, number = random.Random(7), ctypes.c_size_t(), (ctypes.c_int64 * 9)(), ctypes.c_uint64()
+    library, sized = robots.library, (robots.OK, robots.BUFFER_TOO_SMALL)
     cases = [("Bot", FILE, URLS), ("Bot", b"", [""])] + [random_case(chance) for _ in range(100)]
     for agent, file, urls in cases:
         *agent_text, a = guarded(agent.encode(), at_end)
         *file_text, f = guarded(file, at_end)
         *urls_text, u = guarded("\n".join(urls).encode(), at_end)
         robot = ctypes.c_void_p()
-        assert robots.library.robots_decide(*agent_text, *file_text, *urls_text, out, 9, line) == robots.OK
+        assert library.robots_decide(*agent_text, *file_text, *urls_text, out, 9, line) == robots.OK
         assert list(out)[: len(urls)] == robots.decide(agent, file, urls)
-        assert robots.library.robots_open(*agent_text, *file_text, robot, line) == robots.OK
-        assert robots.library.robots_query_many(robot, *urls_text, out, 9) == robots.OK
-        robots.library.robots_close(robot)
+        assert library.robots_open(*agent_text, *file_text, robot, line) == robots.OK
+        assert library.robots_query_many(robot, *urls_text, out, 9) == robots.OK
+        library.robots_close(robot)
         site = ctypes.c_void_p()
-        assert robots.library.robots_site_open(*file_text, site) == robots.OK
-        assert robots.library.robots_site_matrix(site, *agent_text, *urls_text, out, 9) == robots.OK
-        assert robots.library.robots_site_delay(site, *agent_text, number) in (robots.OK, robots.NO_DELAY)
-        assert robots.library.robots_site_robot(site, *agent_text, robot, line) == robots.OK
-        assert robots.library.robots_site_is_named(site, *agent_text) in (0, 1)
-        robots.library.robots_close(robot)
-        assert robots.library.robots_site_sitemaps(site, None, 0, line) in (robots.OK, robots.BUFFER_TOO_SMALL)
-        assert robots.library.robots_site_agents(site, None, 0, line) in (robots.OK, robots.BUFFER_TOO_SMALL)
-        robots.library.robots_site_close(site)
+        assert library.robots_site_open(*file_text, site) == robots.OK
+        assert library.robots_site_matrix(site, *agent_text, *urls_text, out, 9) == robots.OK
+        assert library.robots_site_delay(site, *agent_text, number) in (robots.OK, robots.NO_DELAY)
+        assert library.robots_site_robot(site, *agent_text, robot, line) == robots.OK
+        assert library.robots_site_is_named(site, *agent_text) in (0, 1)
+        library.robots_close(robot)
+        assert library.robots_site_sitemaps(site, None, 0, line) in sized
+        assert library.robots_site_agents(site, None, 0, line) in sized
+        library.robots_site_close(site)
         *url_text, u = guarded(urls[0].encode(), at_end)
-        assert robots.library.robots_address(*url_text, None, 0, line) in (robots.BUFFER_TOO_SMALL, robots.NO_ADDRESS)
+        assert library.robots_address(*url_text, None, 0, line) in (robots.BUFFER_TOO_SMALL, robots.NO_ADDRESS)
 
 
 # What the example programs write on the same arguments and files. robots_audit names what it can't do otherwise.
@@ -390,12 +388,17 @@ def verdict_lines(report):
     return re.findall(r"^(?:delay|allow|deny) .*$", report, re.M)
 
 
+@pytest.fixture(scope="session")
+def ask(objects, tmp_path_factory):
+    return compiled(tmp_path_factory.mktemp("ask") / "ask", *STRICT, "examples/ask.c", *objects)
+
+
 @pytest.fixture(scope="session", params=["ask.c", "ask.py"])
-def example(request, objects, shared_object, tmp_path_factory):
-    """An example program, as the words that start it."""
-    if request.param == "ask.py":
-        return [sys.executable, "examples/ask.py"]
-    return [compiled(tmp_path_factory.mktemp("ask") / "ask", *STRICT, "examples/ask.c", *objects)]
+def example(request, ask, shared_object):
+    """Runs an example program."""
+    words = [ask] if request.param == "ask.c" else [Path(sys.executable), "examples/ask.py"]
+    environment = os.environ | {"ROBOTS_SO": str(shared_object), "PYTHONDONTWRITEBYTECODE": "1"}
+    return lambda arguments, *given, **options: run(words[0], [*words[1:], *arguments], *given, env=environment, **options)
 
 
 def arguments(case):
@@ -403,27 +406,23 @@ def arguments(case):
 
 
 @pytest.mark.parametrize("case", EXAMPLES.values(), ids=EXAMPLES)
-def test_example(example, shared_object, case):
-    environment = os.environ | {"ROBOTS_SO": str(shared_object), "PYTHONDONTWRITEBYTECODE": "1"}
-    result = run(Path(example[0]), [*example[1:], *arguments(case)], input_of(case), env=environment)
-    assert result == wanted_of(case)
+def test_example(example, case):
+    assert example(arguments(case), input_of(case)) == wanted_of(case)
 
 
 @pytest.mark.parametrize("reading, output", [(os.O_WRONLY, os.devnull), (os.O_RDONLY, "/dev/full")], ids=["unreadable input", "full disk"])
-def test_example_reports_what_cannot_be_read_or_written(example, shared_object, reading, output):
+def test_example_reports_what_cannot_be_read_or_written(example, reading, output):
     """The status is neither that of allowed nor that of denied URLs."""
-    environment = os.environ | {"ROBOTS_SO": str(shared_object), "PYTHONDONTWRITEBYTECODE": "1"}
     ends = os.open(os.devnull, reading), os.open(output, os.O_WRONLY)
-    result = run(Path(example[0]), [*example[1:], "Ferris", "/a"], ends[0], stdout=ends[1], env=environment)
+    result = example(["Ferris", "/a"], ends[0], stdout=ends[1])
     for end in ends:
         os.close(end)
     assert result.status > 1 and result.err
 
 
 @pytest.mark.parametrize("later", [0, 1], ids=["one allocation", "one and all later ones"])
-def test_example_in_c_reports_each_failed_allocation(failing_heap, objects, tmp_path, later):
-    """And frees what it has allocated, but for the buffers of its input and output. It may have written the beginning of its report."""
-    ask = compiled(tmp_path / "ask", *STRICT, "examples/ask.c", *objects)
+def test_example_in_c_reports_each_failed_allocation(failing_heap, ask, later):
+    """After a beginning of its report at most. It frees all but the buffers of its input and output."""
     words = ["Ferris", "https://\u00e9.example/\u00e9", "/a"], b"Disallow: /a\nCrawl-delay: 1\nSitemap: b\n"
     right, number, reported = run(ask, *words), 0, 0
     assert right.out.endswith("sitemap b\nallow - https://\u00e9.example/\u00e9\ndeny 1 /a\n")

@@ -1,5 +1,4 @@
-"""Functions of the library that neither a program nor the C library calls, and inputs that neither can have. The program
-texting_robots_tests prints what they return."""
+"""Functions and inputs that neither a program nor the C library has. The program texting_robots_tests prints what they return."""
 
 import json
 import re
@@ -99,7 +98,7 @@ TEXTS = [
 
 @pytest.mark.parametrize("row", range(len(TEXTS)))
 def test_texts_have_their_lines(printed, row):
-    """As a vector and by iterators, which return `None` twice at their end. Without NUL, the lines of a file are the same."""
+    """As a vector and by iterators, which return `None` twice. Without NUL, a file has the same lines."""
     text, want = TEXTS[row]
     first, *rest = printed("lines", "nobody", file=text, number=len(want) + 2)
     assert first == f"false [{', '.join(map(shown, want))}]"
@@ -183,7 +182,7 @@ def collapsed(pattern):
 
 
 def ordered(one, other):
-    """How a pattern compares with another one: by its length with all stars, the longer one first, and then by its bytes."""
+    """How a pattern compares with another one: the longer one first, with all its stars, and then by bytes."""
     (one, other) = ((-len(it), it) for it in (one, other))
     return "Less" if one < other else "Greater" if other < one else "Equal"
 
@@ -309,7 +308,7 @@ def test_small_inputs_are_ignored(printed):
 
 
 def check_target(line, verdict, looks=(0, 2**64)):
-    """By four functions: n if line n allows it, -n if line n denies it, and 0 if no line decides; and the range of the looks."""
+    """By four functions: line n allows it (n), denies it (-n), or none decides (0); and the range of the looks."""
     allowed, decided = shown(verdict >= 0), f"Some({abs(verdict)})" if verdict else "None"
     decision = f"Decision {{ allowed: {allowed}, line: {decided} }}"
     start = f"[{allowed}, {allowed}] [{decision}, {decision}] "
@@ -320,7 +319,7 @@ def check_target(line, verdict, looks=(0, 2**64)):
 
 @pytest.fixture
 def of_robots(printed):
-    """What a robot of the file and one of a site print: itself, and its verdicts on a text and on the target of the text as a URL."""
+    """What a robot of the file and one of a site print: itself, and its verdicts on a text and its target."""
 
     def lines(text, file, number=NO_LIMIT):
         own, other = (printed(name, text, file=file, number=number, word=BOB) for name in ("robot", "robot of a site"))

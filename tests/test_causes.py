@@ -1,5 +1,5 @@
-"""Each warning of robots_audit has a golden case in which it is given, and a near miss: a case that differs in one line of the file, or in
-one word of the arguments that isn't an option, and in which it isn't given. Their names: `/usr/bin/python3 tests/test_causes.py`."""
+"""Each warning has a golden case in which it is given, and a near miss that differs in one line of the file, or in one word of the
+arguments that isn't an option, in which it isn't. Their names: `/usr/bin/python3 tests/test_causes.py`."""
 
 import functools
 from os.path import commonprefix

@@ -1,4 +1,4 @@
-"""`./check`, with stand-ins for `rt` and Python: its last line adds up both, and its status says whether one failed. And mutants."""
+"""`./check`, with stand-ins for `rt` and Python: its last line, and its status. And mutants."""
 
 import os
 import re

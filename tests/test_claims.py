@@ -1,5 +1,4 @@
-"""What documents claim: a sentence, an item or a row of a table with the word "proved" names, in backticks, a theorem, a contract or a
-specification that says it, or `rt check`, which proves every function; one with the word "tested" names tests."""
+"""What documents call proved names a theorem, contract or specification that says it, or `rt check`; what they call tested names tests."""
 
 import re
 

@@ -6,7 +6,7 @@ import random
 import re
 
 import pytest
-from support import PHRASES, run
+from support import PHRASES, Result, run
 
 OLD = b"""User-agent: *
 Disallow: /search
@@ -52,6 +52,7 @@ NAME, URL, MAYBE = (PHRASES[it] for it in ("token", "url", "word"))
 TOO_LONG = b"User-agent: *\nDisallow: /" + b"x" * 4096 + b"$\n"
 REASON = PHRASES["long"] + "\n"
 
+
 def compare(folder, old, new, *words, file="-"):
     """The result for two files."""
     (folder / "old.txt").write_bytes(old)
@@ -63,12 +64,12 @@ def for_ferris(folder, old, new, *words, **options):
     return compare(folder, old, new, "--agent", "Ferris", *words, **options)
 
 
-def outcome(result):
-    return result.status, result.out, result.err
+def error(message):
+    return Result(2, "", f"robots_audit: {message}\n")
 
 
 def reported(result, old="old.txt", new="-"):
-    """The same without the first line, which names the files."""
+    """The status and texts of a result without the first line, which names the files."""
     first, _, lines = result.out.partition("\n")
     assert first == f"old: {old}, new: {new}"
     return result.status, lines, result.err
@@ -96,15 +97,15 @@ crawler Googlebot https://shop.example/search/milk: deny 2 -> allow, opened
 def test_urls_from_standard_input(tmp_path):
     (tmp_path / "new.txt").write_bytes(NEW)
     result = compare(tmp_path, OLD, b"/search/tea\n", "--urls", "-", "--agent=GPTBot", file="new.txt")
-    assert reported(result, new="new.txt") == (0, NOTHING.replace("Ferris", "GPTBot"), "")
+    assert reported(result, new="new.txt") == (0, OTHERS, "")
 
 
 @pytest.mark.parametrize("words", [["--compare", "old.txt", "--urls", "-", "-"], ["--compare", "-", "--urls", "-", "new.txt"], ["--compare", "-", "--urls", "list.txt", "-"]])
 def test_standard_input_is_read_once(tmp_path, words):
     for name in ("old.txt", "new.txt", "list.txt"):
         (tmp_path / name).write_bytes(b"/a\n")
-    message = f"robots_audit: standard input can't be two files; give the name of one; {USAGE}\n"
-    assert outcome(run("robots_audit", words, NEW, cwd=tmp_path)) == (2, "", message)
+    message = f"standard input can't be two files; give the name of one; {USAGE}"
+    assert run("robots_audit", words, NEW, cwd=tmp_path) == error(message)
 
 
 def test_all_crawlers(tmp_path):
@@ -118,7 +119,7 @@ def test_all_crawlers_and_a_url(tmp_path):
 
 NO_DIFFERENCE = {
     "one crawler": (["--agent", "Ferris"], NOTHING),
-    "one crawler and URLs": (["/a", "--agent=GPTBot", "/b"], f"crawler GPTBot: {SAME_TEXT}"),
+    "one crawler and URLs": (["/a", "--agent=GPTBot", "/b"], OTHERS),
     "one with spaces": (["--agent=Offline Explorer"], f"crawler Offline Explorer: {SAME_TEXT}"),
     "all that have no group": (["--agent=*"], f"crawler *: {SAME_TEXT}"),
     "two crawlers": (["--agent=Ferris", "--agent=GPTBot"], ALL),
@@ -132,7 +133,7 @@ def test_no_difference(tmp_path, words, line):
 
 
 def test_another_crawler_is_not_spoken_of(tmp_path):
-    assert reported(compare(tmp_path, OLD, NEW, "--agent=GPTBot")) == (0, f"crawler GPTBot: {SAME_TEXT}", "")
+    assert reported(compare(tmp_path, OLD, NEW, "--agent=GPTBot")) == (0, OTHERS, "")
     lines = STAR.replace("crawler *", "crawler Ferris") + OTHERS
     assert reported(compare(tmp_path, OLD, NEW, "--agent=Ferris", "--agent=GPTBot")) == (1, lines, "")
 
@@ -259,24 +260,24 @@ def test_no_command_of_a_workflow(tmp_path):
 @pytest.mark.parametrize("name, shown", [("", '""'), ("Googlebot/2.1\x1b", "Googlebot/2.1%1B")])
 def test_name_that_no_crawler_has(tmp_path, name, shown):
     for words in ([f"--agent={name}"], ["--agent=Ferris", f"--agent={name}"]):
-        assert outcome(compare(tmp_path, OLD, OLD, *words)) == (2, "", f"robots_audit: {shown}: {NAME}\n")
+        assert compare(tmp_path, OLD, OLD, *words) == error(f"{shown}: {NAME}")
 
 
 @pytest.mark.parametrize("url, shown", [("", '""'), ("ftp://e.com/\x1b", "ftp://e.com/%1B")])
 def test_neither_a_path_nor_a_url(tmp_path, url, shown):
     for words in ([url], ["/", "https://e.com/a", "HTTP://e.com", url, "tea"]):
-        assert outcome(compare(tmp_path, OLD, NEW, *words)) == (2, "", f"robots_audit: {shown}: {URL}\n")
+        assert compare(tmp_path, OLD, NEW, *words) == error(f"{shown}: {URL}")
 
 
 @pytest.mark.parametrize("name", ["*", "Offline Explorer"])
 def test_an_argument_that_may_be_a_crawler(tmp_path, name):
-    assert outcome(compare(tmp_path, OLD, NEW, name, "tea")) == (2, "", f"robots_audit: {name}: {MAYBE}\n")
+    assert compare(tmp_path, OLD, NEW, name, "tea") == error(f"{name}: {MAYBE}")
 
 
 def test_names_are_checked_before_urls_and_both_before_files(tmp_path):
-    assert outcome(compare(tmp_path, OLD, NEW, "--agent=Ferris/1", "tea/")) == (2, "", f"robots_audit: Ferris/1: {NAME}\n")
+    assert compare(tmp_path, OLD, NEW, "--agent=Ferris/1", "tea/") == error(f"Ferris/1: {NAME}")
     missing = run("robots_audit", ["--compare", "missing.txt", "-", "tea/"], NEW, cwd=tmp_path)
-    assert outcome(missing) == (2, "", f"robots_audit: tea/: {URL}\n")
+    assert missing == error(f"tea/: {URL}")
 
 
 @pytest.mark.parametrize("more", ["--expect=old.txt", "--denied", "-q", "--html", "--date=x", "--color=never", "--strict", "--needless", "--only=missing-slash", "--ignore=missing-slash"])

@@ -1,5 +1,4 @@
-"""What documents show is what the sources and the programs have: contracts, code, commands with their output, options, warnings, errors,
-examples, links and names. tests/test_claims.py has what is called proved or tested."""
+"""What documents show is what the sources and the programs have. tests/test_claims.py has what is called proved or tested."""
 
 import json
 import os
@@ -42,8 +41,7 @@ def section(document, heading):
 
 
 def imports(path):
-    """The modules of specs/ that a file imports: `Line` for `specs.Line.{..}`, for `Line.by_value` of a group, and for `specs.Line as ..`.
-    What is generated from the source, `specs.declared`, is none of them."""
+    """The modules of specs/ that a file imports: `Line` for `specs.Line.{..}` or `Line.by_value`; `specs.declared` is generated."""
     found = set()
     for names in re.findall(r"^ *(?:pub )?(?:ghost )?use Rattle\.texting_robots\.specs\.(.*)$", path.read_text(), re.M):
         group = re.fullmatch(r"\{(.*)\};?", names)
@@ -106,8 +104,7 @@ def contracts(path):
 
 
 def quoted(document):
-    """The same of the functions that a document quotes. There a signature begins with `fn View::len(`, and a clause is written as
-    `ensures name: ..` or `ensures ..`."""
+    """The same of the functions that a document quotes, with `fn View::len(`, and `ensures name: ..` or `ensures ..`."""
     found = set()
     for block in code(document, "text"):
         for text in re.split(r"^(?=fn )", block, flags=re.M)[1:]:
@@ -168,7 +165,7 @@ def test_documents_name_functions_and_lemmas_that_exist(name):
 
 @pytest.mark.parametrize("name", DOCUMENTS)
 def test_documents_name_warnings_and_options_that_exist(name):
-    """Names with a hyphen are warnings, field names or Debian's packages. Some options are those of pytest and of bench/compare.py."""
+    """Others are field names, Debian's packages, and options of pytest and bench/compare.py."""
     names = set(re.findall(r"`(?!python3-)([a-z0-9]+(?:-[a-z0-9]+)+)`", DOCUMENTS[name]))
     assert names <= {*WARNINGS, *FINDINGS, "allow-all", "by-rules", "crawl-delay", "deny-all", "site-map", "user-agent"}
     options = set(re.findall(r"`(?:robots_audit )?(--[a-z-]+)", DOCUMENTS[name])) - {"--lf", "--google", "--results"}
@@ -210,8 +207,7 @@ def clone(tmp_path_factory):
 
 
 def blocks_of_commands(document):
-    """Each indented block that begins with a command of this repository, with the block below it if the text between them ends with
-    'prints:'."""
+    """Each indented block of commands of this repository, with the block below it if 'prints:' is between them."""
     parts = re.findall(r"((?:^ {4}.*\n)+)|((?:^(?! {4}).*\n)+)", document, re.M)
     for number, (block, _) in enumerate(parts):
         if re.match(r" +(\./build|robots_audit) ", block):

@@ -47,7 +47,7 @@ def names_in(messages):
 
 @pytest.mark.parametrize("robots, text, names, why", ANY.values(), ids=ANY)
 def test_any_crawler(tmp_path, robots, text, names, why):
-    """A text has a line for each of the first five crawlers for which it fails, and one with ten more names; JSON has a finding for each."""
+    """A text has a line for each of the first five crawlers, and one with ten more names; JSON has a finding for each."""
     result, found = (check(tmp_path, b"\n" + text, *more, robots=robots) for more in ([], ["--json"]))
     more = f" and {len(names) - 15} more" if len(names) > 15 else ""
     if IGNORING[-1] in names:

@@ -1,5 +1,4 @@
-"""`robots_audit --list-warnings` and `--explain`: the list is tests/warnings.txt, each example that they print triggers its warning, and
-each corrected one doesn't."""
+"""`--list-warnings` prints tests/warnings.txt; each example of `--explain` triggers its warning, and each corrected one doesn't."""
 
 import re
 import shlex
@@ -48,7 +47,7 @@ def test_explanation(name, tmp_path):
 
 
 def test_sentences_about_proofs():
-    """The sentences of explanations that say what is proved, and their theorems, are those of tests/theorems.toml; nothing else says so."""
+    """What explanations say that is proved, and the theorems, are those of tests/theorems.toml."""
     rows = tomllib.loads((ROOT / "tests/theorems.toml").read_text())["proved"]
     printed = []
     for name in WARNINGS:
@@ -66,8 +65,7 @@ def test_sentences_about_proofs():
 
 
 def test_each_warning_with_a_proved_sentence_is_stated():
-    """`Means` speaks of each message to which a proved sentence applies: of the errors, if it says so, and else of all with the name. The
-    others: what the absence of a warning says, what a quote in a rule says by itself, and a `$` that only stars follow."""
+    """The others: what the absence of a warning says, what a quote in a rule says by itself, and a `$` that only stars follow."""
     others = {"UrlNotNormal", "EmptyDisallow", "QuotedRule", "QuoteAtEnd", "StarAfterDollar"}
     rows = re.findall(r'^ +(\w+) (Error|Warning|Note) "([a-z0-9-]+)"$', (CRATES / "robots_warnings/src/rows.rt").read_text(), re.M)
     means = (CRATES / "robots_warnings/specs/Means.antt").read_text()

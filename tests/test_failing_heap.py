@@ -1,4 +1,4 @@
-"""The allocator tests/failing_heap.c does what its comment says. The tests that use it see no difference if it fails less than they ask for."""
+"""tests/failing_heap.c does what its comment says: the tests that use it don't see if it fails less."""
 
 import os
 import tempfile

@@ -48,7 +48,7 @@ def test_deleting_the_reported_lines_changes_no_verdict(seed):
 
 
 def results_of(file):
-    """The sitemaps; and of each crawler, its delay, whether the file is rejected, and whether each URL is allowed."""
+    """The sitemaps; and each crawler's delay, rejection and verdicts."""
     report = report_on(file)
     agents = [
         (it["delay"], it["rejected"] is None, [verdict["allowed"] for verdict in it["verdicts"]]) for it in report["agents"]
@@ -88,8 +88,7 @@ TEXTS = ["/qqqqqqqq", *("/" + "".join(letters) for size in range(5) for letters 
 
 @pytest.mark.parametrize("seed", range(20))
 def test_every_needless_rule_is_found(seed):
-    """Without any other rule, the verdict on some short path is another one. The longest one denies a path, so that some rule is
-    needed, and none stays only because its block needs one."""
+    """Without any other rule, some short path has another verdict. The longest denies a path, so that no rule stays just for its block."""
     some = random.Random(seed)
     lines = ["User-agent: a", LONGEST, *(f"{some.choice(['Allow', 'Disallow'])}: {some.choice(PATHS)}" for _ in range(8))]
     numbers = found_in(lines)

@@ -1,5 +1,4 @@
-"""The HTML page: it has what the JSON has, untrusted text becomes no element, and a browser displays it without a message or a request.
-What html.parser reads is checked everywhere; Chromium, where it is installed, has to read the same."""
+"""The HTML page: it has what the JSON has, and untrusted text becomes no element. Chromium, where it is installed, reads the same."""
 
 import json
 import re
@@ -63,7 +62,7 @@ def contrast(one, other):
 
 
 def test_texts_have_contrast():
-    """In light and dark mode and in print, each color of a text has a contrast of at least 4.5 to each background that it occurs on."""
+    """In light and dark mode and in print, texts have a contrast of at least 4.5 to each background."""
     schemes = [dict(re.findall(r"--(\w+): (#\w+)", block)) for block in re.findall(r":root \{([^}]*)\}", STYLE)]
     assert len(schemes) == 3
     used = {"fg": "bg head alert warn hint hit", "dim": "bg head hit", "link": "bg", "yes": "bg", "no": "bg"}
@@ -109,6 +108,10 @@ def page(*args, file=EXAMPLE):
     ended = run("robots_audit", ["--html", *args], file)
     assert ended.status in (0, 1, 2) and ended.err == ""
     return ended.out
+
+
+def elements_of(*args, **options):
+    return Reader(page(*args, **options)).elements
 
 
 def audit(*args, file=EXAMPLE):
@@ -230,12 +233,12 @@ def test_page_has_what_vendors_do(agent, vendor, fetch):
     found = entries_of(f"--agent={agent}", "-", file=file)
     assert found["Group"] == f"* ({agent} has no group of its own), line 1{vendor}"
     assert (found["Crawl delay"], found["May fetch"]) == (f"10 s ({agent} probably ignores it)", fetch)
-    assert ["/a", "denied by the file, line 2"] in [cells for _, cells in children(Reader(page(f"--agent={agent}", "-", "/a", file=file)).elements, "tr")]
+    assert ["/a", "denied by the file, line 2"] in [cells for _, cells in children(elements_of(f"--agent={agent}", "-", "/a", file=file), "tr")]
     assert "<td>disallow</td><td>(empty: an Allow of / here)</td>" in page(f"--agent={agent}", "-", file=file)
 
 
 def test_page_has_the_lines_and_warnings_of_the_json():
-    elements, found = Reader(page(*FERRIS, *URLS)).elements, audit(*FERRIS, *URLS)
+    elements, found = elements_of(*FERRIS, *URLS), audit(*FERRIS, *URLS)
     rows = rows_of(found)
     assert len(rows) > len(found["lines"]) and [row for row in children(elements, "tr") if row[0]] == rows
     assert texts(elements, "li") == [*joined(found["warnings"]), *found["sitemaps"]]
@@ -251,27 +254,20 @@ def test_page_has_the_sentence_about_the_standard(file, sentence):
     assert entries_of("-", file=file).get("Syntax") == sentence
 
 
-@pytest.mark.parametrize("file, crawlers, heading", [
-    (b"Disallow: /a", "all crawlers", "Crawler"),
-    (b"User-agent: A\nDisallow: /a", "2 crawlers", "Crawlers"),
+@pytest.mark.parametrize("agents, file, crawlers, heading", [
+    ([], b"Disallow: /a", "all crawlers", "Crawler"),
+    ([], b"User-agent: A\nDisallow: /a", "2 crawlers", "Crawlers"),  # `*` and `A`
+    (["--agent=*"], b"Disallow: /a", "*", "Crawler"),
+    (["--agent=Ferris", "--agent=ferris"], b"User-agent: A", "Ferris", "Crawler"),
 ])
-def test_title_and_heading_without_an_agent(file, crawlers, heading):
-    """The second report is about `*` and `A`."""
-    written = page("-", file=file)
+def test_title_and_heading(agents, file, crawlers, heading):
+    written = page(*agents, "-", file=file)
     assert f"<title>robots.txt for {crawlers}</title>" in written and f"<h2>{heading}</h2>" in written
-
-
-def test_title_with_star():
-    assert "<title>robots.txt for *</title>" in page("--agent=*", "-", file=b"Disallow: /a")
-
-
-def test_title_with_an_agent_twice():
-    assert "<title>robots.txt for Ferris</title>" in page("--agent=Ferris", "--agent=ferris", "-", file=b"User-agent: A")
 
 
 def entries_of(*args, **options):
     """The entries of the summary."""
-    elements = Reader(page(*args, **options)).elements
+    elements = elements_of(*args, **options)
     return dict(zip(texts(elements, "dt"), texts(elements, "dd"), strict=True))
 
 
@@ -287,7 +283,7 @@ FILES = {
 def test_page_says_what_a_crawler_may_fetch(file):
     entries = entries_of("--agent=Ferris", "-", file=file)
     assert (entries["Rules"], entries["May fetch"]) == FILES[file]
-    (row,) = [cells for _, cells in children(Reader(page("-", file=file)).elements, "tr") if cells[0] == "*"]
+    (row,) = [cells for _, cells in children(elements_of("-", file=file), "tr") if cells[0] == "*"]
     assert (row[2], row[4]) == FILES[file]
 
 
@@ -318,7 +314,7 @@ def test_page_has_allowed_urls_too(agents):
 
 
 def test_at_most_100_warnings_are_listed():
-    elements = Reader(page(*FERRIS, file=b"User-agent: *\n" + b"".join(b"Disallow: /%d\nAllow: /%d\n" % (n, n) for n in range(104)))).elements
+    elements = elements_of(*FERRIS, file=b"User-agent: *\n" + b"".join(b"Disallow: /%d\nAllow: /%d\n" % (n, n) for n in range(104)))
     assert len(texts(elements, "li")) == 100 and "and 4 more, below their lines" in texts(elements, "p")
     assert len(texts(elements, "tr", **{"class": "warning"})) == 104
 
@@ -327,7 +323,7 @@ def test_what_has_a_row_and_is_not_listed_is_counted():
     """Of 106 warnings, those about the file and about a group past the size limit have no row, so five are left."""
     rules = b"User-agent: *\n" + b"".join(b"Disallow: /%d\nAllow: /%d\n" % (n, n) for n in range(104))
     file = rules + b"#".ljust(511_999 - len(rules), b"x") + b"\nUser-agent: a\nDisallow: /"
-    elements = Reader(page(*FERRIS, file=file)).elements
+    elements = elements_of(*FERRIS, file=file)
     listed = texts(elements, "li")
     assert len(listed) == 101 and "[group-past-size-limit]" in listed[-1] and "and 5 more, below their lines" in texts(elements, "p")
 
@@ -335,24 +331,24 @@ def test_what_has_a_row_and_is_not_listed_is_counted():
 def test_all_warnings_without_a_row_are_listed():
     """Warnings about URLs have no line, and those past the size limit have no row."""
     urls = [f"/%c3{number}" for number in range(150)]
-    elements = Reader(page(*FERRIS, *urls, file=b"User-agent: *\nDisallow: /a\nhello\n")).elements
+    elements = elements_of(*FERRIS, *urls, file=b"User-agent: *\nDisallow: /a\nhello\n")
     listed = texts(elements, "li")
     assert len(listed) == 2 and "'/%c30'" in listed[0] and "(and 149 more URLs)" in listed[0] and "[unrecognized-line]" in listed[1]
     names = b"".join(b"User-agent: a%d\nDisallow: /\n" % number for number in range(150))
-    elements = Reader(page(*FERRIS, file=b"User-agent: *\nDisallow: /a\n" + b"#".ljust(511_973, b"x") + b"\n" + names)).elements
+    elements = elements_of(*FERRIS, file=b"User-agent: *\nDisallow: /a\n" + b"#".ljust(511_973, b"x") + b"\n" + names)
     found = [text for text in texts(elements, "li") if "[group-past-size-limit]" in text]
     assert [(text.split(":")[0], "(also in lines 6, 8, 10 and 146 more)" in text) for text in found] == [("line 4", True)]
 
 
 def test_line_past_the_size_limit_is_no_link():
     """It has no row."""
-    elements = Reader(page("--agent=A", "-", file=b"#".ljust(511_999, b"x") + b"\nUser-agent: a")).elements
+    elements = elements_of("--agent=A", "-", file=b"#".ljust(511_999, b"x") + b"\nUser-agent: a")
     assert [text.split(":")[0] for text in texts(elements, "li")] == ["Warning", "line 2"]
     assert texts(elements, "tr", id="L1") and not texts(elements, "tr", id="L2") and not texts(elements, "a")
 
 
 def test_table_of_lines_has_bodies_of_500_lines():
-    elements = Reader(page(*FERRIS, file=b"User-agent: *\n" + b"x\n" * 1000)).elements
+    elements = elements_of(*FERRIS, file=b"User-agent: *\n" + b"x\n" * 1000)
     bodies = []
     for name, attributes, _ in elements:
         if name == "tbody":
@@ -364,9 +360,9 @@ def test_table_of_lines_has_bodies_of_500_lines():
 
 
 def test_page_is_accessible():
-    """Each link has its target, headings are in order, a table has a caption, and a heading of a row or column says so."""
+    """Links have targets, headings are in order, a table has a caption, and headings say of what they are."""
     for args in ([*FERRIS, *URLS], ["-", *URLS]):
-        elements = Reader(page(*args)).elements
+        elements = elements_of(*args)
         ids = [own["id"] for _, own, _ in elements if "id" in own]
         links = [own["href"] for name, own, _ in elements if name == "a"]
         assert links and len(set(ids)) == len(ids) and {link.removeprefix("#") for link in links} <= set(ids)
@@ -395,7 +391,7 @@ def shape(elements):
 @pytest.mark.parametrize("text", HOSTILE)
 def test_text_of_a_file_becomes_no_element(text):
     args = ["--only", "sitemap-not-absolute", *FERRIS, "/x"]
-    elements = [Reader(page(*args, file=with_text(it))).elements for it in (text, harmless(text))]
+    elements = [elements_of(*args, file=with_text(it)) for it in (text, harmless(text))]
     assert shape(elements[0]) == shape(elements[1])
 
 
@@ -442,8 +438,7 @@ PAGES = {
 
 @pytest.mark.parametrize("name", PAGES)
 def test_browser_reads_the_page(browser, tmp_path, name):
-    """It reads the same elements as html.parser, reports nothing, requests nothing else, applies the style and needs no sideways
-    scrolling."""
+    """It reads the same elements, reports and requests nothing, applies the style, and needs no sideways scrolling."""
     args, file = PAGES[name]
     path = tmp_path / "page.html"
     path.write_text(page(*args, file=file), newline="")

@@ -88,7 +88,7 @@ def run_in_pieces(name, args, text, size):
 
 
 def run_with_room(name, args, stdin, room, folder):
-    """Runs a program whose output takes so many bytes: a file that may have 1,024 bytes, or /dev/full, or a pipe that nobody reads."""
+    """Runs a program whose output takes so many bytes: a file with a limit, /dev/full, or a pipe that nobody reads."""
     if room == "closed":
         reader, writer = os.pipe()
         os.close(reader)
@@ -150,8 +150,7 @@ def test_golden_cases_have_each_warning():
 
 @pytest.mark.parametrize("start, misses", [("/a", "\t\\^{}"), ("/a?x", "\t'`")], ids=["path", "query"])
 def test_a_rule_with_a_byte_that_urls_escape_is_warned_about(start, misses):
-    """Each ASCII byte that means itself in a rule: the warning comes exactly if the rule misses the very URL that it spells; else there may be
-    the note of this name. Bytes that the program rejects in a URL are written as crawlers send them: without a tab, and escaped."""
+    """The warning comes exactly if the rule misses the very URL that it spells, as crawlers send it; else there may be the note."""
     warned = ""
     sent = {"\t": "", "\f": "%0C", " ": "%20", "<": "%3C", ">": "%3E"}
     for byte in map(chr, range(1, 128)):
@@ -242,8 +241,7 @@ def test_messages_of_robots_examples(tmp_path):
 
 
 def test_small_rules():
-    """Each text of at most six bytes out of /, a, * and $, with / before it, where the text is the one Allow rule: it is allowed, by
-    that rule or by none."""
+    """Each text of / and at most six bytes out of /, a, * and $, as the one Allow rule, is allowed by that rule or by none."""
     for length in range(7):
         for text in map("".join, product("/a*$", repeat=length)):
             result = run("robots_verdict", stdin=f"B\n/{text}\n\nAllow: {text}".encode())

@@ -1,5 +1,4 @@
-"""The files of a release: two runs of ./release give the same bytes, and each file is installed in an empty folder, without the toolchain,
-the repository and a network, and does there what the documents show."""
+"""The files of a release: two runs give the same bytes, and each file, in an empty folder without a network, does what documents show."""
 
 import contextlib
 import hashlib

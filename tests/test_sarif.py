@@ -1,5 +1,4 @@
-"""`robots_audit --format sarif`: the log has the members that the schema of SARIF 2.1.0 requires, and no others than it allows; results
-and rules are those of the warnings and verdicts."""
+"""`robots_audit --format sarif`: the log has the members that SARIF 2.1.0 requires, none that it forbids, and all warnings and verdicts."""
 
 import json
 import re
@@ -65,7 +64,7 @@ def message(name):
 
 
 def read(message):
-    """The text that a message shows: it has no placeholder and no link, as all braces, brackets and backslashes are escaped."""
+    """The text that a message shows: braces, brackets and backslashes are escaped, so it has no placeholder or link."""
     assert re.fullmatch(r"(?:[^{}\[\]\\]|\{\{|\}\}|\\[\[\]\\])*", message["text"], re.S)
     return re.sub(r"([{}])\1|\\(.)", lambda it: it[1] or it[2], message["text"])
 
@@ -86,7 +85,7 @@ def test_schema(args):
 
 
 def test_results():
-    """Errors come first, then what crawlers may not fetch, and then other warnings. What isn't about a line is at the first."""
+    """Errors, what crawlers may not fetch, and other warnings. What isn't about a line is at the first."""
     assert list(results(log("--agent=Ferris", "-", "/b", "/c", status=1))) == [
         ("error", "missing-slash", message("missing-slash"), "robots.txt", 2),
         ("error", "denied", "Ferris may not fetch /b", "robots.txt", 3),

@@ -1,5 +1,4 @@
-"""What no contract can state: every allocation error in the sources comes from a call that allocates, and no trait is implemented by hand
-that a derive implements."""
+"""What no contract states: allocation errors come from calls that allocate, and what can be derived isn't written by hand."""
 
 import re
 
@@ -52,8 +51,7 @@ def without(text, *starts):
 
 
 def code(text):
-    """The expressions and patterns of a source: without comments, strings, contracts, imports, declarations and signatures, and without
-    the `From` impls of `AllocError` and `AllocFailed`."""
+    """The expressions and patterns of a source, without the `From` impls of `AllocError` and `AllocFailed`."""
     text = re.sub(r'//.*|"(?:[^"\\]|\\[\s\S])*"|b?\'(?:[^\'\\]|\\.)\'', lambda it: "" if it[0].startswith("/") else '""', text)
     text = without(text, r"\b(?:ensures|requires)\*? *\w* *\{", r"\bghost \w+(?: =|:) \{", r"\b(?:enum|struct) [^{}();]*[{(]")
     text = without(text, r"\bmatches!\(")
@@ -62,7 +60,7 @@ def code(text):
 
 
 def constructed(text):
-    """The allocation errors that a source constructs, except those that a match constructs from an allocation error which it names."""
+    """The allocation errors that a source constructs, but for those that a match makes of one that it names."""
 
     def left_of(arm):
         return arm["value"] if not re.fullmatch(FROM_FAILED, arm["pattern"]) else ""

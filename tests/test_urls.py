@@ -3,7 +3,7 @@
 import json
 
 import pytest
-from support import PHRASES, run, warning_lines, with_standard
+from support import PHRASES, Result, run, warning_lines, with_standard
 
 ROBOTS = b"""User-agent: *
 Disallow: /private/
@@ -26,10 +26,6 @@ LISTED = {
 }
 
 
-def outcome(result):
-    return result.status, result.out, result.err
-
-
 def report(text, words="syntax 9"):
     """The report, with the lines about RFC 9309: the rule in line 9 is too long."""
     return with_standard(text.removesuffix("\n"), words) + "\n"
@@ -45,39 +41,32 @@ def check(folder, text, agent, *args, robots=ROBOTS):
 def test_each_line_is_a_url(tmp_path, text, lines):
     out = PHRASES["star"] + "\ndelay: none\n" + lines
     err = warning_lines(["url-not-normal /tea#cup"] if b"#cup" in text else [], agent="Ferris")
-    assert outcome(check(tmp_path, text, "Ferris")) == (1 if "deny" in out else 0, report(out), err)
+    assert check(tmp_path, text, "Ferris") == Result(1 if "deny" in out else 0, report(out), err)
 
 
 def test_a_url_is_asked_without_its_fragment(tmp_path):
     """In a path, `#` is a byte like others."""
     out = PHRASES["star"] + "\ndelay: none\ndeny 2 https://e.com/a#b\nallow - /a#b\n1 allowed, 1 denied\n"
     result = check(tmp_path, b"https://e.com/a#b\n/a#b\n", "Ferris", robots=b"User-agent: *\nDisallow: /a$\n")
-    assert outcome(result) == (1, report(out, "verdicts"), warning_lines(["url-not-normal /a#b"], agent="Ferris"))
+    assert result == Result(1, report(out, "verdicts"), warning_lines(["url-not-normal /a#b"], agent="Ferris"))
 
 
 def test_urls_of_the_command_line_come_first(tmp_path):
     out = PHRASES["star"] + "\ndelay: none\nallow - /b\nallow - /a\ndeny 2 /private/\n2 allowed, 1 denied\n"
-    assert outcome(check(tmp_path, b"/a\n/private/\n", "Ferris", "/b")) == (1, report(out), "")
+    assert check(tmp_path, b"/a\n/private/\n", "Ferris", "/b") == Result(1, report(out), "")
 
 
-URL = PHRASES["url"]
-NOT_URLS = {
-    "a host": (b"/a\nexample.com/a\n", 2),
-    "another scheme": (b"# none\n\nftp://example.com/\n", 3),
-    "no host": (b"http://", 1),
-    "a word": (b"/a\n/b\ntea", 3),
-}
-
-
-@pytest.mark.parametrize("text, line", NOT_URLS.values(), ids=NOT_URLS)
-def test_a_line_that_is_neither_a_path_nor_a_url(tmp_path, text, line):
-    assert outcome(check(tmp_path, text, "Ferris")) == (2, "", f"robots_audit: list.txt:{line}: {URL}\n")
-
-
+URL, SPACE = PHRASES["url"], PHRASES["space"]
 TAG = "< or > in a URL; write %3C or %3E, and each URL of a sitemap on a line of its own"
-SPACE = PHRASES["space"]
 COMMA = "another URL after a comma; write each URL as a line or an argument of its own"
-SLIPS = {
+BYTES = "the line isn't valid UTF-8"
+NO_URL = {
+    "a host": (b"/a\nexample.com/a\n", 2, URL),
+    "another scheme": (b"# none\n\nftp://example.com/\n", 3, URL),
+    "no host": (b"http://", 1, URL),
+    "a word": (b"/a\n/b\ntea", 3, URL),
+    "a byte that isn't UTF-8": (b"\xff", 1, BYTES),
+    "such a byte after a path": (b"/a\n\n/\xe9 \n/b\n", 3, BYTES),
     "a sitemap": (b'<?xml version="1.0"?>', 1, TAG),
     "markup after a path": (b"/a\n/b<br>", 2, TAG),
     "the start of a tag": (b"/a<", 1, TAG),
@@ -90,14 +79,14 @@ SLIPS = {
 }
 
 
-@pytest.mark.parametrize("text, line, why", SLIPS.values(), ids=SLIPS)
+@pytest.mark.parametrize("text, line, why", NO_URL.values(), ids=NO_URL)
 def test_a_line_that_is_no_single_url(tmp_path, text, line, why):
-    assert outcome(check(tmp_path, text, "Ferris")) == (2, "", f"robots_audit: list.txt:{line}: {why}\n")
+    assert check(tmp_path, text, "Ferris") == Result(2, "", f"robots_audit: list.txt:{line}: {why}\n")
 
 
 def test_urls_with_a_comma(tmp_path):
     out = PHRASES["star"] + "\ndelay: none\nallow - /a,b\nallow - /a,/https\nallow - https://example.com/?a=b,c\n3 allowed, 0 denied\n"
-    assert outcome(check(tmp_path, b"/a,b\n/a,/https\nhttps://example.com/?a=b,c", "Ferris")) == (0, report(out), "")
+    assert check(tmp_path, b"/a,b\n/a,/https\nhttps://example.com/?a=b,c", "Ferris") == Result(0, report(out), "")
 
 
 def test_urls_from_standard_input(tmp_path):
@@ -106,15 +95,10 @@ def test_urls_from_standard_input(tmp_path):
     assert (result.status, result.out) == (1, report("group: GPTBot\ndelay: none\nallow 6 /a\ndeny 5 /b\n1 allowed, 1 denied\n"))
 
 
-@pytest.mark.parametrize("text, line", [(b"\xff", 1), (b"/a\n\n/\xe9 \n/b\n", 3)])
-def test_a_url_that_is_not_utf_8(tmp_path, text, line):
-    assert outcome(check(tmp_path, text, "Ferris")) == (2, "", f"robots_audit: list.txt:{line}: the line isn't valid UTF-8\n")
-
-
 @pytest.mark.parametrize("text", [b"", b"\n  \n", b"# /tea", b"\xef\xbb\xbf"], ids=["nothing", "blank lines", "a comment", "a byte order mark"])
 @pytest.mark.parametrize("more", [[], ["/b"]], ids=["no other URL", "another URL"])
 def test_no_urls(tmp_path, text, more):
-    assert outcome(check(tmp_path, text, "Ferris", *more)) == (2, "", "robots_audit: list.txt: there are no URLs\n")
+    assert check(tmp_path, text, "Ferris", *more) == Result(2, "", "robots_audit: list.txt: there are no URLs\n")
 
 
 CURL = "curl -fsSL https://example.com/robots.txt | robots_audit -"
@@ -137,15 +121,15 @@ UNREAD = {
 @pytest.mark.parametrize("name, shown", UNREAD.values(), ids=UNREAD)
 def test_file_that_cannot_be_read(tmp_path, args, name, shown):
     result = run("robots_audit", [name if word == "NAME" else word for word in args], ROBOTS, cwd=tmp_path)
-    assert outcome(result) == (2, "", f"robots_audit: cannot read {shown}\n")
+    assert result == Result(2, "", f"robots_audit: cannot read {shown}\n")
 
 
 def test_denied_urls_alone(tmp_path):
     out = PHRASES["star"] + "\ndelay: none\ndeny 2 /private/\n2 allowed, 1 denied\n"
-    assert outcome(check(tmp_path, b"/a\n/private/\n/b\n", "Ferris", "--denied")) == (1, report(out), "")
-    assert outcome(run("robots_audit", ["-q", "--denied", "--agent=Ferris", "-", "/a", "/private/", "/b"], ROBOTS)) == (1, report(out), "")
+    assert check(tmp_path, b"/a\n/private/\n/b\n", "Ferris", "--denied") == Result(1, report(out), "")
+    assert run("robots_audit", ["-q", "--denied", "--agent=Ferris", "-", "/a", "/private/", "/b"], ROBOTS) == Result(1, report(out), "")
     out = PHRASES["star"] + "\ndelay: none\n1 allowed, 0 denied\n"
-    assert outcome(run("robots_audit", ["-q", "--denied", "--agent=Ferris", "-", "/a"], ROBOTS)) == (0, report(out), "")
+    assert run("robots_audit", ["-q", "--denied", "--agent=Ferris", "-", "/a"], ROBOTS) == Result(0, report(out), "")
 
 
 def test_numbers_are_those_of_all_crawlers(tmp_path):

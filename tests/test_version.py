@@ -1,4 +1,4 @@
-"""One version: each place that names it has the one in the file VERSION. One toolchain: each place that names it has that of PROOFS."""
+"""Each place that names the version has that of the file VERSION, and each that names the toolchain that of PROOFS."""
 
 import re
 

@@ -1,6 +1,5 @@
-"""The page of web/ in Chromium: the program in it writes what the built one writes, byte for byte; it requests nothing and reports no
-message; a file that came with a link isn't run before somebody asks for it; and it can be used by the keyboard alone, in a small window,
-and in light and dark."""
+"""The page of web/ in Chromium: it writes what the program writes, requests nothing, runs no file of a link unasked, and can be used by
+the keyboard alone, in a small window, and in light and dark."""
 
 import base64
 import datetime
@@ -51,7 +50,7 @@ def browser(path, tmp_path_factory):
 
 @pytest.fixture
 def page(browser, path):
-    """The page with its first report. Afterwards, it has requested nothing but its own worker, and no message was reported."""
+    """The page with its first report. It requests nothing but its own worker, and reports no message."""
     browser.open(path, 1280, 800)
     ended(browser)
     yield browser

@@ -1,7 +1,4 @@
-"""Crawls sites by Scrapy, each with settings of its own: python crawl.py < CRAWLS, a JSON list of [URL, SETTINGS].
-
-They share a process, as Twisted's reactor starts once.
-"""
+"""Crawls sites by Scrapy in one process: python crawl.py < CRAWLS, a JSON list of [URL, SETTINGS]."""
 
 import contextlib
 import itertools

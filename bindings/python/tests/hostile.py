@@ -1,5 +1,4 @@
-"""Files, URLs and names whose types lie: python hostile.py TURNS. What a call reads beyond a file ends the process, since a page follows that
-nobody may read; so does a wrong result."""
+"""Files, URLs and names whose types lie: python hostile.py TURNS. A read beyond a file ends the process, and so does a wrong result."""
 
 import ctypes
 import mmap

@@ -1,4 +1,4 @@
-"""Builds the package's wheel if a source has changed, unpacks it and puts it on the path. Every test file imports this first."""
+"""Builds the wheel if a source has changed, and puts it on the path. Every test file imports this first."""
 
 import contextlib
 import fcntl

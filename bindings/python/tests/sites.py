@@ -16,8 +16,7 @@ RULES = b"User-agent: *\nDisallow: /private/\n"
 
 
 class Site(ThreadingHTTPServer):
-    """Pages with links, by default each to all. Each answer to a request for robots.txt is the next one of a list, the last one again and
-    again."""
+    """Pages with links, by default each to all, and the answers to requests for robots.txt, the last one again and again."""
 
     daemon_threads = True
 

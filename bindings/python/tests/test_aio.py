@@ -64,6 +64,11 @@ def timed(robots, run):
         loop.close()
 
 
+def over(answer, user_agent="FerrisBot", **more):
+    """A crawler whose servers answer so."""
+    return AsyncRobots(Server(answer).get, user_agent, **more)
+
+
 def asked(robots, *paths):
     """The decisions for some paths of a site, asked for at the same time."""
 
@@ -128,7 +133,7 @@ def test_a_file_that_can_not_be_fetched(answer, caplog):
 @pytest.mark.parametrize("patience, ends", [(0, 0), (4, 0), (7, 5), (15, 15), (34, 15)])
 def test_patience_begins_when_the_site_fails_first(patience, ends):
     """So a site costs no more of it if it has many URLs. The file is asked for at 0, 5, 15 and 35 seconds."""
-    robots = AsyncRobots(Server(OSError()).get, "FerrisBot", patience=patience)
+    robots = over(OSError(), patience=patience)
 
     async def one_after_another(loop):
         return [(tuple(await robots.may(f"http://a.example/{number}")), loop.now) for number in range(20)]
@@ -167,26 +172,22 @@ def test_a_mistake_in_the_callers_function_is_an_error(get, reason, caplog):
     assert f"http://a.example/robots.txt can't be fetched: {reason}" in caplog.messages
 
 
-def test_the_log_says_which_error_it_was(caplog):
-    for error, text in [(asyncio.TimeoutError(), "TimeoutError"), (OSError("broken"), "OSError: broken")]:
-        asked(AsyncRobots(Server(error).get, "FerrisBot"), "/")
-        assert caplog.messages[-1] == f"http://a.example/robots.txt can't be fetched: {text}"
-
-
 NO_BODY = "status 200, but the body breaks off or can't be unpacked"
 
 
 @pytest.mark.parametrize(
-    "response, text",
+    "answer, text",
     [
+        (asyncio.TimeoutError(), "TimeoutError"),
+        (OSError("broken"), "OSError: broken"),
         (Response(503, {}, b""), "status 503"),
         (Response(206, {}, RULES), "status 206"),
         (Response(200, {}, RULES, is_complete=False), NO_BODY),
         (Response(200, {"Content-Encoding": "br"}, b"x"), NO_BODY),
     ],
 )
-def test_the_log_says_why_a_response_is_no_file(caplog, response, text):
-    asked(AsyncRobots(Server(response).get, "FerrisBot"), "/")
+def test_the_log_says_why_there_is_no_file(caplog, answer, text):
+    asked(over(answer), "/")
     assert caplog.messages == [f"http://a.example/robots.txt can't be fetched: {text}"]
 
 
@@ -198,7 +199,7 @@ BROWSER = "Mozilla/5.0 (compatible; FerrisBot/1.0)"
     [(BROWSER, 1), ([BROWSER], 1), ("FerrisBot (as Mozilla/5.0)", 0), ([BROWSER, "FerrisBot"], 0)],
 )
 def test_a_warning_of_a_user_agent_that_begins_as_a_browsers(caplog, user_agent, warnings):
-    AsyncRobots(Server(file()).get, user_agent)
+    over(file(), user_agent)
     assert caplog.text.count("begins as a browser's does: pass the crawler's name") == warnings
 
 
@@ -218,18 +219,18 @@ def test_whether_there_was_a_connection(error, was_reached, is_wrapped):
 @pytest.mark.parametrize("user_agent", ["a/b/c", "", " ", "https://a.example/", "/x", ["FerrisBot", ""]])
 def test_what_is_no_user_agent(user_agent):
     with pytest.raises(AgentError, match="isn't a User-Agent: it has to begin with the crawler's name, as 'FerrisBot/1.0' does"):
-        AsyncRobots(Server(file()).get, user_agent)
+        over(file(), user_agent)
 
 
 @pytest.mark.parametrize("user_agent", [None, [], b"FerrisBot", [b"FerrisBot"]])
 def test_a_user_agent_of_another_type(user_agent):
     with pytest.raises(TypeError, match="it has to be a str, such as 'FerrisBot/1.0', or several in order of precedence"):
-        AsyncRobots(Server(file()).get, user_agent)
+        over(file(), user_agent)
 
 
 @pytest.mark.parametrize("user_agent", ["FerrisBot", "FerrisBot/1.0", " FerrisBot/1.0 (+https://a.example/bot)", "Ferris_Bot", "*", ["A/1", "B"], "FerrisBot;x", "Mozilla/5.0 (X)"])
 def test_what_is_a_user_agent(user_agent):
-    assert asked(AsyncRobots(Server(file()).get, user_agent), "/private/x")[0].line == 2
+    assert asked(over(file(), user_agent), "/private/x")[0].line == 2
 
 
 def test_a_request_that_hangs():
@@ -245,13 +246,13 @@ def test_an_error_of_the_callers_leaves_nobody_waiting(caplog):
     def fails(address, sitemaps):
         raise ValueError
 
-    robots = AsyncRobots(Server(file(RULES + b"Sitemap: /s")).get, "FerrisBot", RobotsCache(found=fails))
+    robots = over(file(RULES + b"Sitemap: /s"), cache=RobotsCache(found=fails))
     assert [bool(it) for it in asked(robots, "/", "/private/x")] == [True, False]
     assert caplog.messages == ["http://a.example/robots.txt: an error that isn't one of the network: ValueError"] and caplog.records[0].exc_info
 
 
 def moments(robots, patiences, pause=0.0):
-    """When calls for a site end, which begin one after another, and are cancelled after so many seconds, or None for one that is."""
+    """When calls that begin one after another end; None for one that is cancelled after so many seconds."""
 
     async def call(loop, number, patience):
         await asyncio.sleep(number * pause)
@@ -269,12 +270,12 @@ def moments(robots, patiences, pause=0.0):
 
 def test_pages_are_as_far_apart_as_the_file_asks_for():
     """The pages of another site aren't."""
-    robots = AsyncRobots(Server(file(RULES + b"Crawl-delay: 0.3\n")).get, "FerrisBot")
+    robots = over(file(RULES + b"Crawl-delay: 0.3\n"))
     assert moments(robots, [None] * 4) == [0.0, 0.3, 0.6, 0.9]
     assert asyncio.run(robots.may("http://b.example/private/x")).line == 2
-    robots = AsyncRobots(Server(file(b"Crawl-delay: 1000\n")).get, "FerrisBot", longest_delay=0.2)
+    robots = over(file(b"Crawl-delay: 1000\n"), longest_delay=0.2)
     assert moments(robots, [None] * 3) == [0.0, 0.2, 0.4]
-    robots = AsyncRobots(Server(file()).get, "FerrisBot")
+    robots = over(file())
     assert moments(robots, [None] * 3) == [0.0] * 3 and not robots._turns
 
 
@@ -289,12 +290,12 @@ def test_pages_are_as_far_apart_as_the_file_asks_for():
 )
 def test_a_call_that_is_cancelled_uses_no_turn(patiences, pause, ends):
     """The calls after it come as early as without it, and still in their order."""
-    robots = AsyncRobots(Server(file(b"Crawl-delay: 1\n")).get, "FerrisBot")
+    robots = over(file(b"Crawl-delay: 1\n"))
     assert moments(robots, patiences, pause) == ends and not robots._turns
 
 
 def test_a_clock_that_is_set_back_holds_no_call_up():
-    robots = AsyncRobots(Server(file(b"Crawl-delay: 1\n")).get, "FerrisBot", longest_delay=3)
+    robots = over(file(b"Crawl-delay: 1\n"), longest_delay=3)
 
     async def run(loop):
         await robots.may("http://a.example/")

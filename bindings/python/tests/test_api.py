@@ -27,6 +27,7 @@ Crawl-delay: 1e300
 Sitemap: https://example.com/one.xml
 Sitemap: https://example.com/zw\xc3\xb6lf.xml
 """
+DENIED, ALLOWED = Verdict(False, 2), Verdict(True, None)
 OVERLONG = b"User-agent: *\nDisallow: /a\nUser-agent: LongBot\nAllow: /\nDisallow: /" + b"a" * 4096 + b"$\nCrawl-delay: 1\n"
 
 
@@ -39,18 +40,18 @@ def test_verdicts():
     shop = Robots(SHOP)
     assert shop.allowed("https://example.com/search/tea", "FerrisBot") is False
     assert shop.can_fetch("https://example.com/search/help", "FerrisBot") is True
-    assert shop.verdict("/search/tea", "ferrisbot") == Verdict(False, 2) == (False, 2)
+    assert shop.verdict("/search/tea", "ferrisbot") == DENIED == (False, 2)
     assert shop.verdict("/search/help", "FerrisBot") == Verdict(True, 3)
-    assert shop.verdict("/", "FerrisBot") == Verdict(True, None)
+    assert shop.verdict("/", "FerrisBot") == ALLOWED
     assert shop.verdict("/", "SLOWBOT") == Verdict(False, 7)
-    assert Robots(b"").verdict("/", "FerrisBot") == Verdict(True, None)
+    assert Robots(b"").verdict("/", "FerrisBot") == ALLOWED
 
 
 @pytest.mark.parametrize("odd", ["/sea\nrch", "/"], ids=["one with a line feed", "none"])
 def test_verdicts_of_many_urls(odd):
     shop, urls = Robots(SHOP), ["/search/tea", "/search/help", "", odd, "https://example.com/search"]
     assert shop.verdicts(urls, "FerrisBot") == [shop.verdict(url, "FerrisBot") for url in urls]
-    assert shop.verdicts(urls, "FerrisBot")[:3] == [Verdict(False, 2), Verdict(True, 3), Verdict(True, None)]
+    assert shop.verdicts(urls, "FerrisBot")[:3] == [DENIED, Verdict(True, 3), ALLOWED]
     assert shop.matrix(urls, ["FerrisBot", "SlowBot", "*"]) == [shop.verdicts(urls, agent) for agent in ["FerrisBot", "SlowBot", "*"]]
 
 
@@ -58,22 +59,22 @@ def test_many_urls_may_be_few():
     shop = Robots(SHOP)
     assert shop.verdicts(iter(["/"]), "SlowBot") == [Verdict(False, 7)]
     assert shop.verdicts([], "SlowBot") == []
-    assert shop.verdicts([""], "FerrisBot") == [Verdict(True, None)]
+    assert shop.verdicts([""], "FerrisBot") == [ALLOWED]
     assert shop.matrix([], ["SlowBot", "*"]) == [[], []]
     assert shop.matrix(["/"], []) == []
-    assert shop.matrix({"/": 1}, iter(["a\nb", "SlowBot"])) == [[Verdict(True, None)], [Verdict(False, 7)]]
+    assert shop.matrix({"/": 1}, iter(["a\nb", "SlowBot"])) == [[ALLOWED], [Verdict(False, 7)]]
 
 
 def test_verdicts_within_a_budget():
     """The longer rule is tried first, and no byte is compared if it is longer than the URL's path."""
     shop = Robots(SHOP)
-    cases = [("/search/tea", 9, Verdict(False, 2)), ("/search/help", 13, Verdict(True, 3)), ("/search/a", 9, Verdict(False, 2)), ("", 2, Verdict(True, None))]
+    cases = [("/search/tea", 9, DENIED), ("/search/help", 13, Verdict(True, 3)), ("/search/a", 9, DENIED), ("", 2, ALLOWED)]
     for url, least, verdict in cases:
         assert shop.verdict_within(f"https://example.com{url}", "FerrisBot", least) == shop.verdict(url, "FerrisBot") == verdict
         with pytest.raises(TooCostlyError, match="too costly") as raised:
             shop.verdict_within(url, "FerrisBot", least - 1)
         assert isinstance(raised.value, RobotsError)
-    assert shop.verdict_within("/robots.txt", "SlowBot", 0) == Verdict(True, None)
+    assert shop.verdict_within("/robots.txt", "SlowBot", 0) == ALLOWED
     assert [shop.cost(length, "FerrisBot") for length in (0, 6, 7, 11, 12, 2**64 - 1)] == [2, 2, 9, 9, 21, 21]
     assert [Robots(b"User-agent: *\nDisallow: /*a\nAllow: /b$").cost(length, "a") for length in (0, 2, 2**64 - 1)] == [2, 8, 2**64 - 1]
     for call in [lambda: Robots(OVERLONG).cost(1, "LongBot"), lambda: Robots(OVERLONG).verdict_within("/", "LongBot", 99)]:
@@ -85,8 +86,7 @@ def test_verdicts_within_a_budget():
 
 
 def test_size():
-    """Each byte of a file is kept once for one agent, and else twice. A robot takes 74 bytes for each of 60 rules, and the one of all agents
-    that no line names is shared."""
+    """A file's bytes are kept once for one agent, else twice. A robot takes 74 for each of 60 rules, and agents without a line share one."""
     empty, long = Robots(b""), Robots(b"#" * 1000)
     assert long.size == 1000 and long.allowed("/", "x") and empty.allowed("/", "x") and long.size - empty.size == 1000
     assert long.allowed("/", "y") and empty.allowed("/", "y") and long.size - empty.size == 2000
@@ -125,7 +125,7 @@ def test_a_file_has_as_many_bytes_as_there_are():
     """Whatever its len() says: with a greater one, the library would read memory that isn't the file's."""
     body = BytesOfAnotherLength(SHOP)
     assert Matrix(["/search"], ["FerrisBot"]).denials(body) == [("FerrisBot", "/search", 2)]
-    assert Robots(body).verdict("/search", "FerrisBot") == Verdict(False, 2)
+    assert Robots(body).verdict("/search", "FerrisBot") == DENIED
 
 
 def test_responses():
@@ -190,14 +190,14 @@ def test_robots_url():
 
 @pytest.mark.parametrize("url", ["/zwölf", "/zw%C3%B6lf", "https://bücher.example/zwölf/x"])
 def test_a_url_may_be_outside_of_ascii(url):
-    assert Robots("User-agent: *\nDisallow: /zwölf\n").verdict(url, "FerrisBot") == Verdict(False, 2)
+    assert Robots("User-agent: *\nDisallow: /zwölf\n").verdict(url, "FerrisBot") == DENIED
 
 
 def test_agents_that_are_not_named_share_the_group_of_all():
     robots = Robots(b"User-agent: *\nDisallow: /all\nUser-agent: FerrisBot\nDisallow: /ferris")
     for agent in ["", "*", "OtherBot", "Ferris", "bötbot"]:
-        assert robots.verdicts(["/all", "/ferris"], agent) == [Verdict(False, 2), Verdict(True, None)]
-    assert robots.verdicts(["/all", "/ferris"], "FERRISBOT") == [Verdict(True, None), Verdict(False, 4)]
+        assert robots.verdicts(["/all", "/ferris"], agent) == [DENIED, ALLOWED]
+    assert robots.verdicts(["/all", "/ferris"], "FERRISBOT") == [ALLOWED, Verdict(False, 4)]
     assert robots.allowed("/", "")
     assert robots._site.robot("FERRISBOT") is robots._site.robot("FERRISBOT")
     kept = {agent: robot._opened for agent, robot in robots._site.robots.items()}
@@ -237,7 +237,7 @@ BUFFERS = [bytes, bytearray, memoryview, mapped, lambda body: array.array("b", b
 
 @pytest.mark.parametrize("kind", [*BUFFERS, pickle.PickleBuffer, arrow_buffer])
 def test_bodies_of_bytes(kind):
-    assert Robots(kind(SHOP)).verdict("/search", "FerrisBot") == Verdict(False, 2)
+    assert Robots(kind(SHOP)).verdict("/search", "FerrisBot") == DENIED
     assert Matrix(["/search"], ["FerrisBot"]).denials(kind(SHOP)) == [("FerrisBot", "/search", 2)]
 
 
@@ -246,7 +246,7 @@ def test_no_more_than_the_limit_is_copied():
     flags = mmap.MAP_PRIVATE | mmap.MAP_ANONYMOUS | getattr(mmap, "MAP_NORESERVE", 0x4000)
     with mmap.mmap(-1, 1 << 40, flags=flags) as body:
         body[: len(SHOP)] = SHOP
-        assert Robots(body).verdict("/search", "FerrisBot") == Verdict(False, 2)
+        assert Robots(body).verdict("/search", "FerrisBot") == DENIED
 
 
 class SiteRobots(Robots):
@@ -295,7 +295,7 @@ def test_the_file_limit():
 @pytest.mark.parametrize("end", [b"\n", b"\r\n", b"\r", b"\0"])
 @pytest.mark.parametrize("front", [b"", b"\xef\xbb\xbf", b"\xbb\xbf"])
 def test_line_ends_and_byte_order_marks(front, end):
-    assert Robots(front + SHOP.replace(b"\n", end)).verdict("/search", "FerrisBot") == Verdict(False, 2)
+    assert Robots(front + SHOP.replace(b"\n", end)).verdict("/search", "FerrisBot") == DENIED
 
 
 # ---- errors
@@ -385,8 +385,8 @@ def test_an_overlong_rule():
     again = pickle.loads(pickle.dumps(raised.value))
     assert type(again) is OverlongRuleError and again.line == 5 and str(again) == str(raised.value)
     assert isinstance(again, RobotsError)
-    assert robots.matrix(["/", "/a"], ["LongBot", "FerrisBot"]) == [[None, None], [Verdict(True, None), Verdict(False, 2)]]
-    assert robots.matrix(["/a\nb"], ["LongBot", "FerrisBot"]) == [[None], [Verdict(False, 2)]]
+    assert robots.matrix(["/", "/a"], ["LongBot", "FerrisBot"]) == [[None, None], [ALLOWED, DENIED]]
+    assert robots.matrix(["/a\nb"], ["LongBot", "FerrisBot"]) == [[None], [DENIED]]
     assert (robots.delay("LongBot"), robots.agents, robots.sitemaps) == (1.0, ["*", "LongBot"], [])
 
 
@@ -420,9 +420,9 @@ def test_pickles_and_copies():
     shop = Robots(SHOP)
     shop.allowed("/", "FerrisBot")
     for protocol in range(pickle.HIGHEST_PROTOCOL + 1):
-        assert pickle.loads(pickle.dumps(shop, protocol)).verdict("/search", "FerrisBot") == Verdict(False, 2)
+        assert pickle.loads(pickle.dumps(shop, protocol)).verdict("/search", "FerrisBot") == DENIED
     for again in [copy.copy(shop), copy.deepcopy(shop)]:
-        assert again.verdict("/search", "FerrisBot") == Verdict(False, 2)
+        assert again.verdict("/search", "FerrisBot") == DENIED
     assert pickle.loads(pickle.dumps(Verdict(True, 3))) == Verdict(True, 3)
     assert repr(shop) == f"<Robots of {len(SHOP)} bytes>"
 
@@ -441,7 +441,7 @@ class FetchedRobots(Robots):
 
 def test_pickles_of_a_subclass():
     own = pickle.loads(pickle.dumps(OwnRobots(SHOP)))
-    assert type(own) is type(copy.copy(own)) is OwnRobots and own.verdict("/search", "FerrisBot") == Verdict(False, 2)
+    assert type(own) is type(copy.copy(own)) is OwnRobots and own.verdict("/search", "FerrisBot") == DENIED
     assert repr(own) == f"<OwnRobots of {len(SHOP)} bytes>"
 
 

@@ -1,4 +1,4 @@
-"""The comparison with other parsers: its results, the differences that docs/COMPATIBILITY.md lists, and the files of docs/BENCHMARKS.md."""
+"""The comparison with other parsers: its results, and what docs/COMPATIBILITY.md and docs/BENCHMARKS.md have of them."""
 
 import re
 import statistics

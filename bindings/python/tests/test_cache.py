@@ -1,4 +1,4 @@
-"""The cache of robots.txt files, which makes no requests: what it asks for after each response, what counts when, and what it keeps."""
+"""The cache of robots.txt files, which makes no requests: what it asks for, what counts when, and what it keeps."""
 
 import doctest
 import gzip
@@ -20,19 +20,14 @@ HOUR, DAY = 3600, 86_400
 BUSY = (503, {}, b"")
 
 
-class Clock:
-    def __init__(self):
-        self.now = 1_000_000_000.0
-
-    def __call__(self):
-        return self.now
-
-
 class Caches:
     """Makes caches that share a clock, and counts what happens in them."""
 
     def __init__(self):
-        self.clock, self.events, self.sitemaps = Clock(), Counter(), []
+        self.now, self.events, self.sitemaps = 1_000_000_000.0, Counter(), []
+
+    def clock(self):
+        return self.now
 
     def __call__(self, **words):
         words = {"chance": lambda: 0.0} | words
@@ -44,8 +39,13 @@ def caches():
     return Caches()
 
 
+@pytest.fixture
+def cache(caches):
+    return caches()
+
+
 def fetched(cache, url, *responses):
-    """What is known of a URL's site after these responses to the requests that are asked for, and the addresses of those."""
+    """What is known of a URL's site after these responses, and the addresses that were asked for."""
     look, asked, known = cache.look(url), [], {}
     fetch, responses = look.fetch, list(responses)
     while fetch and responses:
@@ -65,111 +65,103 @@ def moved(address):
     return 301, {"Location": address}, b""
 
 
-def test_what_to_do_for_a_url(caches):
+def test_what_to_do_for_a_url(caches, cache):
     """One request for all that want the file, and none before it is time."""
-    cache = caches()
     look = cache.look("http://a.example/x")
     assert (look.action, look.address, look.fetch.address, look.fetch.headers) == (Action.FETCH, A, A, {"Accept-Encoding": "identity"})
     assert cache.look("http://a.example/y")[0] is Action.WAIT and cache.look("https://a.example/")[0] is Action.FETCH
     site = cache.received(look.fetch, *file()).known[A]
     assert cache.look("http://a.example/x") == Look(Action.USE, A, site)
-    assert (site.state, site.expires, site.refresh) == (State.FILE, caches.clock.now + DAY, caches.clock.now + 23 * HOUR)
+    assert (site.state, site.expires, site.refresh) == (State.FILE, caches.now + DAY, caches.now + 23 * HOUR)
     assert cache.decide(site, "http://a.example/private/", "FerrisBot/1.0") == (False, 2, "")
     assert cache.decide(site, "http://a.example/", "FerrisBot/1.0") == (True, None, "")
     with pytest.raises(UrlError):
         cache.look("ftp://a.example/")
 
 
-def test_an_older_file_counts_while_a_newer_one_is_fetched_in_time(caches):
-    cache = caches()
+def test_an_older_file_counts_while_a_newer_one_is_fetched_in_time(caches, cache):
     old, _ = fetched(cache, A, file())
-    caches.clock.now += DAY - 100
+    caches.now += DAY - 100
     look = cache.look(A)
     assert (look.action, look.site) == (Action.REFRESH, old) and cache.look(A) == Look(Action.USE, A, old)
-    caches.clock.now += 200
+    caches.now += 200
     assert cache.look(A) == Look(Action.USE, A, old)
     new = cache.received(look.fetch, *file(CLOSED)).known[A]
-    assert cache.look(A) == Look(Action.USE, A, new) and new.expires == caches.clock.now + DAY
+    assert cache.look(A) == Look(Action.USE, A, new) and new.expires == caches.now + DAY
 
 
-def test_no_file_counts_for_longer_unless_its_server_fails(caches):
-    cache = caches()
+def test_no_file_counts_for_longer_unless_its_server_fails(caches, cache):
     fetched(cache, A, file())
-    caches.clock.now += DAY
+    caches.now += DAY
     look = cache.look(A)
     assert look[0] is Action.FETCH and cache.look(A)[0] is Action.WAIT
     site = cache.received(look.fetch, *BUSY).known[A]
     for seconds in (5, 10, 20):
         assert site.state is State.FILE and site.is_failing and cache.look(A) == Look(Action.USE, A, site)
-        caches.clock.now += seconds
+        caches.now += seconds
         look = cache.look(A)
         assert look[:3] == (Action.REFRESH, A, site) and cache.look(A) == Look(Action.USE, A, site)
         site = cache.failed(look.fetch).known[A]
     assert not cache.decide(site, "http://a.example/private/", "x").allowed and caches.events == {"stale": 4}
-    caches.clock.now += 40
+    caches.now += 40
     site, _ = fetched(cache, A, (404, {}, CLOSED))
     assert (site.state, site.is_failing) == (State.NO_FILE, False) and cache.decide(site, "http://a.example/private/", "x").allowed
-    caches.clock.now += DAY - 4
+    caches.now += DAY - 4
     assert fetched(cache, A, BUSY)[0].state is State.UNREACHABLE
 
 
-def test_a_file_that_has_not_changed(caches):
+def test_a_file_that_has_not_changed(caches, cache):
     """It is asked for by its version, at the address where it was."""
-    cache = caches()
     fetched(cache, HTTP, moved("http://cdn.example/r"), file(ETag='"1"'))
     for allowed, (status, fields, body) in [(True, (304, {}, b"")), (True, (304, {}, b"")), (False, (200, {}, CLOSED))]:
-        caches.clock.now += 23 * HOUR
+        caches.now += 23 * HOUR
         first = cache.look(HTTP).fetch
         assert "If-None-Match" not in first.headers
         second = cache.received(first, *moved("http://cdn.example/r")).fetch
         assert second.headers == {"Accept-Encoding": "identity", "If-None-Match": '"1"'}
         site = cache.received(second, status, fields, body).known[HTTP]
-        assert site.expires == caches.clock.now + DAY
+        assert site.expires == caches.now + DAY
         assert cache.decide(site, "http://h.example/", "x").allowed is allowed and not cache.decide(site, "http://h.example/private/", "x").allowed
     assert caches.events["not_modified"] == 2
     assert fetched(cache, A, (304, {}, b""))[0].state is State.UNREACHABLE
     for number, etag in enumerate(['"' + "x" * 200 + '"', '"\u00e9"', '"\n"']):
         fetched(cache, f"http://{number}.example", file(ETag=etag))
-        caches.clock.now += 23 * HOUR
+        caches.now += 23 * HOUR
         assert "If-None-Match" not in cache.look(f"http://{number}.example").fetch.headers
 
 
-def test_a_file_that_has_not_changed_is_an_answer(caches):
+def test_a_file_that_has_not_changed_is_an_answer(caches, cache):
     """Its server doesn't fail any more."""
-    cache = caches()
     fetched(cache, A, file(ETag='"1"'))
-    caches.clock.now += DAY
+    caches.now += DAY
     assert fetched(cache, A, BUSY)[0].is_failing
-    caches.clock.now += 300
+    caches.now += 300
     site, _ = fetched(cache, A, (304, {}, b""))
-    assert (site.is_failing, site.expires) == (False, caches.clock.now + DAY)
+    assert (site.is_failing, site.expires) == (False, caches.now + DAY)
 
 
-def test_a_site_that_joins_another_gets_the_file_that_has_not_changed_there(caches):
+def test_a_site_that_joins_another_gets_the_file_that_has_not_changed_there(caches, cache):
     """Its own file before had the same version, by accident."""
-    cache = caches()
     fetched(cache, HTTPS, file(ETag='"1"'))
     fetched(cache, A, file(CLOSED, ETag='"1"'))
-    caches.clock.now += 23 * HOUR
+    caches.now += 23 * HOUR
     one, other = cache.look(HTTPS).fetch, cache.look(A).fetch
     assert cache.received(other, *moved(HTTPS)) == ({}, None)
     known = cache.received(one, 304, {}, b"").known
     assert [cache.decide(known[address], "http://a.example/", "x").allowed for address in (HTTPS, A)] == [True, True]
 
 
-def test_two_versions_of_a_file(caches):
+def test_two_versions_of_a_file(caches, cache):
     """Neither is asked for, if one site knows this one and another that one."""
-    cache = caches()
     fetched(cache, HTTP, moved(HTTPS), file(ETag='"1"'))
-    caches.clock.now += 23 * HOUR
+    caches.now += 23 * HOUR
     fetched(cache, HTTPS, file(ETag='"2"'))
-    caches.clock.now += 23 * HOUR
+    caches.now += 23 * HOUR
     step = cache.received(cache.look(HTTP).fetch, *moved(HTTPS))
     assert step.fetch.address == HTTPS and "If-None-Match" not in step.fetch.headers
 
 
-def test_http_and_https_of_one_chain_are_fetched_once(caches):
-    cache = caches()
+def test_http_and_https_of_one_chain_are_fetched_once(cache):
     look = cache.look(HTTP)
     step = cache.received(look.fetch, *moved(HTTPS))
     assert (step.known, step.fetch.address) == ({}, HTTPS) and cache.look(HTTPS)[0] is Action.WAIT
@@ -177,8 +169,7 @@ def test_http_and_https_of_one_chain_are_fetched_once(caches):
     assert cache.look(HTTPS)[0] is cache.look(HTTP)[0] is Action.USE
 
 
-def test_a_redirect_to_a_file_that_is_known_or_on_its_way(caches):
-    cache = caches()
+def test_a_redirect_to_a_file_that_is_known_or_on_its_way(caches, cache):
     known, _ = fetched(cache, HTTPS, file())
     site, asked = fetched(cache, HTTP, moved(HTTPS))
     assert asked == [HTTP] and (site.packed, site.expires, site.address) == (known.packed, known.expires, HTTP)
@@ -191,11 +182,10 @@ def test_a_redirect_to_a_file_that_is_known_or_on_its_way(caches):
     assert cache.received(one, *moved(HTTPS)) == ({}, None) and cache.received(other, *moved(HTTP)).fetch.address == HTTP
 
 
-def test_a_redirect_to_a_file_that_can_not_be_reached(caches):
+def test_a_redirect_to_a_file_that_can_not_be_reached(caches, cache):
     """Then it isn't asked for either, and an older file counts on."""
-    cache = caches()
     fetched(cache, HTTP, file())
-    caches.clock.now += DAY
+    caches.now += DAY
     fetched(cache, HTTPS, BUSY)
     site, asked = fetched(cache, HTTP, moved(HTTPS))
     assert asked == [HTTP] and (site.state, site.is_failing) == (State.FILE, True)
@@ -220,16 +210,20 @@ def test_redirects_are_counted_for_each_site(caches):
 
 
 @pytest.mark.parametrize("location", ["ftp://a.example/", "data:,", "http://[/", "http://a.example/\udce9"])
-def test_a_redirect_that_leads_nowhere(caches, location):
-    assert fetched(caches(), A, moved(location))[0].state is State.UNREACHABLE
+def test_a_redirect_that_leads_nowhere(cache, location):
+    assert fetched(cache, A, moved(location))[0].state is State.UNREACHABLE
 
 
 def raw(body):
     return zlib.compress(body)[2:-4]
 
 
-CUT = gzip.compress(RULES + random.Random(1).randbytes(5000), mtime=0)[:-60]
-BOMB = gzip.compress(RULES + b"#" * 50_000_000, mtime=0)
+def gzipped(body):
+    return gzip.compress(body, mtime=0)
+
+
+CUT = gzipped(RULES + random.Random(1).randbytes(5000))[:-60]
+BOMB = gzipped(RULES + b"#" * 50_000_000)
 
 
 @pytest.mark.parametrize(
@@ -237,43 +231,43 @@ BOMB = gzip.compress(RULES + b"#" * 50_000_000, mtime=0)
     [
         ("", RULES, RULES),
         ("identity", RULES, RULES),
-        ("gzip", gzip.compress(RULES, mtime=0), RULES),
-        ("GZIP, x-gzip", gzip.compress(gzip.compress(RULES, mtime=0), mtime=0), RULES),
-        ("gzip", gzip.compress(RULES, mtime=0) + gzip.compress(b"Disallow: /x\n", mtime=0), RULES + b"Disallow: /x\n"),
-        ("gzip", gzip.compress(b"", mtime=0), b""),
+        ("gzip", gzipped(RULES), RULES),
+        ("GZIP, x-gzip", gzipped(gzipped(RULES)), RULES),
+        ("gzip", gzipped(RULES) + gzipped(b"Disallow: /x\n"), RULES + b"Disallow: /x\n"),
+        ("gzip", gzipped(b""), b""),
         ("gzip", b"", b""),
         ("gzip", RULES, RULES),
         ("gzip", b"# " + RULES, b"# " + RULES),
-        ("gzip", gzip.compress(RULES, mtime=0)[:-8] + b"12345678", RULES),
+        ("gzip", gzipped(RULES)[:-8] + b"12345678", RULES),
         ("deflate", zlib.compress(RULES), RULES),
         ("deflate", raw(RULES), RULES),
         ("deflate", RULES, RULES),
     ],
 )
-def test_a_compressed_body(caches, encoding, body, kept):
-    site, _ = fetched(caches(), A, (200, {"Content-Encoding": encoding}, body))
+def test_a_compressed_body(cache, encoding, body, kept):
+    site, _ = fetched(cache, A, (200, {"Content-Encoding": encoding}, body))
     assert zlib.decompress(site.packed) == kept
 
 
 @pytest.mark.parametrize("encoding, body", [("gzip", CUT), ("gzip", BOMB), ("deflate", zlib.compress(RULES + b"#" * 999)[:-9])])
-def test_the_part_of_a_compressed_body_that_is_there_or_counts(caches, encoding, body):
-    site, _ = fetched(caches(), A, (200, {"Content-Encoding": encoding}, body))
+def test_the_part_of_a_compressed_body_that_is_there_or_counts(cache, encoding, body):
+    site, _ = fetched(cache, A, (200, {"Content-Encoding": encoding}, body))
     found = zlib.decompress(site.packed)
     assert found.startswith(RULES) and len(found) <= FILE_LIMIT
 
 
 @pytest.mark.parametrize("encoding, body", [("gzip", b"\x1f\x8b\x08" + bytes(7)), ("gzip", b"\0\1\2"), ("deflate", raw(RULES)[:-5]), ("br", RULES)])
-def test_a_body_that_can_not_be_unpacked(caches, encoding, body):
+def test_a_body_that_can_not_be_unpacked(cache, encoding, body):
     """It's no file without rules, but one that can't be had."""
-    assert fetched(caches(), A, (200, {"Content-Encoding": encoding}, body))[0].state is State.UNREACHABLE
+    assert fetched(cache, A, (200, {"Content-Encoding": encoding}, body))[0].state is State.UNREACHABLE
 
 
-def test_encodings_in_fields_of_their_own(caches):
+def test_encodings_in_fields_of_their_own(cache):
     class Fields(dict):
         def items(self):
             return [("Content-Encoding", "gzip")] * 2
 
-    site, _ = fetched(caches(), A, (200, Fields(), gzip.compress(gzip.compress(RULES))))
+    site, _ = fetched(cache, A, (200, Fields(), gzip.compress(gzip.compress(RULES))))
     assert zlib.decompress(site.packed) == RULES
 
 
@@ -308,8 +302,7 @@ def test_what_was_evicted_is_not_kept_again(caches):
     assert old.rules is None and new.rules
 
 
-def test_the_memory_of_each_crawler_counts(caches):
-    cache = caches()
+def test_the_memory_of_each_crawler_counts(cache):
     site, _ = fetched(cache, A, file(b"".join(b"User-agent: b%d\nDisallow: /%d\n\n" % (number, number) for number in range(50))))
     before = cache.size
     for number in range(50):
@@ -317,10 +310,9 @@ def test_the_memory_of_each_crawler_counts(caches):
     assert cache.size == site.memory + site.rules.size > before + 50 * 100
 
 
-def test_sitemaps_are_told_once(caches):
-    cache = caches()
+def test_sitemaps_are_told_once(caches, cache):
     for number, names in enumerate(["a", "a", "ab", "", "ab"]):
-        caches.clock.now += DAY
+        caches.now += DAY
         fetched(cache, A, file(b"# %d\n" % number + b"".join(b"Sitemap: /%c\n" % it for it in names.encode())))
     assert caches.sitemaps == [(A, ["/a"]), (A, ["/a", "/b"]), (A, ["/a", "/b"])]
 
@@ -349,9 +341,8 @@ def test_a_long_url_that_takes_too_long(caches):
     assert cache.decide(site, "http://a.example/" + "\u20ac" * 6_000, "x").problem == "a verdict may take too long"
 
 
-def test_without_memory(caches, monkeypatch):
+def test_without_memory(cache, monkeypatch):
     """A file that can't be parsed can't be reached, and what can't be decided is denied."""
-    cache = caches()
 
     def no_memory(*words):
         raise MemoryError
@@ -367,9 +358,8 @@ def test_without_memory(caches, monkeypatch):
     assert not cache.decide(site, "http://a.example/", "x").allowed and cache.delay(site, "x") == 0
 
 
-def test_a_delay(caches):
+def test_a_delay(cache):
     """The longest of those that were asked for."""
-    cache = caches()
     site, _ = fetched(cache, A, file(b"User-agent: A\nCrawl-delay: 3\n\nUser-agent: B\nCrawl-delay: 2\n"))
     assert [cache.delay(site, name) for name in ("C", "B/1.0", "A", "B")] == [0, 2, 3, 3]
     assert cache.delay(fetched(cache, "http://b.example", (404, {}, b""))[0], "A") == 0
@@ -380,15 +370,14 @@ def test_a_delay(caches):
     [("max-age=3600", HOUR), ("public, Max-Age=0", 300), ("max-age=301, x", 301), ("s-maxage=9, max-age = \"400\"", 400), ("max-age=99999999999", DAY), ("no-cache", DAY), ("max-age=x", DAY)],
 )
 @pytest.mark.parametrize("status", [200, 404])
-def test_a_server_may_say_for_how_long_its_answer_counts(caches, said, seconds, status):
+def test_a_server_may_say_for_how_long_its_answer_counts(caches, cache, said, seconds, status):
     """Not for less than five minutes, and not for longer than usual."""
-    cache = caches()
     site, _ = fetched(cache, A, (status, {"Cache-Control": said, "ETag": "1"}, RULES))
-    assert site.expires == caches.clock.now + seconds and site.refresh == site.expires - min(HOUR, seconds / 2)
+    assert site.expires == caches.now + seconds and site.refresh == site.expires - min(HOUR, seconds / 2)
     if status == 200:
-        caches.clock.now = site.refresh
-        assert fetched(cache, A, (304, {"Cache-Control": said}, b""))[0].expires == caches.clock.now + seconds
-    assert fetched(caches(lifetime=100), A, (status, {"Cache-Control": said}, RULES))[0].expires == caches.clock.now + 100
+        caches.now = site.refresh
+        assert fetched(cache, A, (304, {"Cache-Control": said}, b""))[0].expires == caches.now + seconds
+    assert fetched(caches(lifetime=100), A, (status, {"Cache-Control": said}, RULES))[0].expires == caches.now + 100
 
 
 def test_hosts_that_are_exempt(caches):
@@ -406,9 +395,8 @@ NAMES = b"User-agent: A\nDisallow: /a\nCrawl-delay: 1\n\nUser-agent: B\nDisallow
 
 
 @pytest.mark.parametrize("names, line, delay", [(["A", "B"], 2, 1), (["B/1.0", "A"], 6, 2), (("C", "B"), 6, 2), (["C", "D"], 10, 3), (["A"], 2, 1), ("C", 10, 3)])
-def test_several_names_in_order_of_precedence(caches, names, line, delay):
+def test_several_names_in_order_of_precedence(cache, names, line, delay):
     """The first that the file names counts, and the rules for * if it names none."""
-    cache = caches()
     site, _ = fetched(cache, A, file(NAMES))
     denied = [decision.line for path in "abs" if not (decision := cache.decide(site, f"http://a.example/{path}", names))]
     assert denied == [line] and cache.delay(site, names) == delay
@@ -416,26 +404,24 @@ def test_several_names_in_order_of_precedence(caches, names, line, delay):
 
 
 @pytest.mark.parametrize("names", [[], None, [1], b"x"])
-def test_names_that_are_none(caches, names):
-    cache = caches()
+def test_names_that_are_none(cache, names):
     site, _ = fetched(cache, A, file(NAMES))
     with pytest.raises(TypeError):
         cache.decide(site, "http://a.example/x", names)
 
 
-def test_when_the_next_request_may_go(caches):
+def test_when_the_next_request_may_go(caches, cache):
     """Each call counts as a request; a site without a delay needs none."""
-    cache = caches()
     site, _ = fetched(cache, A, file(b"Crawl-delay: 2.5\n"))
     assert [cache.next_request(site, "x") for _ in range(3)] == [0, 2.5, 5]
-    caches.clock.now += 6
+    caches.now += 6
     assert [cache.next_request(site, "x", 1) for _ in range(2)] == [1.5, 2.5]
-    caches.clock.now += 100
+    caches.now += 100
     fetched(cache, HTTP, file(RULES))
     assert [cache.next_request(cache.look(HTTP).site, "x") for _ in range(2)] == [0, 0] and cache.next_request(site, "x") == 0
     for number in range(5000):
         cache.next_request(fetched(cache, f"http://{number}.example", file(b"Crawl-delay: 1\n"))[0], "x")
-        caches.clock.now += 1
+        caches.now += 1
     assert len(cache._turns) <= 1000
 
 
@@ -455,9 +441,8 @@ FIELDS = {"Location": "http://b.example/r"}
 @pytest.mark.parametrize(
     "headers", [FIELDS, {"LOCATION": b"http://b.example/r"}, {b"Location": [b"http://b.example/r"]}, [*FIELDS.items()], [(b"location", b"http://b.example/r")]]
 )
-def test_names_of_headers_may_be_bytes(caches, headers):
+def test_names_of_headers_may_be_bytes(cache, headers):
     """As a mapping or as pairs, with one or several values."""
-    cache = caches()
     assert cache.received(cache.look(A).fetch, 301, headers, b"").fetch.address == "http://b.example/r"
 
 

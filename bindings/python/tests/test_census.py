@@ -1,4 +1,4 @@
-"""The census: of a folder, of JSONL and of WARC files, here and on workers of Dask, some of which die; with damaged and hostile records."""
+"""The census of a folder, of JSONL and of WARC files, also on workers that die, and with damaged and hostile records."""
 
 import base64
 import contextlib
@@ -97,8 +97,7 @@ def warc_records():
 
 @pytest.fixture(scope="module")
 def sources(tmp_path_factory):
-    """The sites as a folder with a link that leads nowhere, as JSONL with damaged lines, and as WARC files with a record
-    that is damaged, and one at the end that is cut or has a wrong checksum."""
+    """The sites as a folder with a broken link, as JSONL with damaged lines, and as WARC files with a damaged and a cut record."""
     folder = tmp_path_factory.mktemp("census")
     (folder / "files/deeper").mkdir(parents=True)
     (folder / "files/lost.robots.txt").symlink_to("nowhere")
@@ -277,7 +276,7 @@ def test_the_program_prints_and_writes_the_same_with_workers(sources, tmp_path):
 
 
 def forged(name):
-    """An archive: a robots.txt file of more than 512,000 bytes that has a record for victim.example in every kB, and the victim's own."""
+    """An archive: a large robots.txt file that has a record for victim.example in every kB, and the victim's own."""
     fake = response("victim.example", b"User-agent: *\nDisallow: /search\n")
     own = response("victim.example", b"User-agent: GPTBot\nDisallow: /\n")
     if name == "a.warc":
@@ -300,7 +299,7 @@ def test_a_body_forges_no_record(tmp_path, name):
 
 
 def test_names_that_are_not_utf8(tmp_path, monkeypatch):
-    """They are no hosts, and are written with escapes: into the CSV file, and on a terminal that accepts nothing else."""
+    """They are no hosts, and are written with escapes, also on a terminal that accepts nothing else."""
     monkeypatch.setitem(package.WITH_PACKAGE, "PYTHONIOENCODING", "utf-8:strict")
     folder = os.fsencode(tmp_path / "files")
     os.mkdir(folder)

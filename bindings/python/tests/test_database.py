@@ -1,4 +1,4 @@
-"""The database of a cache of robots.txt files: what it keeps, for the next start and for several processes, and what becomes of faults."""
+"""The database of a cache: what it keeps for the next start and for several processes, and what becomes of faults."""
 
 import signal
 import sqlite3
@@ -15,8 +15,12 @@ from test_cache import A, BUSY, CLOSED, DAY, HOUR, HTTP, HTTPS, RULES, caches, f
 from texting_robots.cache import Action, Look, RobotsCache, State
 
 
-def test_a_database_keeps_what_a_server_answered(caches, tmp_path):
-    path = str(tmp_path / "robots.sqlite3")
+@pytest.fixture
+def path(tmp_path):
+    return tmp_path / "robots.sqlite3"
+
+
+def test_a_database_keeps_what_a_server_answered(caches, path):
     cache = caches(database=path)
     fetched(cache, A, file(RULES + b"Sitemap: /s.xml\n", ETag='"1"'))
     fetched(cache, "http://b.example", (404, {}, b""))
@@ -24,45 +28,42 @@ def test_a_database_keeps_what_a_server_answered(caches, tmp_path):
     fetched(cache, "http://d.example", None)
     assert caches.sitemaps == [(A, ["/s.xml"])]
     cache.close()
-    caches.clock.now += 600
+    caches.now += 600
     cache = caches(database=path)
     states = {look.address[7]: look.site.state for look in map(cache.look, ("http://a.example", "http://b.example", "http://c.example"))}
     assert states == {"a": State.FILE, "b": State.NO_FILE, "c": State.UNREACHABLE} and cache.look("http://d.example")[0] is Action.FETCH
     assert cache.decide(cache.look(A).site, "http://a.example/private/", "x") == (False, 2, "")
     assert caches.sitemaps == [(A, ["/s.xml"])] * 2 and caches.events["read"] == 4
-    caches.clock.now += 23 * HOUR
+    caches.now += 23 * HOUR
     assert cache.look(A).fetch.headers["If-None-Match"] == '"1"'
-    caches.clock.now += 40 * DAY
+    caches.now += 40 * DAY
     caches(database=path)
     assert sqlite3.connect(path).execute("SELECT COUNT(*) FROM sites").fetchone() == (0,)
 
 
-def test_a_database_keeps_that_a_server_fails(caches, tmp_path):
+def test_a_database_keeps_that_a_server_fails(caches, path):
     """So the file counts on after the next start."""
-    path = str(tmp_path / "robots.sqlite3")
     cache = caches(database=path)
     fetched(cache, A, file())
-    caches.clock.now += DAY
+    caches.now += DAY
     fetched(cache, A, BUSY)
     cache.close()
-    caches.clock.now += 300
+    caches.now += 300
     assert caches(database=path).look(A)[0] is Action.REFRESH
 
 
-def test_a_clock_that_was_wrong(caches, tmp_path):
+def test_a_clock_that_was_wrong(caches, path):
     """What was fetched in the future counts no longer than anything else."""
-    path = str(tmp_path / "robots.sqlite3")
-    caches.clock.now += 400 * DAY
+    caches.now += 400 * DAY
     cache = caches(database=path)
     fetched(cache, A, file())
-    caches.clock.now -= 400 * DAY
+    caches.now -= 400 * DAY
     for it in (cache, caches(database=path)):
-        assert it.look(A).site.expires == caches.clock.now + DAY
+        assert it.look(A).site.expires == caches.now + DAY
 
 
-def test_a_database_that_fails(caches, tmp_path, caplog):
+def test_a_database_that_fails(caches, path, tmp_path, caplog):
     """It is a warning, and what it doesn't keep is fetched again."""
-    path = tmp_path / "robots.sqlite3"
     cache = caches(database=path, budget=1)
     fetched(cache, A, file())
     sqlite3.connect(path, isolation_level=None).execute("DROP TABLE sites")
@@ -91,8 +92,7 @@ def of_another_program(path):
 
 
 @pytest.mark.parametrize("make", [damaged, text, of_a_later_format, of_another_program])
-def test_a_file_that_is_no_such_database_is_put_aside(caches, tmp_path, caplog, make):
-    path = tmp_path / "robots.sqlite3"
+def test_a_file_that_is_no_such_database_is_put_aside(caches, path, tmp_path, caplog, make):
     make(path)
     before = path.read_bytes()
     with caches(database=path) as cache:
@@ -101,8 +101,8 @@ def test_a_file_that_is_no_such_database_is_put_aside(caches, tmp_path, caplog, 
     assert len(caplog.records) == 1 and f"begun anew, and the old file is now {path}.damaged" in caplog.text
 
 
-def test_a_database_of_the_format_before_is_taken_over(caches, tmp_path):
-    path, now = tmp_path / "robots.sqlite3", caches.clock.now
+def test_a_database_of_the_format_before_is_taken_over(caches, path):
+    now = caches.now
     connection = sqlite3.connect(path)
     connection.execute("""CREATE TABLE sites (address TEXT PRIMARY KEY, state INTEGER, is_failing INTEGER, expires REAL, refresh REAL,
         source TEXT, etag TEXT, packed BLOB) WITHOUT ROWID""")
@@ -118,8 +118,8 @@ def test_a_database_of_the_format_before_is_taken_over(caches, tmp_path):
     assert (failing.failing_since, failing.failures, failing.source, failing.counts(now)) == (now - DAY, 1, HTTPS, True)
 
 
-def test_a_database_may_be_used_from_any_thread(caches, tmp_path):
-    cache = caches(database=tmp_path / "robots.sqlite3", budget=1)
+def test_a_database_may_be_used_from_any_thread(caches, path):
+    cache = caches(database=path, budget=1)
     with ThreadPoolExecutor(1) as other:
         fetched(cache, A, file())
         other.submit(fetched, cache, "http://b.example", file()).result()
@@ -127,9 +127,8 @@ def test_a_database_may_be_used_from_any_thread(caches, tmp_path):
 
 
 @pytest.mark.alone
-def test_a_lock_of_another_program(caches, tmp_path, caplog):
-    """It is waited for 0.2 seconds, and not again within a second; what couldn't be written is as soon as it is over."""
-    path = tmp_path / "robots.sqlite3"
+def test_a_lock_of_another_program(caches, path, caplog):
+    """It is waited for 0.2 seconds, once in a second; what couldn't be written is written afterwards."""
     cache = caches(database=path)
     other = sqlite3.connect(path, isolation_level=None)
     other.execute("BEGIN IMMEDIATE")
@@ -146,8 +145,7 @@ def test_a_lock_of_another_program(caches, tmp_path, caplog):
     assert cache._disk._connection.execute("PRAGMA busy_timeout").fetchone() == (200,)
 
 
-def test_many_sites_are_written_at_once(caches, tmp_path):
-    path = tmp_path / "robots.sqlite3"
+def test_many_sites_are_written_at_once(caches, path):
     cache, other = caches(database=path), sqlite3.connect(path)
     fetches = [cache.look(f"http://{number}.example").fetch for number in range(150)]
     counts = [other.execute("SELECT count(*) FROM sites").fetchone()[0] for fetch in fetches if cache.received(fetch, *file())]
@@ -163,28 +161,28 @@ def test_many_sites_are_written_at_once(caches, tmp_path):
     assert other.execute("SELECT count(*) FROM leases").fetchone() == (0,)
 
 
-def test_of_several_processes_one_fetches_a_file(caches, tmp_path):
+def test_of_several_processes_one_fetches_a_file(caches, path):
     """The others look again after a second, until it has, or for as long as an answer may take."""
-    one, other = (caches(database=tmp_path / "robots.sqlite3") for _ in range(2))
+    one, other = (caches(database=path) for _ in range(2))
     fetch = one.look(A).fetch
     assert other.look(A) == Look(Action.WAIT, A, again=1)
     one.received(fetch, *file())
     assert other.look(A).site.packed
-    caches.clock.now += 23 * HOUR
+    caches.now += 23 * HOUR
     fetch = one.look(A).fetch
     old = other.look(A).site
     assert other.look(A) == Look(Action.USE, A, old)
     new = one.received(fetch, *file(CLOSED)).known[A]
     assert other.look(A).site is not old and other.look(A).site.packed == new.packed and not other._flights
-    caches.clock.now += DAY
+    caches.now += DAY
     assert one.look(A).fetch and other.look(A)[0] is Action.WAIT
-    caches.clock.now += 301
+    caches.now += 301
     assert other.look(A).fetch
 
 
-def test_a_request_that_a_process_does_not_make_any_more(caches, tmp_path):
+def test_a_request_that_a_process_does_not_make_any_more(caches, path):
     """When it ends, others may make it at once."""
-    one, other = (caches(database=tmp_path / "robots.sqlite3") for _ in range(2))
+    one, other = (caches(database=path) for _ in range(2))
     assert one.look(A).fetch and other.look(A)[0] is Action.WAIT
     one.close()
     assert other.look(A).fetch
@@ -198,9 +196,8 @@ os.kill(os.getpid(), signal.SIGKILL)
 """
 
 
-def test_a_request_of_a_process_that_was_killed(tmp_path):
+def test_a_request_of_a_process_that_was_killed(path):
     """Another one makes it, as soon as that process isn't there any more."""
-    path = tmp_path / "robots.sqlite3"
     assert subprocess.run([sys.executable, "-c", ENDS, path], env=package.WITH_PACKAGE).returncode == -signal.SIGKILL
     with RobotsCache(database=path) as cache, RobotsCache(database=path) as other:
         assert cache.look(A).fetch and other.look(A)[0] is Action.WAIT
@@ -228,8 +225,7 @@ print([os.waitpid(child, 0)[1] for child in children])
 
 
 @pytest.mark.alone
-def test_a_fork_with_a_database(tmp_path):
-    path = tmp_path / "robots.sqlite3"
+def test_a_fork_with_a_database(path):
     assert package.run(["-c", FORKED, path]) == "[0, 0, 0]\n"
     found = sqlite3.connect(path)
     assert found.execute("PRAGMA integrity_check").fetchone() == ("ok",)
@@ -246,15 +242,15 @@ with RobotsCache(database=sys.argv[1]) as cache:
 
 
 @pytest.mark.alone
-def test_processes_that_start_at_the_same_time(tmp_path):
+def test_processes_that_start_at_the_same_time(path):
     """Fetch each file once between them, nearly."""
-    words = [sys.executable, "-c", TOGETHER, tmp_path / "robots.sqlite3", str(time.time() + 3)]
+    words = [sys.executable, "-c", TOGETHER, path, str(time.time() + 3)]
     several = [subprocess.Popen(words, env=package.WITH_PACKAGE, stdout=subprocess.PIPE, stderr=subprocess.STDOUT, text=True) for _ in range(4)]
     assert 300 <= sum(int(it.communicate(timeout=120)[0]) for it in several) <= 312  # as a lock costs an entry on a busy machine
 
 
-def test_the_first_file_for_which_there_is_no_room_is_a_warning(caches, tmp_path, caplog):
-    for database, warnings in [("", 1), (tmp_path / "robots.sqlite3", 0)]:
+def test_the_first_file_for_which_there_is_no_room_is_a_warning(caches, path, caplog):
+    for database, warnings in [("", 1), (path, 0)]:
         caplog.clear()
         cache = caches(budget=1, database=database)
         for name in "abc":
@@ -262,8 +258,8 @@ def test_the_first_file_for_which_there_is_no_room_is_a_warning(caches, tmp_path
         assert caplog.text.count("budget, or TEXTING_ROBOTS_BUDGET") == len(caplog.records) == warnings
 
 
-def test_with_a_database_nothing_is_fetched_again(caches, tmp_path):
-    cache = caches(database=str(tmp_path / "robots.sqlite3"), budget=20_000)
+def test_with_a_database_nothing_is_fetched_again(caches, path):
+    cache = caches(database=path, budget=20_000)
     for number in range(100):
         fetched(cache, f"http://{number}.example", file())
     assert len(cache) <= 20_000 // 700 and cache.size <= 20_000

@@ -1,6 +1,5 @@
-"""RobotFileParser and Protego in place of those of urllib and Protego, whose own tests are run if they are there."""
+"""RobotFileParser and Protego in place of those of urllib and Protego, with urllib's own tests."""
 
-import contextlib
 import copy
 import datetime
 import gzip
@@ -52,7 +51,9 @@ def by_urllib(text, url=""):
     return parser
 
 
-BOTH = [by_urllib, Protego.parse]
+@pytest.fixture(params=[by_urllib, Protego.parse])
+def parse(request):
+    return request.param
 
 
 def fetchable(parser, url, user_agent):
@@ -85,7 +86,6 @@ def test_the_tests_of_urllib(monkeypatch):
 # ---- both
 
 
-@pytest.mark.parametrize("parse", BOTH)
 @pytest.mark.parametrize(
     "user_agent, denied, delay",
     [
@@ -111,18 +111,15 @@ def test_whole_user_agents(parse, user_agent, denied, delay):
     assert parser.crawl_delay(user_agent) == delay
 
 
-@pytest.mark.parametrize("parse", BOTH)
 def test_a_name_with_a_space_comes_before_its_front(parse):
     parser = parse("User-agent: Tea\nDisallow: /\nUser-agent: Tea House\nDisallow: /a")
     assert fetchable(parser, "/b", "Tea House/1.0") and not fetchable(parser, "/b", "Tea/1.0")
 
 
-@pytest.mark.parametrize("parse", BOTH)
 def test_no_path_is_the_root(parse):
     assert not fetchable(parse("User-agent: *\nDisallow: /"), "", "FerrisBot") and fetchable(parse("User-agent: *\nDisallow: /a"), "", "FerrisBot")
 
 
-@pytest.mark.parametrize("parse", BOTH)
 def test_a_rule_that_is_too_long_denies_everything(parse):
     parser = parse(LONG_RULE)
     assert not fetchable(parser, "/", FERRIS) and fetchable(parser, "/", "OtherBot")
@@ -130,21 +127,18 @@ def test_a_rule_that_is_too_long_denies_everything(parse):
         parser.robots.verdict("/", "FerrisBot")
 
 
-@pytest.mark.parametrize("parse", BOTH)
 @pytest.mark.parametrize("agent, url", [("https://example.com/a", "FerrisBot"), ("/a", "FerrisBot"), (" http://a", "/")])
 def test_arguments_in_the_wrong_order(parse, agent, url):
     with pytest.raises(AgentError, match="in the other order"):
         fetchable(parse(FILE), url, agent)
 
 
-@pytest.mark.parametrize("parse", BOTH)
 @pytest.mark.parametrize("agent, url, error", [(b"FerrisBot", "/", "user_agent has the type bytes"), ("FerrisBot", b"/", "url has the type bytes"), ("FerrisBot", None, "url has the")])
 def test_arguments_of_another_type(parse, agent, url, error):
     with pytest.raises(TypeError, match=f"^{error}.*: it has to be a str, such as"):
         fetchable(parse(FILE), url, agent)
 
 
-@pytest.mark.parametrize("parse", BOTH)
 @pytest.mark.parametrize("again", [copy.copy, copy.deepcopy, lambda parser: pickle.loads(pickle.dumps(parser))])
 def test_copies(parse, again):
     parser = parse(FILE)
@@ -152,7 +146,6 @@ def test_copies(parse, again):
     assert again(parser).robots.verdict("/private/", "FerrisBot") == Verdict(False, 2) and again(parser).request_rate("SlowBot")[:2] == (1, 30)
 
 
-@pytest.mark.parametrize("parse", BOTH)
 def test_any_number_of_crawlers(parse):
     parser = parse("User-agent: *\nDisallow: /a\nUser-agent: bot7\nDisallow: /b")
     assert [number for number in range(2500) if fetchable(parser, "/a", f"bot{number}/1.0")] == [7]
@@ -338,10 +331,16 @@ def server():
         made.shutdown()
 
 
-@contextlib.contextmanager
 def answered(server, status=200, body=b"User-agent: *\nDisallow: /a # f\xfcr alle\n", **fields):
     server.answer = status, body, {name.replace("_", "-"): value for name, value in fields.items()}
-    yield f"http://127.0.0.1:{server.server_address[1]}/robots.txt"
+    return f"http://127.0.0.1:{server.server_address[1]}/robots.txt"
+
+
+def read(*words, **fields):
+    """A parser that has read this answer."""
+    parser = RobotFileParser(answered(*words, **fields))
+    parser.read()
+    return parser
 
 
 def denied(parser):
@@ -353,25 +352,21 @@ STATUSES = {200: ["/a"], 401: ["/a", "/b"], 403: ["/a", "/b"], 404: [], 410: [],
 
 @pytest.mark.parametrize("status", STATUSES)
 def test_read_by_status(server, status):
-    with answered(server, status) as url:
-        parser = RobotFileParser(url)
-        parser.read()
+    parser = read(server, status)
     assert denied(parser) == STATUSES[status] and bool(parser.mtime()) == (status == 200)
 
 
 @pytest.mark.parametrize("status, after", [(200, ["/a"]), (403, ["/a", "/b"]), (404, []), (429, ["/b"]), (503, ["/b"])])
 def test_read_again(server, status, after):
     """What was read before counts while the server has an error, and no longer than that."""
-    with answered(server, body=b"User-agent: *\nDisallow: /b") as url:
-        parser = RobotFileParser(url)
-        parser.read()
-        assert denied(parser) == ["/b"]
-    with answered(server, status):
-        parser.read()
-        assert denied(parser) == after
-    with answered(server):
-        parser.read()
-        assert denied(parser) == ["/a"]
+    parser = read(server, body=b"User-agent: *\nDisallow: /b")
+    assert denied(parser) == ["/b"]
+    answered(server, status)
+    parser.read()
+    assert denied(parser) == after
+    answered(server)
+    parser.read()
+    assert denied(parser) == ["/a"]
 
 
 @pytest.mark.parametrize(
@@ -383,27 +378,21 @@ def test_read_again(server, status, after):
     ],
 )
 def test_a_body_that_is_cut_or_can_not_be_unpacked(server, body, fields, error):
-    with answered(server, body=body, **fields) as url:
-        parser = RobotFileParser(url)
-        with pytest.raises(error):
-            parser.read()
+    parser = RobotFileParser(answered(server, body=body, **fields))
+    with pytest.raises(error):
+        parser.read()
     assert denied(parser) == ["/a", "/b"] and parser.mtime() == 0
 
 
 @pytest.mark.parametrize("pack", [gzip.compress, bytes])
 def test_a_body_for_which_the_server_says_gzip(server, pack):
     """Whether it is or isn't; urllib reads the second one."""
-    with answered(server, body=pack(b"User-agent: *\nDisallow: /a"), Content_Encoding="gzip") as url:
-        parser = RobotFileParser(url)
-        parser.read()
-    assert denied(parser) == ["/a"]
+    assert denied(read(server, body=pack(b"User-agent: *\nDisallow: /a"), Content_Encoding="gzip")) == ["/a"]
 
 
 def test_no_more_than_the_limit_is_read(server):
-    with answered(server, body=b"User-agent: *\nDisallow: /a\n".ljust(512_000, b"#") + b"\nDisallow: /b", Content_Length="9999999") as url:
-        parser = RobotFileParser(url)
-        parser.read()
-    assert denied(parser) == ["/a"]
+    body = b"User-agent: *\nDisallow: /a\n".ljust(512_000, b"#") + b"\nDisallow: /b"
+    assert denied(read(server, body=body, Content_Length="9999999")) == ["/a"]
 
 
 def test_a_server_that_is_not_there(server):
@@ -420,9 +409,8 @@ def test_an_empty_sitemap_is_none_for_protego():
 VERSIONS = "User-agent: FerrisBot/1.0\nDisallow: /a\nCrawl-delay: 1\nRequest-rate: 1/5\n\nUser-agent: FerrisBot\nDisallow: /b\nCrawl-delay: 2\n"
 
 
-@pytest.mark.parametrize("parse", BOTH)
 def test_a_name_with_a_version(parse):
-    """Is asked first, and then the product token; neither as another version, nor of the file itself, whose names have none."""
+    """Is asked first, and then the product token; neither as another version, nor of the file itself."""
     parser = parse(VERSIONS)
     for user_agent, path, delay in [(FERRIS, "/a", 1), ("ferrisbot/1.0", "/a", 1), ("FerrisBot/2.0", "/b", 2), ("FerrisBot", "/b", 2)]:
         assert [it for it in ("/a", "/b") if not fetchable(parser, it, user_agent)] == [path] and parser.crawl_delay(user_agent) == delay

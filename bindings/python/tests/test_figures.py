@@ -1,4 +1,4 @@
-"""What the middleware for Scrapy tells of its work, by the log, the stats and a signal; and some of its settings."""
+"""What the middleware tells of its work, by the log, the stats and a signal; and some of its settings."""
 
 import re
 import time

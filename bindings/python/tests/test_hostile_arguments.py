@@ -1,4 +1,4 @@
-"""Nothing outside of a buffer is read, whatever the methods of its type say: hostile.py, with pages that nobody may read, and under memcheck."""
+"""Nothing outside of a buffer is read: hostile.py, with pages that nobody may read, and under memcheck."""
 
 import shutil
 import subprocess

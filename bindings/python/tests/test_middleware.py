@@ -1,4 +1,4 @@
-"""Crawls by Scrapy with the middleware, of sites on 127.0.0.1 that answer in many ways: what is fetched, what isn't, and when."""
+"""Crawls by Scrapy with the middleware, of sites that answer in many ways: what is fetched, and when."""
 
 import ast
 import gzip
@@ -167,7 +167,7 @@ RESUMED = {"the same": (answers(200), PUBLIC), "closed": (answers(200, CLOSED), 
 
 @pytest.fixture(scope="module")
 def resumed(tmp_path_factory):
-    """The sites of crawls that were stopped after a page and resumed, with Scrapy's HTTP cache and another reactor."""
+    """The sites of crawls that were stopped after a page and resumed, with Scrapy's HTTP cache."""
     first, sites = {"CONCURRENT_REQUESTS": 1, "CLOSESPIDER_PAGECOUNT": 1}, {}
     for name, (answer, _) in RESUMED.items():
         folder = str(tmp_path_factory.mktemp("job"))

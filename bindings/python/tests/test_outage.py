@@ -1,4 +1,4 @@
-"""Crawls by Scrapy with the middleware in which robots.txt files can't be fetched for a time: no request is lost, and none waits for long."""
+"""Crawls by Scrapy while robots.txt files can't be fetched: no request is lost, and none waits for long."""
 
 import pickle
 import re
@@ -209,7 +209,7 @@ def test_what_waits_in_memory_is_lost_without_a_folder_for_the_next_start(caplog
 
 @pytest.mark.parametrize("kept", ["JOBDIR", "TEXTING_ROBOTS_DATABASE"])
 def test_what_waits_is_written_for_the_next_start(tmp_path, kept):
-    """All but a request that can't be written. The file is for its user alone, and is removed when nothing waits."""
+    """But for what can't be. The file is for its user alone, and is removed when nothing waits."""
     settings = {kept: str(tmp_path / "x")}
     robots, crawler, requests, outcomes = waiting(4, **settings)
     late = outcome(robots, Request("http://a.example/late", meta={"lock": threading.Lock()}))
@@ -234,7 +234,7 @@ def test_what_waits_is_written_for_the_next_start(tmp_path, kept):
 
 
 def test_a_crash_loses_nothing_that_was_written(tmp_path):
-    """Also what has been given back to the scheduler, and wasn't made yet; and another process at the same time has a file of its own."""
+    """Also what the scheduler has back and hasn't made. Another process meanwhile has a file of its own."""
     settings = {"JOBDIR": str(tmp_path), "TEXTING_ROBOTS_PARKED": 0}
     robots, crawler, requests, outcomes = waiting(4, **settings)
     other = waiting(2, **settings)[0]
@@ -368,8 +368,7 @@ def test_after_the_end_no_file_is_asked_for(clock, tmp_path):
 
 @pytest.mark.parametrize("set_forward, asked", [(0, [0, 65]), (1000, [0, 0, 60])])
 def test_an_answer_that_comes_too_late_leaves_no_request_waiting(clock, set_forward, asked):
-    """Its request counts as failed by then, which may come to light by a request to another site,
-    as when the clock has been set."""
+    """That may come to light by a request to another site, as when the clock has been set."""
     pending = Deferred()
 
     def answer(request):
@@ -539,7 +538,7 @@ def test_scrapy_asks_again_at_once_when_a_server_fails_first():
     ],
 )
 def test_a_site_with_a_delay_gets_a_slot_of_its_own(slot, settings, given):
-    """Where its slot may be that of other hosts. When the request comes again, it is in the slot that it was meant for first."""
+    """Where its slot may be that of other hosts. When the request comes again, it has its first slot."""
     robots, crawler = ours(file(RULES + b"Crawl-delay: 1\n"), **settings)
     request = Request("http://a.example/", meta={} if slot is None else {"download_slot": slot})
     assert outcome(robots, request) == [None] and request.meta.get("download_slot") == given

@@ -1,4 +1,4 @@
-"""Crawls by Scrapy of small sites on 127.0.0.1, with its own parsers for robots.txt and with this one: the table of the README."""
+"""Crawls by Scrapy with its own parsers for robots.txt and with this one: the table of the README."""
 
 import re
 
@@ -77,7 +77,7 @@ def test_what_is_fetched_with_the_parsers_of_scrapy(crawls, name):
 
 
 def test_a_user_agent_like_a_browsers(crawls):
-    """Protego looks for a group's name anywhere in the User-Agent; this parser takes its front, or ROBOTSTXT_USER_AGENT."""
+    """Protego looks for a name anywhere in it; this parser takes its front, or ROBOTSTXT_USER_AGENT."""
     assert crawls[0]["as a browser", OURS] == ["/", "/private/x", "/private/y"]
     assert crawls[0]["as a browser", PROTEGO] == crawls[0]["as a browser, with its name", OURS] == PUBLIC
 
@@ -163,7 +163,7 @@ def test_the_parser_takes_what_scrapy_gives():
 
 
 def test_a_file_that_takes_too_long(caplog):
-    """10,000 rules with a star: where they might take more than the setting says, a URL is denied, with one warning."""
+    """10,000 rules with a star: a URL that might take longer than the setting says is denied, with one warning."""
     body = b"User-agent: *\n" + b"".join(b"Disallow: *a*%d*b\n" % number for number in range(10)) + b"Disallow: *a*c*b\n" * 9_990
     long = "https://example.com/" + "a" * 2000
     parser = RobotParser.from_crawler(None, body)

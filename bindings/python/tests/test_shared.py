@@ -1,4 +1,4 @@
-"""native/shared.c, by which threads share a file, called from C with sanitizers: each block is freed once, when its last user is gone."""
+"""native/shared.c, by which threads share a file, with sanitizers: each block is freed once, after its last user."""
 
 import subprocess
 from pathlib import Path

@@ -1,4 +1,4 @@
-"""Robots shared by threads, signal handlers that use them, and memory: flat, and a MemoryError where there is no more."""
+"""Robots shared by threads, signal handlers that use them, and memory: flat, or a MemoryError."""
 
 import gc
 import os
@@ -194,6 +194,6 @@ print(errors, made)
 
 
 def test_without_memory_there_is_a_memory_error():
-    """Robots until the process gets no more memory: then a MemoryError, and the same results as before once they are dropped."""
+    """And the same results as before, once what took the memory is dropped."""
     errors, made = map(int, package.run(["-c", OUT_OF_MEMORY], input=LARGE.decode() * 20).split())
     assert errors >= 3 and made > 3

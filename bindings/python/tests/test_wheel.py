@@ -18,16 +18,20 @@ from support import ROOT
 WHEEL = next((package.BUILT / "dist").iterdir())
 
 
+def run(words, **options):
+    return subprocess.run(words, capture_output=True, text=True, **options)
+
+
 @pytest.fixture(scope="module")
 def installed_python(tmp_path_factory):
-    """The Python of a new virtual environment with the wheel, and with nothing else but cffi, which is taken from here."""
+    """The Python of a new virtual environment with the wheel, and with cffi from here."""
     folder = tmp_path_factory.mktemp("venv")
     subprocess.run([sys.executable, "-m", "venv", "--without-pip", folder], check=True)
     python = folder / "bin/python"
     words = [sys.executable, "-m", "pip", "--python", python, "install", "-q", "--no-deps", "--no-index", WHEEL]
-    ended = subprocess.run(words, capture_output=True, text=True)
+    ended = run(words)
     assert ended.returncode == 0, ended.stderr
-    packages = subprocess.run([python, "-c", "import sysconfig; print(sysconfig.get_path('platlib'))"], capture_output=True, text=True)
+    packages = run([python, "-c", "import sysconfig; print(sysconfig.get_path('platlib'))"])
     (folder / "cffi").mkdir()
     for name in ("cffi", "pycparser", "_cffi_backend"):
         path = Path(__import__(name).__file__)
@@ -39,7 +43,7 @@ def installed_python(tmp_path_factory):
 
 def test_the_readme_prints_what_it_says(installed_python, tmp_path):
     words = "import doctest, sys; failed, tried = doctest.testfile(sys.argv[1], module_relative=False); print(tried); sys.exit(failed)"
-    ended = subprocess.run([installed_python, "-c", words, package.PACKAGE / "README.md"], cwd=tmp_path, capture_output=True, text=True)
+    ended = run([installed_python, "-c", words, package.PACKAGE / "README.md"], cwd=tmp_path)
     assert ended.returncode == 0, ended.stdout + ended.stderr
     assert int(ended.stdout) >= 8
 
@@ -51,12 +55,12 @@ def test_the_wheel_is_for_every_cpython_and_exports_nothing():
         "_parking.py", "_responses.py", "_robot.py", "_robots.py", "_rules.py", "_settings.py", "_sites.py", "_waiting.py", "aio.py", "cache.py", "middleware.py", "protego.py", "py.typed", "robotparser.py", "scrapy.py",
     ]  # fmt: skip
     assert sorted(it.name for it in package.SITE.glob("*.dist-info/**/LICENSE-*")) == ["LICENSE-APACHE", "LICENSE-MIT"]
-    names = subprocess.run(["nm", "-D", "--defined-only", package.SITE / "texting_robots/_native.abi3.so"], capture_output=True, text=True)
+    names = run(["nm", "-D", "--defined-only", package.SITE / "texting_robots/_native.abi3.so"])
     assert [line.split()[-1] for line in names.stdout.splitlines()] == ["PyInit__native"]
 
 
 def test_metadata_of_any_version_of_setuptools():
-    """As an index accepts it: a license expression, or before setuptools 77 a text, and no classifier of a license."""
+    """As an index accepts it: a license expression, or a text before setuptools 77, and no classifier of it."""
     (path,) = package.SITE.glob("*.dist-info/METADATA")
     lines = email.message_from_string(path.read_text())
     assert [lines[it] for it in ("License-Expression", "License") if it in lines] == ["MIT OR Apache-2.0"]
@@ -100,14 +104,14 @@ def test_the_library_comes_from_a_repository_whose_folder_has_a_space(tmp_path):
 
 def test_a_library_that_is_not_where_robots_c_says(tmp_path):
     words = [sys.executable, package.PACKAGE / "native/build.py"]
-    ended = subprocess.run(words, env=package.WITH_PACKAGE | {"ROBOTS_C": str(tmp_path)}, capture_output=True, text=True)
+    ended = run(words, env=package.WITH_PACKAGE | {"ROBOTS_C": str(tmp_path)})
     message = "librobots_c.a is missing: ROBOTS_C is the absolute PREFIX of `make install` in bindings/c, run without LIBDIR"
     assert (ended.returncode, ended.stderr) == (1, f"{tmp_path}/lib/{message}\n")
 
 
 def test_another_platform():
     words = f"import runpy, sysconfig; sysconfig.get_platform = lambda: 'macosx-14.0-arm64'; runpy.run_path('{package.PACKAGE}/native/build.py')"
-    ended = subprocess.run([sys.executable, "-c", words], env=package.WITH_PACKAGE, capture_output=True, text=True)
+    ended = run([sys.executable, "-c", words], env=package.WITH_PACKAGE)
     message = "texting_robots can't be installed here: its C library is for Linux on x86_64 and aarch64, and this is macosx-14.0-arm64\n"
     assert (ended.returncode, ended.stderr) == (1, message)
 
@@ -116,13 +120,13 @@ def test_a_source_distribution_is_built_with_an_installed_library(installed, tmp
     package_of = shutil.copytree(package.PACKAGE, tmp_path / "package", ignore=shutil.ignore_patterns("build", "*.egg-info"))
     environment = package.WITH_PACKAGE | {"ROBOTS_C": str(installed)}
     words = [sys.executable, "-c", "from setuptools.build_meta import build_sdist; build_sdist('.')"]
-    ended = subprocess.run(words, cwd=package_of, env=environment, capture_output=True, text=True)
+    ended = run(words, cwd=package_of, env=environment)
     assert ended.returncode == 0, ended.stdout + ended.stderr
     shutil.unpack_archive(next(package_of.glob("*.tar.gz")), tmp_path)
     build = next(tmp_path.glob("texting*/native/build.py"))
     assert sorted(it.name for it in build.parent.iterdir()) == ["build.py", "shared.c", "shared.h"]
     for given, status in [(environment, 0), (package.WITH_PACKAGE, 1)]:
-        ended = subprocess.run([sys.executable, build], env=given, capture_output=True, text=True)
+        ended = run([sys.executable, build], env=given)
         assert (ended.returncode, "set ROBOTS_C" in ended.stderr) == (status, status == 1), ended.stderr
 
 
@@ -133,7 +137,7 @@ def test_mypy_is_strict(tmp_path):
     words = [sys.executable, "-m", "mypy", "--config-file", package.PACKAGE / "pyproject.toml", "--cache-dir", tmp_path / "cache"]
     examples = [package.PACKAGE / "examples/crawl.py"] if importlib.util.find_spec("aiohttp") else []
     for target in [["-p", "texting_robots"], [caller, *examples]]:
-        ended = subprocess.run([*words, *target], env=package.WITH_PACKAGE | {"MYPYPATH": str(package.PACKAGE / "src")}, capture_output=True, text=True)
+        ended = run([*words, *target], env=package.WITH_PACKAGE | {"MYPYPATH": str(package.PACKAGE / "src")})
         assert ended.returncode == 0, ended.stdout + ended.stderr
 
 

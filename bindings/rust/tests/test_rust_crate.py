@@ -7,7 +7,7 @@ import subprocess
 from pathlib import Path
 
 import pytest
-from library import LIBRARY, archive
+from library import HEADER, archive
 from support import ROOT, cases_of, compiled, input_of, run, spelled, wanted_of
 from test_documents import code
 
@@ -72,7 +72,7 @@ def test_golden_case_of_the_example_programs(ask, case):
 
 
 def test_each_allocation_fails_in_turn(ask, tmp_path):
-    """The library reports it as an error, and Rust aborts, except where it can do without. Any other report is right."""
+    """It is an error of the library, or Rust aborts, or does without it, and then its report is right."""
     heap = compiled(tmp_path / "heap.so", "-shared", "-fPIC", "tests/failing_heap.c")
     call = [ask, ["a", "https://\u00e9/", "/a"], b"Disallow: /a\nCrawl-delay: 1\nSitemap: b"]
     right, reported, number = run(*call), 0, 0
@@ -141,15 +141,14 @@ def in_rust(declared):
 
 
 def test_the_raw_crate_has_the_calls_and_constants_of_the_header():
-    header = re.sub(r"/\*.*?\*/", "", (LIBRARY / "robots.h").read_text(), flags=re.S)
     raw = (CRATE / "sys/src/lib.rs").read_text()
     found = {name: [" ".join(it.split()) for it in words.split(",") if it] for name, words in re.findall(r"pub fn (\w+)\(([^)]*)\)", raw)}
-    declared = re.findall(r"^(?:ROBOTS_CHECK )?(const \w+ \*|\w+ )(robots_\w+)\(([^)]*)\)(?:\s+ROBOTS_NONNULL\([\d, ]+\))?;", header, re.M)
+    declared = re.findall(r"^(?:ROBOTS_CHECK )?(const \w+ \*|\w+ )(robots_\w+)\(([^)]*)\)(?:\s+ROBOTS_NONNULL\([\d, ]+\))?;", HEADER, re.M)
     assert len(declared) >= 23
     assert found == {name: [in_rust(it) for it in words.split(",") if it != "void"] for _, name, words in declared}
     for kind, name, _ in declared:
         result = in_rust(f"{kind} result").removeprefix("result: ")
         assert re.search(rf"pub fn {name}\([^)]*\){'' if result == 'c_void' else f' -> {re.escape(result)}'};", raw)
-    numbers = re.findall(r"^(?:    |#define )(ROBOTS_\w+)(?: =)? (-?\d+)\b,?", header, re.M)
+    numbers = re.findall(r"^(?:    |#define )(ROBOTS_\w+)(?: =)? (-?\d+)\b,?", HEADER, re.M)
     constants = re.findall(r"^pub const (ROBOTS_\w+): \w+ = (-?\d+);", raw.replace("_000", "000"), re.M)
     assert set(constants) - set(numbers) == {("ROBOTS_VERSION", "10000")} and len(constants) == 17
