@@ -254,15 +254,19 @@ def test_page_has_the_sentence_about_the_standard(file, sentence):
     assert entries_of("-", file=file).get("Syntax") == sentence
 
 
-@pytest.mark.parametrize("agents, file, crawlers, heading", [
-    ([], b"Disallow: /a", "all crawlers", "Crawler"),
-    ([], b"User-agent: A\nDisallow: /a", "2 crawlers", "Crawlers"),  # `*` and `A`
-    (["--agent=*"], b"Disallow: /a", "*", "Crawler"),
-    (["--agent=Ferris", "--agent=ferris"], b"User-agent: A", "Ferris", "Crawler"),
+@pytest.mark.parametrize("agents, file, crawlers", [
+    ([], b"Disallow: /a", "all crawlers"),
+    ([], b"User-agent: A\nDisallow: /a", "2 crawlers"),  # `*` and `A`
+    (["--agent=*"], b"Disallow: /a", "*"),
+    (["--agent=Ferris", "--agent=ferris"], b"User-agent: A", "Ferris"),
 ])
-def test_title_and_heading(agents, file, crawlers, heading):
-    written = page(*agents, "-", file=file)
-    assert f"<title>robots.txt for {crawlers}</title>" in written and f"<h2>{heading}</h2>" in written
+def test_title(agents, file, crawlers):
+    assert f"<title>robots.txt for {crawlers}</title>" in page(*agents, "-", file=file)
+
+
+@pytest.mark.parametrize("file, heading", [(b"Disallow: /a", "Crawler"), (b"User-agent: A\nDisallow: /a", "Crawlers")])
+def test_heading_without_an_agent(file, heading):
+    assert f"<h2>{heading}</h2>" in page("-", file=file)
 
 
 def entries_of(*args, **options):
