@@ -36,7 +36,8 @@ fn all_follow(
     Ok(true)
 }
 
-/// Both verdicts are the same at the end of the text, and each byte leads to a state that was found.
+/// Whether the state's two verdicts agree at the end of the text, and each byte leads to a state that was
+/// found.
 fn is_checked(alloc: Global, found: &Found<'_>, state: &State<'_>) -> Result<bool, AllocError>
     ensures { IfOk result (λ is. IsTrue is → IsChecked found.now.states.items state.now) }
 {

@@ -17,12 +17,12 @@ use texting_robots::site::Site;
 /// How two lists of rules compare.
 #[derive(Debug, Drop)]
 pub enum Comparison {
-    /// They have the same verdict on every text that begins with `front`.
+    /// The lists have the same verdict on every text that begins with `front`.
     Same,
-    /// They have opposite verdicts on this text, which begins with `front`. It is a match target, not a URL,
-    /// and may not be UTF-8.
+    /// The lists have opposite verdicts on this text, which begins with `front`. It is a match target, not a
+    /// URL, and may not be UTF-8.
     Differ(Vec<u8>),
-    /// Neither was found within the budget.
+    /// The budget was spent before either was found.
     Undecided,
 }
 

@@ -52,7 +52,7 @@ impl<'a> Item<'a> {
         self.number
     }
 
-    /// The same rule with another rest.
+    /// The item with another rest of its pattern.
     pub(crate) fn with(&self, rest: &'a [u8]) -> Item<'a>
         ensures { result ≡ (rest.now, self.now.1) }
     {
@@ -70,7 +70,7 @@ impl<'a> Item<'a> {
     }
 }
 
-/// How many stars it begins with. All but one of them change nothing.
+/// How many stars the rest of a pattern begins with. All but one of them change nothing.
 pub(crate) fn stars(rest: &[u8]) -> usize
     ensures within { result ≤ length rest.now }
     ensures alike { (text : List ℕ) → matches true rest.now text
@@ -85,7 +85,6 @@ pub(crate) fn stars(rest: &[u8]) -> usize
     rest.len()
 }
 
-/// It matches every text.
 pub(crate) fn matches_all(rest: &[u8]) -> bool
     ensures { IsTrue result → (text : List ℕ) → matches true rest.now text ≡ true }
 {
@@ -96,7 +95,6 @@ pub(crate) fn matches_all(rest: &[u8]) -> bool
     true
 }
 
-/// It matches the empty text.
 pub(crate) fn matches_end(rest: &[u8]) -> bool
     ensures { result ≡ matches true rest.now [] }
 {

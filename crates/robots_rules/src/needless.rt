@@ -20,12 +20,12 @@ pub(crate) const BUDGET: usize = 50_000_000;
 /// Why a rule is needless.
 #[derive(Clone, Copy, Debug, Eq, PartialEq)]
 pub enum Reason {
-    /// Its pattern matches no text, except perhaps `/robots.txt`, which is always allowed.
+    /// The rule's pattern matches no text, except perhaps `/robots.txt`, which is always allowed.
     MatchesNothing,
-    /// It is an Allow, and what it allows stays allowed once all needless rules are deleted.
+    /// The rule is an Allow, and what it allows stays allowed once all needless rules are deleted.
     AllowedAnyway,
-    /// It never decides, since the rule in the line with this number matches every text that it matches, and
-    /// is longer; or as long, and an Allow for a Disallow, or in a line above.
+    /// The rule never decides, since the one in the line with this number matches every text that it matches,
+    /// and is longer; or as long, and an Allow for a Disallow, or in a line above.
     NeverDecides(usize),
     /// Once all needless rules are deleted, the same verdict follows from the rule in the line with this
     /// number, which is of the same kind and matches every text that it matches, or from another rule.
@@ -34,7 +34,7 @@ pub enum Reason {
 
 #[derive(Clone, Copy, Debug, Eq, PartialEq)]
 pub struct NeedlessRule {
-    /// The number of its line, counted from 1.
+    /// The number of the rule's line, counted from 1.
     pub line: usize,
     pub reason: Reason,
 }
@@ -60,7 +60,7 @@ enum Outcome {
     Undecided,
 }
 
-/// The same rule, or another one with its pattern.
+/// A copy of the rule, as an Allow or a Disallow.
 fn copied(alloc: Global, rule: &Rule, is_allow: bool) -> Result<Rule, AllocError>
     ensures { IfOk result (λ made. made
         ≡ record { rule = (rule.now.rule.0, is_allow); line = rule.now.line }) }
@@ -74,7 +74,7 @@ fn copied(alloc: Global, rule: &Rule, is_allow: bool) -> Result<Rule, AllocError
     })
 }
 
-/// With an eighth of the budget at most.
+/// Compares two lists, with an eighth of the budget at most.
 fn compared(
     alloc: Global,
     budget: &mut usize,

@@ -14,12 +14,11 @@ pub(crate) struct Entry<'a> {
     pub(crate) item: Item<'a>,
     pub(crate) old: bool,
     pub(crate) new: bool,
-    /// Else, if it is in both lists, no state has it.
+    /// Whether states have the rule even if it is in both lists.
     pub(crate) tracked: bool,
 }
 
 impl<'a> Entry<'a> {
-    /// It is in both lists, and not tracked.
     pub(crate) fn is_shared(&self) -> bool
         ensures { result ≡ is_shared self.now }
     {

@@ -85,7 +85,7 @@ fn cost_on(pool: &[Entry<'_>], len: usize) -> usize {
     pool.len().saturating_add(stars.saturating_mul(len) / 2)
 }
 
-/// The same rules, of which so many more are tracked.
+/// The pool, with at most `most` more of its rules tracked.
 pub(crate) fn refined<'a>(
     alloc: Global,
     pool: &[Entry<'a>],
@@ -110,7 +110,7 @@ pub(crate) fn refined<'a>(
     Ok(made)
 }
 
-/// On the texts that begin with `front`.
+/// Compares the two lists of a pool on the texts that begin with `front`.
 pub(crate) fn compare_pool<'a>(
     alloc: Global,
     start: Vec<Entry<'a>>,

@@ -9,7 +9,7 @@ use crate::item::{Item, add_next_byte, matches_all, matches_end, stars};
 use std::alloc::{AllocError, Global};
 use std::marker::Model;
 
-/// The last one that matches decides, or if none matches, the start.
+/// Items, of which the last that matches decides, or if none matches, the start.
 #[derive(Drop)]
 pub(crate) struct Side<'a> {
     pub(crate) items: Vec<Item<'a>>,
@@ -24,7 +24,6 @@ impl<'a> Model for Side<'a> {
     ghost view = { λ r. record { items = r.items.items; start = r.start } };
 }
 
-/// It is the last one of these already.
 fn is_last(items: &[Item<'_>], item: &Item<'_>) -> bool
     ensures { IsTrue result → (start : Bool) (text : List ℕ) → matches true item.now.0 text ≡ true
         → last_kind start items.now text ≡ item.now.1 }
@@ -139,7 +138,6 @@ fn kind_at_end(start: bool, items: &[Item<'_>]) -> bool
     answer
 }
 
-/// Its verdict on the empty text.
 pub(crate) fn verdict_at_end(side: &Side<'_>) -> bool
     ensures { result ≡ verdict side.now [] }
 {

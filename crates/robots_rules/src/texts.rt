@@ -2,7 +2,7 @@
 
 use std::alloc::{AllocError, Global};
 
-/// In place of a star, and at the end: few patterns have it.
+/// Stands in place of a star, and at the end: few patterns have it.
 const FILLER: &[u8] = b"~";
 
 /// The pattern matches the text; and how many steps that took, of which there are at most so many.

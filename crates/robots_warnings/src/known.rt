@@ -114,7 +114,7 @@ fn is_style(cause: Cause) -> bool
     }
 }
 
-/// Whether it is so of a line by itself.
+/// Whether the cause holds of a line by itself.
 fn is_so_of(cause: Cause, labeled: &LabeledLine<'_>) -> bool
     ensures { result ≡ true → is_so_of cause (label_by_value labeled.now) ≡ true }
 {
@@ -137,7 +137,6 @@ fn is_so_of(cause: Cause, labeled: &LabeledLine<'_>) -> bool
     }
 }
 
-/// Whether it is so of the line with this number.
 fn is_so_at(labels: &[LabeledLine<'_>], cause: Cause, number: usize) -> bool
     ensures { (warning : WarningValue) → warning.line ≡ Some number → warning.cause ≡ cause → result ≡ true
         → IsOfLine (map label_by_value labels.now) warning }
@@ -158,7 +157,7 @@ fn is_conflict(lines: &RuleLines, number: usize, detail: Option<Detail>) -> bool
     }
 }
 
-/// Whether it is so of more than a line.
+/// Whether the cause holds of the line with this number, among others.
 fn is_found(known: &Known<'_, '_>, cause: Cause, number: usize, detail: Option<Detail>) -> bool
     requires { IsKnown known.now }
     ensures { (about : Option (List ℕ)) → result ≡ true → SaysSo known.now cause number about detail }

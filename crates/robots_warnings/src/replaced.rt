@@ -57,7 +57,7 @@ fn denied_patterns(alloc: Global, rules: &[SiteRule<'_>]) -> Result<Patterns, Al
     Ok(denied)
 }
 
-/// Or a rule for the whole site.
+/// Whether the rule is a Disallow that `*` has too, or one for the whole site.
 #[tactic(auto, using(crate::proofs::ClosedLemmas::whole_site_escaped))]
 fn is_kept(alloc: Global, denied: &Patterns, rule: &SiteRule<'_>) -> Result<bool, AllocError>
     ensures { IfOk result (λ is. is ≡ is_kept_in denied.now rule.now) }
@@ -80,7 +80,6 @@ fn lacks_all(alloc: Global, site: &Site, denied: &Patterns, agent: &str) -> Resu
     Ok(true)
 }
 
-/// The crawler has this name, and has none of the Disallows of `*`.
 fn lacks_as(
     alloc: Global,
     site: &Site,
@@ -95,7 +94,6 @@ fn lacks_as(
     Ok(agent.as_bytes().eq_ignore_ascii_case(name) && lacks_all(alloc, site, denied, agent)?)
 }
 
-/// One of the crawlers does.
 fn is_lacking(
     alloc: Global,
     site: &Site,

@@ -38,7 +38,7 @@ fn is_escaped(byte: u8) -> bool
         | (byte == b'`')
 }
 
-/// Without an early exit, so that the compiler can vectorize the loop.
+/// Tests all bytes without an early exit, so that the compiler can vectorize the loop.
 fn holds_escaped_among(bytes: &[u8]) -> bool
     ensures { result ≡ list_any is_escaped bytes.now }
 {

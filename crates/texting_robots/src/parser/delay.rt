@@ -157,7 +157,7 @@ impl Number<'_> {
         }
     }
 
-    /// In microseconds, rounded down, at most `u64::MAX`.
+    /// The delay in microseconds, rounded down, at most `u64::MAX`.
     fn micros(&self) -> u64
         ensures { result ≡ steps.rounded self.now }
     {

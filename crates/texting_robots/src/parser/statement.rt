@@ -176,7 +176,7 @@ pub(crate) fn tail_as<'a>(kind: Kind, text: &'a [u8]) -> Option<&'a [u8]>
     }
 }
 
-/// Without an early exit, so that the compiler can vectorize the loop.
+/// Tests all bytes without an early exit, so that the compiler can vectorize the loop.
 fn holds_hash_among(bytes: &[u8]) -> bool
     ensures { result ≡ list_any (λ byte. byte == hash) bytes.now }
 {
