@@ -81,7 +81,7 @@ abbrev pub is_overruling : (ℕ → Bool) → (number : ℕ) → List PlacedRule
 is_overruling is_empty number rules =
     are_closed is_empty rules && list_any (is_empty_rule is_empty number) rules
 
--- it does so for one of these crawlers
+-- the empty Disallow overrules a Disallow for one of these crawlers
 abbrev pub overrules_for_one : (ℕ → Bool) → List (List ℕ) → List LineValue → (number : ℕ) → Bool
 overrules_for_one is_empty agents lines number =
     list_any (λ agent. is_overruling is_empty number (placed_rules agent lines)) agents
