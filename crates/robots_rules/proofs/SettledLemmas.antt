@@ -85,13 +85,13 @@ module _ (found : Reasons) (list : List NeedlessRule) (are : list ≡ map rule_a
       };
     }
 
-pub means : (lines left : List LineValue) (settled : SettledValue) (agent : List ℕ)
+pub means_the_same : (lines left : List LineValue) (settled : SettledValue) (agent : List ℕ)
     (rules others : List PlacedRule)
     → ◌≡◌ {A = SettledValue} (record { agent = agent; rules = rules }) settled → IsSettled lines settled
     → ¬ IsRejected agent left → delay_for agent left ≡ delay_for agent lines
     → others ≡ placed_rules agent left → unplaced rules ≡ unplaced others
     → MeanTheSame settled.agent lines left
-means lines left settled agent rules others is settled_so accepted delay are same =
+means_the_same lines left settled agent rules others is settled_so accepted delay are same =
     subst (λ (s : SettledValue). IsSettled lines s → MeanTheSame s.agent lines left) is (λ so. record {
       accepted = so.accepted;
       left_accepted = accepted;

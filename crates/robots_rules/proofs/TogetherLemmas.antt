@@ -14,7 +14,7 @@ use Rattle.std.proofs.lemmas.List.{Folds.Any-from_list_any, Folds.list_any_at}
 use Rattle.texting_robots.specs.Rules.{PlacedRule, Rule, unplaced}
 use Rattle.robots_rules.specs.{Search.IsReducedTo}
 use Rattle.texting_robots.specs.Verdict.{IsDenied, IsVerdict}
-use Rattle.texting_robots.proofs.Shared.{same_verdicts}
+use Rattle.texting_robots.proofs.Shared.{permuted_verdicts}
 
 -- ---- Which rules are left without those in some lines.
 
@@ -68,7 +68,7 @@ pub verdicts : (rules others : List Rule) (text : List ℕ) → IsDenied rules t
 verdicts rules others text same answer = grind (arith, common_steps)
 
 pub permuted : (rules others : List PlacedRule) → IsPermutation rules others → IsReducedTo rules others
-permuted rules others same text answer = Iff.symm (same_verdicts rules others same text answer)
+permuted rules others same text answer = Iff.symm (permuted_verdicts rules others same text answer)
 
 pub reduced_more : (rules mid left : List PlacedRule) → IsReducedTo rules mid → IsReducedTo mid left
     → IsReducedTo rules left

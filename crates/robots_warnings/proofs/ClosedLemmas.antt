@@ -19,7 +19,7 @@ use Rattle.texting_robots.specs.Callers.{AreSitemapsOf, Label, LineValue, Placed
 use Rattle.texting_robots.specs.Callers.{sitemaps_in}
 use Rattle.texting_robots.specs.Escape.{is_escaped}
 use Rattle.texting_robots.specs.Line.{AreFileLinesOf, nul_as_lf}
-use Rattle.texting_robots.proofs.Shared.{each_text_has_its_lines, of_lines, sitemaps_are_computed}
+use Rattle.texting_robots.proofs.Shared.{each_text_has_its_lines, lines_satisfy, sitemaps_are_computed}
 use Rattle.robots_warnings.specs.Closed.{closes, are_signs, first_closing, first_line, is_closing, is_rival}
 use Rattle.robots_warnings.specs.Closed.{is_literally, is_star_or_dollar, is_whole_site, leaves_closed}
 use Rattle.robots_warnings.specs.Closed.{line_closing_site, opened_path}
@@ -76,7 +76,7 @@ sitemaps_read text urls has =
     let read : AreFileLinesOf (file_lines text) text =
     (each_text_has_its_lines (map nul_as_lf text) _).1 refl in
     (sitemaps_are_computed (file_lines text) urls).0
-    (of_lines text (λ lines. AreSitemapsOf lines urls) has (file_lines text) read)
+    (lines_satisfy text (λ lines. AreSitemapsOf lines urls) has (file_lines text) read)
 
 pub any_opened : (pattern : List ℕ) (urls : List (Bor (List ℕ)))
     → list_any (λ url. list_any (is_literally pattern) (filter_map opened_path (url.now ∷ []))) urls

@@ -248,7 +248,7 @@ fn collapsed_len(pattern: &[u8]) -> usize
     len
 }
 
-#[tactic(auto, using(crate::proofs::CollapseLemmas::length_within))]
+#[tactic(auto, using(crate::proofs::CollapseLemmas::collapsed_within))]
 pub(crate) fn is_overlong(pattern: &[u8]) -> bool
     ensures { IsTrue result ↔ IsOverlong pattern.now }
 {
