@@ -81,7 +81,8 @@ module _ (older newer : List PlacedRule) where
       → IsVerdict (unplaced older) text allowed ↔ IsVerdict (unplaced newer) text allowed
   unchanged_alike rules are none text allowed =
       let (first, second) = and_parts _ (length rules.added.items == 0) none in
-      decide_alike text allowed (sym are.removed_are ∙ nil_if_empty _ first) (sym are.added_are ∙ nil_if_empty _ second)
+      decide_alike text allowed (sym are.removed_are ∙ nil_if_empty _ first)
+      (sym are.added_are ∙ nil_if_empty _ second)
 
   pub same_verdicts : (rules : RuleChanges) → AreChanges older newer rules → are_none rules ≡ true
       → HaveSameVerdicts (codes "/") (unplaced older) (unplaced newer)

@@ -14,7 +14,8 @@ use Rattle.texting_robots.specs.Callers.{IsRejectionOf, is_agent_named, is_named
 use Rattle.texting_robots.specs.declared.error.RobotError.{RobotError}
 use Rattle.texting_robots.specs.declared.error.RobotError.TheVariants as rejection
 use Rattle.texting_robots.proofs.Shared.{deciding_line_holds_its_rule, parsed_within, each_text_has_its_lines}
-use Rattle.texting_robots.proofs.Shared.{same_group_robot, no_line_allows, lines_satisfy, read_robot, has_lines}
+use Rattle.texting_robots.proofs.Shared.{same_group_robot, no_line_allows, lines_satisfy, read_robot}
+use Rattle.texting_robots.proofs.Shared.{has_lines}
 use Rattle.c_calls.specs.{File.IsRobotOfSomeFile, File.IsSiteOfSomeFile, Status.IsWhyNoResult, Results.IsRow}
 use Rattle.c_calls.specs.Status.{IsWhyNoRobot, error_of}
 use Rattle.c_calls.specs.Results.{IsResultOn, LinesFit, number_of, HasResult, AreRows, items_in, no_result}

@@ -18,7 +18,8 @@ use Rattle.texting_robots.specs.Line.{Allow, CrawlDelay, Disallow, LineValue, Ra
 use Rattle.texting_robots.specs.Line.{without_bom}
 use Rattle.texting_robots.specs.{Trim.IsTrimOf, Cut.IsBodyByte, Cut.lf}
 use Rattle.texting_robots.specs.Internal.{Line.line_of, Statement.trimmed}
-use Rattle.texting_robots.proofs.Shared.{placed_of, each_append, trim_unique, trimmed_is_trim, collapsed_within}
+use Rattle.texting_robots.proofs.Shared.{placed_of, each_append, trim_unique, trimmed_is_trim}
+use Rattle.texting_robots.proofs.Shared.{collapsed_within}
 use Rattle.rfc9309.specs.Comparable.{AreComparable, IsPathOf, has_odd_escape}
 use Rattle.rfc9309.specs.Conformance.{allows_all, denies_all, first_denying, first_mixed, first_mixed_for}
 use Rattle.rfc9309.specs.Conformance.{first_split, front_of, is_all, is_apart, is_odd_octet, is_plain_path}

@@ -16,8 +16,8 @@ use Rattle.texting_robots.specs.Internal.Group.{step}
 use Rattle.texting_robots.specs.{declared.groups.GroupTracker.GroupTracker, Line.delay_in, Robot.IsRobotOf}
 use Rattle.texting_robots.proofs.Shared.{IsWalkAt, drop_cons, captured_walked, is_captured_decides}
 use Rattle.texting_robots.proofs.Shared.{walk_first, walk_next, delay_is_computed, sitemaps_are_computed}
-use Rattle.texting_robots.proofs.Shared.{lines_satisfy, rejection_is_computed, rules_are_computed, before_agent}
-use Rattle.texting_robots.proofs.Shared.{before_agents}
+use Rattle.texting_robots.proofs.Shared.{lines_satisfy, rejection_is_computed, rules_are_computed}
+use Rattle.texting_robots.proofs.Shared.{before_agent, before_agents}
 use Rattle.rfc9309.specs.Edits.{DifferInRule, IsRule}
 
 record Facts (line : LineValue) : Type 0 where

@@ -7,7 +7,8 @@ use Rattle.std.proofs.lemmas.List.Folds.{list_all-append, list_any-from_Any}
 use Rattle.std.proofs.lemmas.Bool.{Decides.nat_tests, and_parts, cases_lt, le-ltb, lt-ltb, cases_Bool}
 use Rattle.std.proofs.lemmas.Bool.{eqb-true, not-true, or_cases}
 use Rattle.std.proofs.Common.{append_assoc, reverse, suc, take-append-drop, ◌+◌}
-use Rattle.std.proofs.lemmas.{List.drop_all, List.reverse-append, List.reverse-reverse, Slice.Eq.bytes_eq-Decides}
+use Rattle.std.proofs.lemmas.{List.drop_all, List.reverse-append, List.reverse-reverse}
+use Rattle.std.proofs.lemmas.{Slice.Eq.bytes_eq-Decides}
 use Rattle.std.proofs.lemmas.Str.{IsUtf8-append, IsUtf8-encode, IsUtf8-nil, IsUtf8-from_is_utf8, encode_ascii}
 use Rattle.bstr.specs.Utf8.{code_of_2, code_of_3, code_of_4, continues, decoded, good, second}
 use Rattle.bstr.proofs.lemmas.PieceLemmas.{value-1, value-6, value-9, value-12}

@@ -123,7 +123,8 @@ module _ (text : List ℕ) (o : rfc.IsOtherLine text) where
       word_plain s.key s.rest (written_begins (lower s.key) (expressed kind (lower s.key) s.is_key)) in
       sym (map-append to_ascii_lowercase o.name after_name)
       ∙ ap lower (
-      sym (skip_front o.margin (o.name ++ after_name) o.margin_blank ∙ skips_nothing (o.name ++ after_name) name)
+      sym (skip_front o.margin (o.name ++ after_name) o.margin_blank
+      ∙ skips_nothing (o.name ++ after_name) name)
       ∙ ap skip_blanks s.whole
       ∙ skip_front s.margin (s.key ++ s.rest) s.margin_blank
       ∙ skips_nothing (s.key ++ s.rest) key)

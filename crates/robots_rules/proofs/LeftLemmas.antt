@@ -12,8 +12,8 @@ use Rattle.texting_robots.specs.Callers.{IsDelayFor, delay_for, file_bodies, fil
 use Rattle.texting_robots.specs.Cut.{IsLineEnd, Pair, joined}
 use Rattle.texting_robots.specs.{Theorems.Same, Line.is_raw, Line.without_bom}
 use Rattle.texting_robots.specs.Internal.{Cut.bodies_of, Cut.cut, Line.line_of}
-use Rattle.texting_robots.proofs.Shared.{delay_is_computed, sitemaps_are_computed, answer_as_placed, lines_satisfy}
-use Rattle.texting_robots.proofs.Shared.{each_text_has_its_lines, without_bom_suffix}
+use Rattle.texting_robots.proofs.Shared.{delay_is_computed, sitemaps_are_computed, answer_as_placed}
+use Rattle.texting_robots.proofs.Shared.{lines_satisfy, each_text_has_its_lines, without_bom_suffix}
 use Rattle.texting_robots.proofs.Shared.{without_bom_map, raw_changes_nothing, is_cut, cut_unique}
 use Rattle.robots_rules.specs.Blocks.{left_from, AreAlike, AreWholeLines, CanBeDeleted, HaveSameRobot}
 use Rattle.robots_rules.specs.Blocks.{IsLeftOf, begin_with_mark}
@@ -67,7 +67,8 @@ module _ (numbers file left : List ℕ) (is : IsLeftOf numbers file left)
   bodies_kept : lines_without numbers (file_bodies file) ≡ map pair_body kept
   bodies_kept =
       left_are numbers 0 (file_bodies file)
-      ∙ ap (λ pairs. left_from gone 0 (map pair_body pairs)) (sym (cut_unique _ is.lines.pairs is.lines.is_cut))
+      ∙ ap (λ pairs. left_from gone 0 (map pair_body pairs))
+      (sym (cut_unique _ is.lines.pairs is.lines.is_cut))
       ∙ sym (map_left pair_body gone 0 is.lines.pairs)
 
   text_left : map nul_as_lf (concat (lines_without numbers is.whole)) ≡ joined kept

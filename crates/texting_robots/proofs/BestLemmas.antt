@@ -238,8 +238,10 @@ rule_answers rules text = grind (arith, best_is, bytes_eq-Decides, cases_Bool, n
         All-contains (λ placed. ¬ Matches placed.rule.0 text) rules placed none listed in
         (allowed_if_none rules text nowhere, inr nowhere)
     by_best differs (Some placed) is =
-        let decides = best_decides rules text placed is in
-        (verdict_by_rule rules text placed placed.rule.1 decides refl differs, (differs, placed, decides, refl))
+        let decides = best_decides rules text placed is in (
+          verdict_by_rule rules text placed placed.rule.1 decides refl differs,
+          (differs, placed, decides, refl),
+        )
 
 pub record Answered (rules : List PlacedRule) (text : List ℕ) : Type 0 where
   pub allowed : Bool

@@ -12,7 +12,8 @@ use Rattle.texting_robots.specs.Line.{LineValue, CrawlDelay, delay_in, Allow, Di
 use Rattle.texting_robots.specs.Rules.{AreSitemapsOf, IsCapturedDelay, IsDelayFor, IsEarlyDelay, IsFirst}
 use Rattle.texting_robots.specs.Rules.{IsLast, ListsSitemap, Nowhere, HoldsRule, IsCapturedAt, PlacedRule}
 use Rattle.texting_robots.specs.{Internal.Captured.is_captured, Escape.escaped, Internal.Group.placed}
-use Rattle.texting_robots.proofs.CapturedLemmas.{cond_some_iff, is_captured_decides, filter_map_if, some_passes}
+use Rattle.texting_robots.proofs.CapturedLemmas.{cond_some_iff, is_captured_decides, filter_map_if}
+use Rattle.texting_robots.proofs.CapturedLemmas.{some_passes}
 use Rattle.texting_robots.proofs.RulesLemmas.{before_agent, before_agents, last_or_cons, option_or_none}
 
 -- ---- The computed delay and sitemaps of a crawler are those of the specification.

@@ -23,8 +23,8 @@ use Rattle.std.proofs.lemmas.Bool.{cond_both, eqb-false, leb-true, cases_lt, cas
 use Rattle.texting_robots.specs.declared.rules.{RuleEntry.RuleEntry, RuleTable.RuleTable}
 use Rattle.std.proofs.Math.Nat.{mul-le-mul_left}
 use Rattle.texting_robots.specs.Decision.{IsDecidingRule, IsLongestMatch, LooksForRules, as_long_as}
-use Rattle.texting_robots.proofs.BestLemmas.{IsAbove, IsBest, IsPreferred, NoMatch, best_decides, preferred_longer}
-use Rattle.texting_robots.proofs.BestLemmas.{deciding_longest, rank_of, verdict_by_rule}
+use Rattle.texting_robots.proofs.BestLemmas.{IsAbove, IsBest, IsPreferred, NoMatch, best_decides}
+use Rattle.texting_robots.proofs.BestLemmas.{preferred_longer, deciding_longest, rank_of, verdict_by_rule}
 
 -- ---- A matched text begins as the first segment does, and has the bigrams of the others.
 

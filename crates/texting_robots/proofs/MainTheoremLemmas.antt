@@ -24,8 +24,8 @@ use Rattle.texting_robots.proofs.ExecutableLemmas.{given_come, given_from, place
 use Rattle.texting_robots.proofs.{ExecutableLemmas.delay_is_computed, LineLemmas.each_text_has_its_lines}
 use Rattle.texting_robots.proofs.RulesLemmas.{any_unplaced, rejected_wider, some_overlong}
 use Rattle.texting_robots.proofs.BestLemmas.{placed_of, allowed_if_none, verdict_by_rule}
-use Rattle.texting_robots.proofs.VerdictLemmas.{contains_rest, same_elements, longest_permuted, permuted_lines}
-use Rattle.texting_robots.proofs.VerdictLemmas.{permuted_verdicts}
+use Rattle.texting_robots.proofs.VerdictLemmas.{contains_rest, same_elements, longest_permuted}
+use Rattle.texting_robots.proofs.VerdictLemmas.{permuted_lines, permuted_verdicts}
 use Rattle.texting_robots.specs.Decision.{IsDecidingLine, IsDecidingRule, LooksForRules}
 
 -- ---- The rules that lines hold are the computed ones, in any order.
@@ -236,8 +236,8 @@ read_delay agent file delay (lines, are, is) =
 pub has_lines : (file : List ℕ) (P : List LineValue → Type 0) → P (file_lines file) → HasLines file P
 has_lines file P is = grind (arith, each_text_has_its_lines)
 
-pub computed_robot : (agent file : List ℕ) (robot : RobotValue) → IsComputedRobot agent (file_lines file) robot
-    → IsRobotOfFile agent file robot
+pub computed_robot : (agent file : List ℕ) (robot : RobotValue)
+    → IsComputedRobot agent (file_lines file) robot → IsRobotOfFile agent file robot
 computed_robot agent file robot is =
     let lines = file_lines file in
     has_lines file (λ l. IsRobotOf agent l robot) (record {
@@ -303,7 +303,8 @@ pub unanswered : (agent file : List ℕ) (lines : List LineValue) (rules : List 
     → IsMemoryErrorOr (IsFileRejected agent file) e → IsAnswerOf agent lines rules view view answer
 unanswered agent file lines rules view (Ok answer) e are same rejected = absurd same
 unanswered agent file lines rules view (Err x) e are same rejected = record {
-  rejected = rejected_wider _ _ x (λ has. lines_satisfy file (IsRejected agent) has lines are) (rw same rejected);
+  rejected =
+      rejected_wider _ _ x (λ has. lines_satisfy file (IsRejected agent) has lines are) (rw same rejected);
   accepted = tt;
   verdict = tt;
   looks = grind (arith, no_looks);

@@ -144,13 +144,13 @@ walk_on name names heads nexts position next n linked at is first =
     next_in_bucket name position next (bucket_of N (str_to_ascii_lowercase n.name)) names
     (eqb-true _ _ inside) (next_is names heads nexts position next n linked at is)
 
-pub first_named_zero : (name : List ℕ) (names : List Named) (position : ℕ) (n : Named) → slice_get names position
-    ≡ Some n
+pub first_named_zero : (name : List ℕ) (names : List Named) (position : ℕ) (n : Named)
+    → slice_get names position ≡ Some n
     → has_name name n ≡ true → first_named name (drop position names) ≡ 0
 first_named_zero name names position n at is = grind (arith, drop_is, first_now)
 
-pub first_named_next : (name : List ℕ) (names : List Named) (position : ℕ) (n : Named) → slice_get names position
-    ≡ Some n
+pub first_named_next : (name : List ℕ) (names : List Named) (position : ℕ) (n : Named)
+    → slice_get names position ≡ Some n
     → has_name name n ≡ false
     → position + 1 + first_named name (drop (position + 1) names)
     ≡ position + first_named name (drop position names)

@@ -19,7 +19,8 @@ use Rattle.texting_robots.specs.Executable.{placed_rules}
 use Rattle.texting_robots.proofs.{CapturedLemmas.captured_walked, ExecutableLemmas.delay_is_computed}
 use Rattle.texting_robots.proofs.SiteNameLemmas.{drop_is, first_here, here, later_at, past_end}
 use Rattle.texting_robots.proofs.SiteNameLemmas.{groups_from_first}
-use Rattle.texting_robots.proofs.MainTheoremLemmas.{overlong_rejected, rejection_is_computed, rules_are_computed}
+use Rattle.texting_robots.proofs.MainTheoremLemmas.{overlong_rejected, rejection_is_computed}
+use Rattle.texting_robots.proofs.MainTheoremLemmas.{rules_are_computed}
 use Rattle.texting_robots.proofs.SiteLemmas.{delay_of_group, given_push, rule_of_group, none_later}
 use Rattle.texting_robots.specs.Internal.Site.{Named, Tagged, delay_of, in_front, is_group_of, named, listed}
 use Rattle.texting_robots.specs.Internal.Site.{own_tagged, rejection_at, rule_of, tagged, tagged_from}
@@ -258,7 +259,8 @@ pub none_if_nil : {X Y : Type 0} (h : X → Option Y) (xs : List X) (i : ℕ) (d
     → filter_map h xs ≡ [] → h (get_or xs i d) ≡ None
 none_if_nil h [] i d within none = absurd (omega arith)
 none_if_nil h (x ∷ xs) zero d within none = (given_nothing h x xs none).0
-none_if_nil h (x ∷ xs) (suc i) d within none = none_if_nil h xs i d (omega arith) (given_nothing h x xs none).1
+none_if_nil h (x ∷ xs) (suc i) d within none =
+    none_if_nil h xs i d (omega arith) (given_nothing h x xs none).1
 
 pub same_group_robot : (agent other : List ℕ) (lines : List LineValue) (robot : RobotValue)
     → group_name agent lines ≡ group_name other lines → IsRobotOf agent lines robot

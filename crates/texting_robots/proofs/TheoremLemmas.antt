@@ -11,9 +11,9 @@ use Rattle.texting_robots.specs.Line.{LineValue, delay_in, is_raw, is_sitemap}
 use Rattle.texting_robots.specs.Group.{group_name, is_agent, is_agent_named, is_member, IsCaptured}
 use Rattle.texting_robots.specs.Executable.{delay_for, rule_in, rules_for, sitemap_in}
 use Rattle.texting_robots.specs.Internal.Group.{start_of, step}
-use Rattle.texting_robots.proofs.CapturedLemmas.{IsWalkAt, drop_cons, cond_same, delays_walked, given_captured}
-use Rattle.texting_robots.proofs.CapturedLemmas.{named_is_agent, is_captured_decides, rules_walked, walk_first}
-use Rattle.texting_robots.proofs.CapturedLemmas.{walk_next}
+use Rattle.texting_robots.proofs.CapturedLemmas.{IsWalkAt, drop_cons, cond_same, delays_walked}
+use Rattle.texting_robots.proofs.CapturedLemmas.{given_captured, named_is_agent, is_captured_decides}
+use Rattle.texting_robots.proofs.CapturedLemmas.{rules_walked, walk_first, walk_next}
 use Rattle.texting_robots.proofs.MainTheoremLemmas.{rejection_is_computed}
 use Rattle.texting_robots.proofs.RulesLemmas.{before_agent, before_agents}
 

@@ -7,7 +7,8 @@ use Rattle.std.specs.{Char.is_ascii_graphic, Prelude.slice_index}
 use Rattle.std.proofs.lemmas.Bool.{and_parts, eqb-false, ltb-true}
 use Rattle.texting_robots.specs.Rules.{PlacedRule, unplaced}
 use Rattle.texting_robots.specs.{Escape.escaped, Trim.IsTrimOf, Verdict.IsVerdict}
-use Rattle.texting_robots.proofs.Shared.{allowed_by, rule_answers, deciding_rule, graphic_trimmed, trimmed_is_trim}
+use Rattle.texting_robots.proofs.Shared.{allowed_by, rule_answers, deciding_rule, graphic_trimmed}
+use Rattle.texting_robots.proofs.Shared.{trimmed_is_trim}
 use Rattle.rfc9309.specs.Comparable.{AreComparable, IsPathOf, IsPlainPath}
 use Rattle.rfc9309.specs.Matching.{IsRfcVerdict, Reading, all_stay, as_in_table, filled, has_dollar, is_ended}
 use Rattle.rfc9309.specs.Matching.{normal_from, normal_path, normal_uri, octets, without_end}

@@ -3,8 +3,8 @@ use Rattle.std.{specs.Option.option_or, proofs.lemmas.List.append-nil}
 use Rattle.texting_robots.specs.Executable.{delay_before_agents, file_lines, placed_in, rule_in}
 use Rattle.texting_robots.specs.{Group.group_name, Line.delay_in, Pattern.IsOverlong}
 use Rattle.texting_robots.{specs.Rules.PlacedRule, specs.Rules.Rule, proofs.CapturedLemmas.captured_walked}
-use Rattle.texting_robots.proofs.RulesLemmas.{all_added, first_or_cons, append_option, none_if_empty, none_unplaced}
-use Rattle.texting_robots.proofs.RulesLemmas.{first_overlong, option_or_none, rejected_wider}
+use Rattle.texting_robots.proofs.RulesLemmas.{all_added, first_or_cons, append_option, none_if_empty}
+use Rattle.texting_robots.proofs.RulesLemmas.{none_unplaced, first_overlong, option_or_none, rejected_wider}
 use Rattle.texting_robots.proofs.MainTheoremLemmas.{if_err, overlong_rejected}
 use Rattle.texting_robots.proofs.builder.read_file.Goals as goal
 

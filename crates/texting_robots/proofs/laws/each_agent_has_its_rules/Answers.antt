@@ -1,6 +1,6 @@
 use Rattle.texting_robots.specs.Executable.{placed_rules}
-use Rattle.texting_robots.proofs.MainTheoremLemmas.{answer_alike, placed_are_rules, rules_permuted, rules_are_computed}
-use Rattle.texting_robots.proofs.MainTheoremLemmas.{rejection_is_computed}
+use Rattle.texting_robots.proofs.MainTheoremLemmas.{answer_alike, placed_are_rules, rules_permuted}
+use Rattle.texting_robots.proofs.MainTheoremLemmas.{rules_are_computed, rejection_is_computed}
 use Rattle.texting_robots.proofs.laws.each_agent_has_its_rules.Goals as goal
 
 pub returns : goal.returns

@@ -1,4 +1,5 @@
-use Rattle.texting_robots.proofs.VerdictLemmas.{before_asymmetric, before_irreflexive, one_holds, before_transitive}
+use Rattle.texting_robots.proofs.VerdictLemmas.{before_asymmetric, before_irreflexive, one_holds}
+use Rattle.texting_robots.proofs.VerdictLemmas.{before_transitive}
 use Rattle.texting_robots.proofs.laws.order_agrees.Goals as goal
 
 pub returns : goal.returns

@@ -1,5 +1,6 @@
 use Rattle.std.proofs.{Common.arith, Common.rules, Common.inr, lemmas.Bool.iff_false, lemmas.List.length-map}
-use Rattle.texting_robots.proofs.{FirstLemmas.first_looks, FirstLemmas.none_occurs, BestLemmas.allowed_if_none}
+use Rattle.texting_robots.proofs.{FirstLemmas.first_looks, FirstLemmas.none_occurs}
+use Rattle.texting_robots.proofs.{BestLemmas.allowed_if_none}
 use Rattle.texting_robots.proofs.rules.Rules.decide_by.Goals as goal
 
 pub returns-in-Some : goal.returns-in-Some
