@@ -159,9 +159,9 @@ pub sitemaps_change_nothing_else : (agent : List ℕ) (lines others : List LineV
     → SameButSitemaps agent lines agent others
 sitemaps_change_nothing_else = same_kept (λ line. not (is_sitemap line)) sitemap_neutral
 
-pub any_case_same : (agent other : List ℕ) (lines : List LineValue)
+pub agent_case : (agent other : List ℕ) (lines : List LineValue)
     → str_to_ascii_lowercase agent ≡ str_to_ascii_lowercase other → Same agent lines other lines
-any_case_same agent other lines same = (same_from agent lines other lines (rw same refl) (rw same refl), refl)
+agent_case agent other lines same = (same_from agent lines other lines (rw same refl) (rw same refl), refl)
 
 -- ---- Another line of the same kind.
 

@@ -1,5 +1,5 @@
-use Rattle.texting_robots.proofs.TheoremLemmas.{any_case_same}
+use Rattle.texting_robots.proofs.TheoremLemmas.{agent_case}
 use Rattle.texting_robots.proofs.laws.agent_case.Goals as goal
 
 pub returns : goal.returns
-returns c = any_case_same
+returns c = agent_case
