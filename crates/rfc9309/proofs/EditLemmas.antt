@@ -1,7 +1,6 @@
 -- A rule that isn't captured for a crawler has no effect on its robot.
-use Rattle.std.proofs.Common.{◌≡◌, ℕ, suc, ◌+◌, Bool, false, true, List, [], ◌∷◌, ◌++◌, Option}
-use Rattle.std.proofs.Common.{None, length, drop, take, if◌then◌else◌, codes, sym, refl, ap, ◌∙◌, subst}
-use Rattle.std.proofs.Common.{arith, zero-add}
+use Rattle.std.proofs.Common.{◌≡◌, ℕ, suc, ◌+◌, Bool, false, true, List, [], ◌∷◌, ◌++◌, Option, None, length}
+use Rattle.std.proofs.Common.{drop, take, if◌then◌else◌, codes, sym, refl, ap, ◌∙◌, subst, arith, zero-add}
 use Rattle.std.specs.List.{Any, Sorted.IsPermutation, filter_map, list_any}
 use Rattle.std.specs.Str.{str_to_ascii_lowercase}
 use Rattle.std.proofs.lemmas.{Bool.false_from_ne_true, List.Folds.list_any-append}

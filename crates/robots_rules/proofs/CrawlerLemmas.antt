@@ -1,10 +1,8 @@
 -- Crawlers with the same rules.
 use Rattle.std.proofs.lemmas.Grind.{common_steps}
-use Rattle.std.proofs.Common.{◌≡◌, inl, inr, List, ℕ, ap, codes, false, refl, sym, ◌<◌, ◌≤◌}
-use Rattle.std.proofs.Common.{[], Bool, ◌+◌, ◌∙◌}
-use Rattle.std.proofs.Common.{suc, true, ◌∷◌, ◌++◌, Contains, IsAscii, IsUtf8, ap₂, subst, arith, get_or}
-use Rattle.std.proofs.Common.{encode_utf8, encode_utf8_all, filter_map, length, map}
-use Rattle.std.proofs.Common.{append-nil}
+use Rattle.std.proofs.Common.{◌≡◌, inl, inr, List, ℕ, ap, codes, false, refl, sym, ◌<◌, ◌≤◌, [], Bool, ◌+◌}
+use Rattle.std.proofs.Common.{◌∙◌, suc, true, ◌∷◌, ◌++◌, Contains, IsAscii, IsUtf8, ap₂, subst, arith, get_or}
+use Rattle.std.proofs.Common.{encode_utf8, encode_utf8_all, filter_map, length, map, append-nil}
 use Rattle.std.specs.List.{filter_map, list_any}
 use Rattle.std.specs.Str.{str_to_ascii_lowercase}
 use Rattle.std.proofs.lemmas.Bool.{cases_Bool, and_parts, cases_lt}

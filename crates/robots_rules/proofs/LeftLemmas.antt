@@ -1,9 +1,8 @@
 -- If the found lines are deleted from a file, each crawler's robot stays the same.
 use mathlib.Core.Logic.Iff
-use Rattle.std.proofs.Common.{◌≡◌, ◌≢◌, ◌≤◌, ◌↔◌, inl, inr, ℕ, zero, suc, ◌+◌, Bool, false, not}
-use Rattle.std.proofs.Common.{[], Option}
-use Rattle.std.proofs.Common.{List, ◌∷◌, ◌++◌, IsUtf8, ap, ap₂, sym, refl, ◌∙◌, arith, filter}
-use Rattle.std.proofs.Common.{length, length-append, map}
+use Rattle.std.proofs.Common.{◌≡◌, ◌≢◌, ◌≤◌, ◌↔◌, inl, inr, ℕ, zero, suc, ◌+◌, Bool, false, not, [], Option}
+use Rattle.std.proofs.Common.{List, ◌∷◌, ◌++◌, IsUtf8, ap, ap₂, sym, refl, ◌∙◌, arith, filter, length}
+use Rattle.std.proofs.Common.{length-append, map}
 use Rattle.std.specs.{List.concat}
 use Rattle.std.proofs.lemmas.{Bool.or_parts, List.map-append}
 use Rattle.texting_robots.specs.Callers.{HasLines, IsRejected, IsRobotOf, IsVerdict, LineValue, RobotValue}

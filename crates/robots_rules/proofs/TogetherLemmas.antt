@@ -1,16 +1,13 @@
 -- Rules that are needless together.
-use Rattle.std.proofs.Common.{rules, []}
+use Rattle.std.proofs.Common.{rules, [], ◌≡◌, ◌↔◌, ℕ, zero, suc, ◌==◌, Bool, true, List, ◌∷◌, ap}
 use Rattle.std.proofs.lemmas.Grind.{common_steps}
-use Rattle.std.proofs.Common.{◌≡◌, ◌↔◌, ℕ, zero, suc, ◌==◌, Bool, true, List, ◌∷◌}
-use Rattle.std.proofs.Common.{ap}
 use Rattle.std.proofs.Common.{IsPermutation, refl, ◌∙◌, arith, map}
 use Rattle.std.specs.List.{Contains, filter, list_any}
 use Rattle.std.proofs.lemmas.Bool.{cond_both, eqb-true}
 use Rattle.std.proofs.lemmas.Bool.Decides.{Decides-eqb}
 use mathlib.Core.Logic.Iff
 use Rattle.std.proofs.lemmas.List.Elements.{All-contains, All-contains_itself, All-filter, filter_passes}
-use Rattle.std.proofs.lemmas.List.{get_or-map, length-map}
-use Rattle.std.proofs.lemmas.List.{Folds.Any-from_list_any, Folds.list_any_at}
+use Rattle.std.proofs.lemmas.List.{get_or-map, length-map, Folds.Any-from_list_any, Folds.list_any_at}
 use Rattle.texting_robots.specs.Rules.{PlacedRule, Rule, unplaced}
 use Rattle.robots_rules.specs.{Search.IsReducedTo}
 use Rattle.texting_robots.specs.Verdict.{IsDenied, IsVerdict}

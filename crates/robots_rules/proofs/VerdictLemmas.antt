@@ -1,13 +1,11 @@
 -- The last matching rule decides, if the rules are in ascending order.
-use Rattle.std.proofs.Common.{◌≡◌, ◌≢◌, ◌⊎◌, inl, inr, ℕ, suc, ◌+◌, ◌-◌, ◌<◌, ◌≤◌, Bool, true}
-use Rattle.std.proofs.Common.{false}
-use Rattle.std.proofs.Common.{List, [], ◌∷◌, ◌++◌, All, Contains, IsPermutation, get_or, length, refl}
-use Rattle.std.proofs.Common.{sym, subst, ◌∙◌, arith, add-one}
+use Rattle.std.proofs.Common.{◌≡◌, ◌≢◌, ◌⊎◌, inl, inr, ℕ, suc, ◌+◌, ◌-◌, ◌<◌, ◌≤◌, Bool, true, false, List}
+use Rattle.std.proofs.Common.{[], ◌∷◌, ◌++◌, All, Contains, IsPermutation, get_or, length, refl, sym, subst}
+use Rattle.std.proofs.Common.{◌∙◌, arith, add-one}
 use Rattle.std.proofs.lemmas.Bool.{cases_Bool, cases_lt, false≢true}
-use Rattle.std.proofs.lemmas.List.{get_or_default}
+use Rattle.std.proofs.lemmas.List.{get_or_default, Sorted.IsPermutation-sym}
 use Rattle.std.proofs.lemmas.Bool.Decides.{not_from_Decides}
 use Rattle.std.proofs.lemmas.List.Elements.{All-cons, All-contains, All-nil}
-use Rattle.std.proofs.lemmas.List.{Sorted.IsPermutation-sym}
 use Rattle.texting_robots.specs.{Pattern.Matches, Pattern.MatchesWith, Rules.Rule}
 use Rattle.texting_robots.specs.Verdict.{IsDenied, IsVerdict, robots_file}
 use Rattle.texting_robots.proofs.Shared.{matches, matches_decides, verdict_unique, order_changes_nothing}

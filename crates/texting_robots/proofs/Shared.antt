@@ -19,8 +19,7 @@ pub use Rattle.texting_robots.proofs.RulesLemmas.{any_unplaced, before_agent, be
 pub use Rattle.texting_robots.proofs.RulesLemmas.{option_or_none}
 pub use Rattle.texting_robots.proofs.SiteOwnLemmas.{same_group_robot}
 pub use Rattle.texting_robots.proofs.SegmentLemmas.{in_front, only_wildcards_match, plain_segment}
-pub use Rattle.texting_robots.proofs.VerdictLemmas.{verdict_unique}
-pub use Rattle.texting_robots.proofs.VerdictLemmas.{order_changes_nothing, permuted_verdicts}
+pub use Rattle.texting_robots.proofs.VerdictLemmas.{verdict_unique, order_changes_nothing, permuted_verdicts}
 pub use Rattle.texting_robots.proofs.MainTheoremLemmas.{answer_as_placed, placed_are_rules}
 pub use Rattle.texting_robots.proofs.MainTheoremLemmas.{deciding_line_holds_its_rule, has_lines}
 pub use Rattle.texting_robots.proofs.MainTheoremLemmas.{lines_are_read, no_line_allows, not_rejected}
