@@ -212,7 +212,6 @@ fn has_unchanged(crawlers: &[Compared<'_>]) -> bool
     crawlers.iter().any(is_unchanged)
 }
 
-/// What is said of the unchanged ones, if there are some.
 pub(crate) fn unchanged_words(crawlers: &[Compared<'_>]) -> &'static str
     ensures { result.now ≡ unchanged_words crawlers.now }
 {

@@ -108,7 +108,6 @@ fn is_mixed(robot: &Robot, is_open: bool, rules: &[Rule]) -> bool {
         })
 }
 
-/// Rules that allow everything, or nothing.
 fn plain_rules(alloc: Global, is_open: bool) -> Result<Vec<Rule>, AllocError>
     ensures { IfOk result (λ rules. rules.items ≡ plain_rules is_open) }
 {

@@ -33,7 +33,6 @@ pub fn kind_text(line: Line<'_>) -> &'static str {
     }
 }
 
-/// Whether a line has a value that is shown.
 fn has_value(line: Line<'_>) -> bool {
     match line {
         Line::UserAgent(value)

@@ -100,7 +100,6 @@ fn is_pattern(alloc: Global, word: &[u8]) -> Result<bool, AllocError> {
     )
 }
 
-/// What is wrong with a pattern or a URL.
 fn asked_flaw(
     alloc: Global,
     expects_pattern: bool,
@@ -150,7 +149,6 @@ pub(crate) fn is_any(name: &str) -> bool
     name.eq_ignore_ascii_case("any")
 }
 
-/// What is wrong with a crawler's name.
 fn name_flaw(alloc: Global, name: &str) -> Result<Option<Flaw>, AllocError> {
     if !is_crawler_name(name) {
         return Ok(Some(Flaw::Agent));

@@ -66,7 +66,6 @@ fn are_checked(alloc: Global, found: &Found<'_>, states: &[State<'_>]) -> Result
     Ok(true)
 }
 
-/// The state of these rules was found.
 fn starts_settled(
     alloc: Global,
     found: &Found<'_>,
@@ -81,7 +80,6 @@ fn starts_settled(
     Ok(found.is_settled(&state))
 }
 
-/// The state above a shared rule was found.
 fn leaf_settled(
     alloc: Global,
     found: &Found<'_>,
@@ -100,7 +98,6 @@ fn leaf_settled(
     starts_settled(alloc, found, front, &pool[k + 1..], pool[k].item.is_allow())
 }
 
-/// The states above shared rules were found.
 fn leaves_settled(
     alloc: Global,
     found: &Found<'_>,

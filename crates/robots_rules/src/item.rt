@@ -52,7 +52,6 @@ impl<'a> Item<'a> {
         self.number
     }
 
-    /// The item with another rest of its pattern.
     pub(crate) fn with(&self, rest: &'a [u8]) -> Item<'a>
         ensures { result ≡ (rest.now, self.now.1) }
     {

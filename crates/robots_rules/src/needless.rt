@@ -97,7 +97,6 @@ fn matches_nothing(alloc: Global, budget: &mut usize, rule: &Rule) -> Result<boo
     Ok(matches!(comparison, Comparison::Same))
 }
 
-/// The first rule matches every text that the other one matches.
 fn covers(alloc: Global, budget: &mut usize, wide: &Rule, narrow: &Rule) -> Result<bool, AllocError>
     ensures { IfOk result (λ is. IsTrue is → Covers wide.now.rule.0 narrow.now.rule.0) }
 {

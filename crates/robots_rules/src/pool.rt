@@ -61,7 +61,6 @@ fn push_entry<'a>(
     Ok(())
 }
 
-/// The rules of one list, or of these those that aren't shared.
 fn side_of<'a>(
     alloc: Global,
     pool: &[Entry<'a>],
@@ -82,7 +81,6 @@ fn side_of<'a>(
     Ok(side)
 }
 
-/// A state of these rules, or of those that aren't shared.
 pub(crate) fn state_of<'a>(
     alloc: Global,
     pool: &[Entry<'a>],

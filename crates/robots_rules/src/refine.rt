@@ -14,7 +14,6 @@ use std::alloc::{AllocError, Global};
 /// After so many rounds it gives up. In each, twice as many rules may be tracked.
 const ROUNDS: usize = 40;
 
-/// The text begins with `front`, and the two lists have opposite verdicts on it.
 pub(crate) fn differ_on(
     alloc: Global,
     pool: &[Entry<'_>],
@@ -34,7 +33,6 @@ pub(crate) fn differ_on(
     Ok(true)
 }
 
-/// The rule matches the text.
 fn matches(alloc: Global, item: &Item<'_>, text: &[u8]) -> Result<bool, AllocError> {
     let mut side = Side {
         items: Vec::new(alloc),

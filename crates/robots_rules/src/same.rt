@@ -68,7 +68,6 @@ fn without(
     Ok(left)
 }
 
-/// The other text has exactly the lines in which nothing was found.
 fn has_others(text: &[u8], left: &[u8], found: &BTreeMap<usize, Reason>) -> bool
     ensures { IsTrue result
         → file_bodies left.now ≡ left_from (is_found found.now) 0 (file_bodies text.now) }

@@ -76,7 +76,6 @@ fn push_next<'a>(side: &mut Side<'a>, item: Item<'a>, byte: u8) -> Result<(), Al
     push(side, item.with(&rest[1..]))
 }
 
-/// Pushes what a byte leaves of an item.
 fn push_after<'a>(side: &mut Side<'a>, item: &Item<'a>, byte: u8) -> Result<(), AllocError>
     ensures { OnOk result ((text : List ℕ) → verdict side.new text
         ≡ cond (matches true item.now.0 (byte ∷ text)) item.now.1 (verdict side.old text)) }
@@ -90,7 +89,6 @@ fn push_after<'a>(side: &mut Side<'a>, item: &Item<'a>, byte: u8) -> Result<(), 
     push_next(side, item.with(&rest[k..]), byte)
 }
 
-/// What a byte leaves of these items.
 fn step_items<'a>(
     alloc: Global,
     start: bool,

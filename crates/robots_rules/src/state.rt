@@ -25,7 +25,6 @@ impl<'a> Model for State<'a> {
 const OTHERS: &[u8] = b"abcdefghijklmnopqrstuvwxyz0123456789-_.~/%";
 
 impl<'a> State<'a> {
-    /// What is left after a byte.
     pub(crate) fn after(&self, alloc: Global, byte: u8) -> Result<State<'a>, AllocError>
         ensures { IfOk result (IsAfter (byte ∷ []) self.now) }
     {
@@ -65,7 +64,6 @@ impl<'a> State<'a> {
         is_same_side(&self.old, &other.old) && is_same_side(&self.new, &other.new)
     }
 
-    /// How many items it has.
     pub(crate) fn items(&self) -> usize {
         self.old.items.len().saturating_add(self.new.items.len())
     }
@@ -121,7 +119,6 @@ pub(crate) fn along<'a>(
     Ok(state)
 }
 
-/// A byte that isn't one of these.
 pub(crate) fn other_byte(bytes: &[u8]) -> Option<u8>
     ensures { IfSome result (λ byte. ¬ Contains bytes.now byte) }
 {

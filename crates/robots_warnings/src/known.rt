@@ -84,7 +84,6 @@ pub(crate) fn has_number(numbers: &[usize], number: usize) -> bool
     numbers.binary_search(&number).is_ok()
 }
 
-/// Whether a warning for this reason is about style.
 fn is_style(cause: Cause) -> bool
     ensures { result ≡ is_style cause }
 {
@@ -180,7 +179,6 @@ fn is_found(known: &Known<'_, '_>, cause: Cause, number: usize, detail: Option<D
     }
 }
 
-/// Whether the warning is about style, or so.
 fn is_so(known: &Known<'_, '_>, warning: &Warning<'_>) -> bool
     requires { IsKnown known.now }
     ensures { result ≡ true → IsSo known.now warning.now }

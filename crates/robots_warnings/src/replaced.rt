@@ -19,7 +19,6 @@ use texting_robots::site::{Site, SiteRule};
 
 type Patterns = HashSet<String>;
 
-/// How many Disallows there are.
 pub(crate) fn disallow_count(rules: &[SiteRule<'_>]) -> usize
     ensures { result ≡ count_by (λ placed. not placed.rule.1) rules.now }
 {

@@ -105,7 +105,6 @@ pub(crate) fn holds_escaped(bytes: &[u8]) -> bool
     few_hold_escaped(rest)
 }
 
-/// Appends the byte, escaped if it has to be.
 #[tactic(auto, unfolding(percent_encoding::specs::Percent::percent_encode_byte))]
 #[inline(always)]
 fn push_byte(out: &mut String, byte: u8) -> Result<(), AllocError>

@@ -187,7 +187,6 @@ fn first_wildcard(pattern: &[u8]) -> usize
     pattern.len() - rest.len() + wildcard_in_few(rest)
 }
 
-/// What precedes the first wildcard, and what begins with it.
 #[tactic(auto, using(crate::proofs::SegmentLemmas::cut_at_first))]
 fn cut_at_wildcard(pattern: &[u8]) -> (&[u8], &[u8])
     ensures { IsCutAtWildcard pattern.now result.0.now result.1.now }

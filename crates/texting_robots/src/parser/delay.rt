@@ -114,7 +114,6 @@ fn read_number(text: &[u8]) -> Option<Number<'_>>
     })
 }
 
-/// The first `count` digits, or all if there are fewer.
 fn first(digits: &[u8], count: usize) -> &[u8]
     ensures { result.now ≡ take count digits.now }
 {
