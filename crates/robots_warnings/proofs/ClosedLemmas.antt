@@ -2,7 +2,7 @@
 use Rattle.std.specs.{Prelude.slice_get, Prelude.Any, Prelude.MatchOption, Global.Global}
 use Rattle.std.specs.{HashSet.contains_text, String.string_eq, List.filter_map, List.list_any, Str.byte}
 use Rattle.std.specs.List.{before_first, position_or_len}
-use Rattle.std.proofs.lemmas.List.{length-take, take_all}
+use Rattle.std.proofs.lemmas.List.{length-take, take_all, get_or-map, length-map, Folds.list_any-append}
 use Rattle.robots_warnings.specs.Crawlers.{ends_token, is_near}
 use Rattle.std.specs.{Str.str_to_ascii_lowercase, BTreeSet.BTreeSet, BTreeSet.Updates, BTreeSet.contains}
 use Rattle.std.proofs.Common.{[], ◌≡◌, ℕ, ◌+◌, ◌==◌, Bool, false, true, List, ◌∷◌, ap, arith, inl, inr, refl}
@@ -12,7 +12,6 @@ use Rattle.std.proofs.Common.{All, if◌then◌else◌}
 use Rattle.std.specs.Option.{option_or}
 use Rattle.std.proofs.lemmas.List.Elements.{All-contains, All-map, All-weaker, Contains-append_right}
 use Rattle.std.proofs.lemmas.List.Elements.{filter_map-append}
-use Rattle.std.proofs.lemmas.List.{get_or-map, length-map, Folds.list_any-append}
 use Rattle.std.proofs.lemmas.Bool.{and_parts, or_parts, cases_Bool, false≢true, ne_eqb, Decides.nat_tests}
 use Rattle.std.proofs.lemmas.Map.Text.{is_eq-slice_cmp, hash_set_updates_text}
 use Rattle.texting_robots.specs.Callers.{AreSitemapsOf, Label, LineValue, PlacedRule, escaped, file_lines}

@@ -1,7 +1,6 @@
 -- Rules that contradict each other, and empty Disallows.
-use Rattle.std.specs.Prelude.{[], ℕ, Bool, false, filter, slice_get, Contains, bytes_eq}
-use Rattle.std.specs.Prelude.{if◌then◌else◌, length}
-use Rattle.std.specs.Prelude.{◌≡◌, ◌+◌, ◌==◌, not, ◌||◌, ◌&&◌, List, ◌∷◌, Some, true, codes}
+use Rattle.std.specs.Prelude.{[], ℕ, Bool, false, filter, slice_get, Contains, bytes_eq, if◌then◌else◌}
+use Rattle.std.specs.Prelude.{length, ◌≡◌, ◌+◌, ◌==◌, not, ◌||◌, ◌&&◌, List, ◌∷◌, Some, true, codes}
 use Rattle.std.specs.{Str.byte, List.list_any}
 use Rattle.texting_robots.specs.Callers.{Allow, Label, LineValue, PlacedRule, AreRulesFor, placed_rules}
 use Rattle.texting_robots.specs.{Statement.IsStatement, declared.parser.statement.Kind.TheVariants.Disallow}

@@ -1,11 +1,9 @@
 -- Warnings about closed sites and about conflicting rules.
 use Rattle.std.specs.Prelude.{is_some}
-use Rattle.std.proofs.{lemmas.Slice.Eq.bytes_eq-Decides}
-use Rattle.std.proofs.{lemmas.List.Elements.All-contains}
-use Rattle.std.proofs.Common.{rules, Some, bytes_eq, if◌then◌else◌, ◌∙◌, ◌≡◌, ℕ, ◌&&◌, ◌||◌, []}
-use Rattle.std.proofs.Common.{Bool, true, false, List, ◌∷◌, Contains, append-nil, ap, arith, inl, inr, length}
-use Rattle.std.proofs.Common.{not, refl, subst, sym, ◌⊎◌, None, Option, ◌≢◌, ◌<◌, ◌++◌, All, nat_eq}
-use Rattle.std.proofs.Common.{nat_le}
+use Rattle.std.proofs.{lemmas.Slice.Eq.bytes_eq-Decides, lemmas.List.Elements.All-contains}
+use Rattle.std.proofs.Common.{rules, Some, bytes_eq, if◌then◌else◌, ◌∙◌, ◌≡◌, ℕ, ◌&&◌, ◌||◌, [], Bool, true}
+use Rattle.std.proofs.Common.{false, List, ◌∷◌, Contains, append-nil, ap, arith, inl, inr, length, not, refl}
+use Rattle.std.proofs.Common.{subst, sym, ◌⊎◌, None, Option, ◌≢◌, ◌<◌, ◌++◌, All, nat_eq, nat_le}
 use Rattle.std.proofs.lemmas.Bool.{and_parts, not-true, or_cases, eq-eqb, false≢true}
 use Rattle.std.specs.{List.list_any, Str.byte, List.starts_with}
 use Rattle.std.proofs.lemmas.List.Folds.{list_any-from_Any, Any-from_list_any, list_any_at}

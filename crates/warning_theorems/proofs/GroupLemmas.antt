@@ -6,8 +6,7 @@ use Rattle.std.proofs.Common.{◌∙◌, suc, zero, Bool, true, false, not, List
 use Rattle.std.proofs.Common.{Option, None, Some, drop, filter, slice_get, take, ap, arith, length}
 use Rattle.std.specs.List.{enumerate_from, fold, list_any, count_by}
 use Rattle.std.proofs.lemmas.Bool.{and_parts, cases_Bool, false≢true, cases_lt, not-true, or_cases, or_right}
-use Rattle.std.proofs.lemmas.List.{Elements.Contains-append_cases}
-use Rattle.std.proofs.lemmas.List.{Sorted.sum_by-IsPermutation}
+use Rattle.std.proofs.lemmas.List.{Elements.Contains-append_cases, Sorted.sum_by-IsPermutation}
 use Rattle.texting_robots.specs.Callers.{AreLabelsOf, Label, LineValue, UserAgent, delay_for}
 use Rattle.texting_robots.specs.Callers.{file_bodies, file_limit, lines_read}
 use Rattle.texting_robots.specs.Callers.{group_name, AreRulesFor, HoldsRule, PlacedRule, Rule, placed_rules}
