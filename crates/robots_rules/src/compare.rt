@@ -36,7 +36,7 @@ fn order(one: &Item<'_>, other: &Item<'_>) -> Ordering {
         .then(one.rest().cmp(other.rest()))
 }
 
-/// The first one doesn't rank above the other one.
+/// Whether the first item doesn't rank above the other one.
 #[tactic(auto, using(crate::proofs::VerdictLemmas::shorter_below, crate::proofs::VerdictLemmas::disallow_below, crate::proofs::VerdictLemmas::below_allow))]
 pub(crate) fn is_below(one: &Item<'_>, other: &Item<'_>) -> bool
     ensures { IsTrue result → rank_of one.now ≤ rank_of other.now }
@@ -99,7 +99,7 @@ fn one_if(taken: bool) -> usize
     if taken { 1 } else { 0 }
 }
 
-/// The next one of both lists.
+/// The next item of both lists.
 fn next_entry<'a>(
     old: &[Item<'a>],
     new: &[Item<'a>],

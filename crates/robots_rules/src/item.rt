@@ -105,7 +105,7 @@ pub(crate) fn matches_end(rest: &[u8]) -> bool
     true
 }
 
-/// Adds the byte that matters to it as the next byte of the text, if there is one.
+/// Adds the byte that matters to the rest of a pattern as the next byte of the text, if there is one.
 pub(crate) fn add_next_byte(rest: &[u8], bytes: &mut Vec<u8>) -> Result<(), AllocError>
     ensures adds { OnOk result (Adds bytes.old.items bytes.new.items) }
     ensures alike { OnOk result ((b c : ℕ) (text : List ℕ)

@@ -337,7 +337,7 @@ fn add_copies(alloc: Global, to: &mut Vec<Rule>, rules: &[Rule]) -> Result<(), A
     Ok(())
 }
 
-/// About how long it takes to copy and sort them, in steps of a comparison.
+/// About how long it takes to copy and sort the rules, in steps of a comparison.
 fn cost_of(rules: &[Rule]) -> usize {
     let mut cost: usize = 0;
     for rule in rules {

@@ -113,7 +113,7 @@ fn is_known(pool: &[Entry<'_>], kind: bool) -> bool
     true
 }
 
-/// The rule is shared, and the state above it isn't that of a rule above.
+/// Whether the rule is shared, and the state above it isn't that of a rule above.
 pub(crate) fn needs_state(pool: &[Entry<'_>], k: usize) -> bool
     ensures { result ≡ false → (text : List ℕ) → LeavesAgree text (drop (k + 1) pool.now)
         → LeavesAgree text (drop k pool.now) }

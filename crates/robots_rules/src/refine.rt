@@ -48,7 +48,7 @@ fn matches(alloc: Global, item: &Item<'_>, text: &[u8]) -> Result<bool, AllocErr
     Ok(verdict_at_end(&side) == item.is_allow())
 }
 
-/// The rule matches the text, though it was left out.
+/// Whether the rule matches the text, though it was left out.
 fn is_missed(alloc: Global, entry: &Entry<'_>, text: &[u8]) -> Result<bool, AllocError> {
     if !entry.is_shared() {
         return Ok(false);

@@ -130,7 +130,7 @@ impl<'a> Found<'a> {
         Ok(())
     }
 
-    /// Adds those that one byte leads to. False if that would take too long.
+    /// Adds the states that one byte leads to. False if that would take too long.
     fn add_all_next(
         &mut self,
         alloc: Global,

@@ -142,7 +142,7 @@ pub(crate) fn verdict_at_end(side: &Side<'_>) -> bool
     kind_at_end(side.start, side.items.as_slice())
 }
 
-/// Adds the bytes that matter to them as the next byte of the text.
+/// Adds the bytes that matter to the items as the next byte of the text.
 pub(crate) fn add_next_bytes(items: &[Item<'_>], bytes: &mut Vec<u8>) -> Result<(), AllocError>
     ensures adds { OnOk result (Adds bytes.old.items bytes.new.items) }
     ensures alike { OnOk result (AreAlike bytes.new.items items.now) }

@@ -41,7 +41,7 @@ impl<'a> State<'a> {
         verdict_at_end(&self.old) == verdict_at_end(&self.new)
     }
 
-    /// The bytes that matter to it as the next byte of the text.
+    /// The bytes that matter to the state as the next byte of the text.
     pub(crate) fn next_bytes(&self, alloc: Global) -> Result<Vec<u8>, AllocError>
         ensures old { IfOk result (λ bytes. AreAlike bytes.items self.now.old.items) }
         ensures new { IfOk result (λ bytes. AreAlike bytes.items self.now.new.items) }
@@ -68,7 +68,7 @@ impl<'a> State<'a> {
         self.old.items.len().saturating_add(self.new.items.len())
     }
 
-    /// About how long a step of it takes, in steps of rules of ordinary lengths.
+    /// About how long a step of the state takes, in steps of rules of ordinary lengths.
     pub(crate) fn cost(&self) -> usize {
         cost_of(self.old.items.as_slice()).saturating_add(cost_of(self.new.items.as_slice()))
     }

@@ -16,7 +16,7 @@ fn steps_of(budget: usize) -> usize {
     (budget / 16).saturating_mul(STEPS)
 }
 
-/// Subtracts what was taken of that part.
+/// Subtracts from a budget what was taken of its part in steps of a match.
 fn take(budget: &mut usize, left: usize) {
     let taken = (*budget / 16).saturating_sub(left / STEPS);
     *budget = budget.saturating_sub(taken);

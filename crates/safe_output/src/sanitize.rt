@@ -35,7 +35,7 @@ fn is_printable_byte(byte: u8, has_lines: bool) -> bool
     ((byte >= b' ') & (byte <= b'~')) | (has_lines & (byte == b'\n'))
 }
 
-/// The loop doesn't stop at the first that isn't, since usually all are.
+/// The loop doesn't stop at the first unprintable byte, since usually there is none.
 pub(crate) fn are_printable_bytes(bytes: &[u8], has_lines: bool) -> bool
     ensures { result ≡ list_all (is_printable_byte has_lines) bytes.now }
 {
