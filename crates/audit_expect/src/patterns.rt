@@ -100,8 +100,8 @@ fn longer_pattern(alloc: Global, pattern: &[u8], rules: &[Rule]) -> Result<Strin
     Ok(longer)
 }
 
-/// Whether all paths that the pattern `url` matches are decided as expected: if so, a rule that demands it,
-/// and is longer than the others, changes no verdict.
+/// Whether all paths that the pattern `url` matches are decided as expected: they are, if a rule that demands
+/// it, and is longer than the others, changes no verdict.
 pub(crate) fn on_paths(
     alloc: Global,
     allowed: bool,

@@ -84,7 +84,7 @@ fn write_crawler(out: &mut Lines<'_>, audit: &Audit<'_>, agent: &AgentAudit<'_>)
     out.end_line();
 }
 
-/// Writes about each crawler, or if `denied_only` is true about each that has verdicts.
+/// Writes about each crawler, or if `denied_only` is true about each that has verdicts or a rejected file.
 pub(crate) fn write_crawlers(out: &mut Lines<'_>, denied_only: bool, audit: &Audit<'_>) {
     for agent in &audit.agents {
         if !denied_only || agent.rejected.is_some() || !agent.verdicts.is_empty() {

@@ -156,7 +156,7 @@ fn is_conflict(lines: &RuleLines, number: usize, detail: Option<Detail>) -> bool
     }
 }
 
-/// Whether the cause holds of the line with this number, among others.
+/// Whether a cause that depends on several lines holds of the line with this number.
 fn is_found(known: &Known<'_, '_>, cause: Cause, number: usize, detail: Option<Detail>) -> bool
     requires { IsKnown known.now }
     ensures { (about : Option (List ℕ)) → result ≡ true → SaysSo known.now cause number about detail }

@@ -20,7 +20,7 @@ fn level_front(level: Level) -> &'static str {
     }
 }
 
-/// Writes warnings as one, which have these lines.
+/// Writes a warning, which stands for all in these lines.
 fn write_warning(page: &mut Page, together: Together<'_>, lines: &[usize], warning: &Warning<'_>) {
     let (level, name) = (level_front(warning.cause.level()), warning.cause.name());
     let (message, also) = (Message(warning, together), AlsoIn(lines, warning));
