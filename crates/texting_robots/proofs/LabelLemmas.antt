@@ -41,22 +41,22 @@ len_if_nowhere test hay none = position_or_len_is test hay (length hay) 0 (omega
     (λ i l. false_from_ne_true (test (get_or hay i 0)) (none i (omega arith) l))
     (λ l. absurd (omega (arith, l)))
 
-pub before_if_first : (test : ℕ → Bool) (hay : List ℕ) (k : ℕ)
+pub take_if_first : (test : ℕ → Bool) (hay : List ℕ) (k : ℕ)
     → NoneBefore (Passes test hay) 0 (length hay) k → Passes test hay k
     → take k hay ≡ before_first test hay
-before_if_first test hay k none is = grind (arith, position_if_first)
+take_if_first test hay k none is = grind (arith, position_if_first)
 
-pub before_if_nowhere : (test : ℕ → Bool) (hay : List ℕ) → Nowhere (Passes test hay) 0 (length hay)
+pub all_if_nowhere : (test : ℕ → Bool) (hay : List ℕ) → Nowhere (Passes test hay) 0 (length hay)
     → hay ≡ before_first test hay
-before_if_nowhere test hay none = grind (arith, len_if_nowhere, take_all)
+all_if_nowhere test hay none = grind (arith, len_if_nowhere, take_all)
 
 nowhere : (test : ℕ → Bool) (hay : List ℕ) → list_any test hay ≡ false
     → Nowhere (Passes test hay) 0 (length hay)
 nowhere test hay none k low high is = grind (arith, list_any_at)
 
-pub before_if_none : (test : ℕ → Bool) (hay : List ℕ) → list_any test hay ≡ false
+pub all_if_none : (test : ℕ → Bool) (hay : List ℕ) → list_any test hay ≡ false
     → hay ≡ before_first test hay
-before_if_none test hay none = before_if_nowhere test hay (nowhere test hay none)
+all_if_none test hay none = all_if_nowhere test hay (nowhere test hay none)
 
 pub some_found : (test : ℕ → Bool) (hay : List ℕ) (found : Option ℕ) → IsFirstByte test hay found
     → is_some found ≡ list_any test hay

@@ -166,9 +166,9 @@ pub agent_or_other : (found : Option Kind) (line : LineValue) → IsKindOf found
     → (found ≡ Some kind.UserAgent) ⊎ (is_agent line ≡ false)
 agent_or_other found line is = grind arith
 
-pub other_no_agent : (body : List ℕ) → ¬ (kind_by (skip_blanks body) ≡ Some kind.UserAgent)
+pub no_agent_kind : (body : List ℕ) → ¬ (kind_by (skip_blanks body) ≡ Some kind.UserAgent)
     → is_agent (line_of body) ≡ false
-other_no_agent body other =
+no_agent_kind body other =
     elim (agent_or_other _ _ (kind_is body)) [ inl is ↦ absurd (other is) | inr none ↦ none ]
 
 pub delay_or_other : (found : Option Kind) (line : LineValue) → IsKindOf found line

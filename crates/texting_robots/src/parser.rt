@@ -116,7 +116,7 @@ impl<'a> LazyLine<'a> {
     }
 
     /// Whether the line names the crawler, if it is a user-agent line.
-    #[tactic(auto, using(crate::proofs::LineLemmas::no_agent_tail, crate::proofs::LineLemmas::other_no_agent))]
+    #[tactic(auto, using(crate::proofs::LineLemmas::no_agent_tail, crate::proofs::LineLemmas::no_agent_kind))]
     #[inline(always)]
     pub(crate) fn naming(&self, agent: &[u8]) -> Option<bool>
         ensures { MatchOption result (is_agent self.now ≡ false) (λ named. (is_agent self.now ≡ true)

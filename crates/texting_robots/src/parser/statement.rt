@@ -210,7 +210,7 @@ fn holds_hash(text: &[u8]) -> bool
     }
 }
 
-#[tactic(auto, using(crate::proofs::LabelLemmas::before_if_first, crate::proofs::LabelLemmas::before_if_nowhere))]
+#[tactic(auto, using(crate::proofs::LabelLemmas::take_if_first, crate::proofs::LabelLemmas::all_if_nowhere))]
 #[inline(never)]
 fn before_hash<'a>(tail: &'a [u8]) -> &'a [u8]
     ensures { result.now ≡ region_of tail.now }
@@ -222,7 +222,7 @@ fn before_hash<'a>(tail: &'a [u8]) -> &'a [u8]
 }
 
 /// The tail without its comment. Most have none, so that is tested first.
-#[tactic(auto, using(crate::proofs::LabelLemmas::before_if_none))]
+#[tactic(auto, using(crate::proofs::LabelLemmas::all_if_none))]
 fn region_of<'a>(tail: &'a [u8]) -> &'a [u8]
     ensures { result.now ≡ region_of tail.now }
 {

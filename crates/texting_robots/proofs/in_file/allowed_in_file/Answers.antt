@@ -9,4 +9,5 @@ returns-in_err-robot-clause-answer c = λ lines rules file are.
 pub returns-clause-answer : goal.returns-clause-answer
 returns-clause-answer c = λ lines rules file are.
     robot_answers c.args.agent.now lines rules _ _ _ _
-    (lines_satisfy _ _ c.in_ok-robot.ensures.robot lines file) are c.allowed_view.ensures.verdict c.allowed_view.ensures.looks
+    (lines_satisfy _ _ c.in_ok-robot.ensures.robot lines file) are c.allowed_view.ensures.verdict
+    c.allowed_view.ensures.looks
