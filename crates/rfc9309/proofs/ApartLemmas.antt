@@ -6,8 +6,7 @@ use Rattle.std.proofs.Common.{refl, suc, subst, sym, zero, ◌∙◌}
 use Rattle.std.specs.List.{AllByRecursion as Each, AllZip, ends_with, list_any, position_from}
 use Rattle.std.specs.Option.{option_or}
 use Rattle.std.proofs.lemmas.Bool.{and_parts, both_ways, cases_Bool, eqb-true, not-false, not-true, leb-true}
-use Rattle.std.proofs.lemmas.Bool.{or_cases}
-use Rattle.std.proofs.lemmas.Simd.{map-map}
+use Rattle.std.proofs.lemmas.{Bool.or_cases, Simd.map-map}
 use Rattle.std.proofs.lemmas.Bool.Decides.{nat_tests}
 use Rattle.std.proofs.lemmas.List.Folds.{list_any-from_Any}
 use Rattle.std.proofs.lemmas.Slice.Eq.{bytes_eq-Decides}
@@ -15,8 +14,7 @@ use Rattle.texting_robots.specs.Callers.{IsRobotOfFile, IsVerdict, PlacedRule, R
 use Rattle.texting_robots.specs.Callers.{IsFileRejected, IsOverlong, agents_in, placed_rules, unplaced}
 use Rattle.texting_robots.specs.Executable.{file_bodies, file_lines, rules_for}
 use Rattle.texting_robots.specs.Line.{Allow, CrawlDelay, Disallow, LineValue, Raw, UserAgent, nul_as_lf}
-use Rattle.texting_robots.specs.Line.{without_bom}
-use Rattle.texting_robots.specs.{Trim.IsTrimOf, Cut.IsBodyByte, Cut.lf}
+use Rattle.texting_robots.specs.{Line.without_bom, Trim.IsTrimOf, Cut.IsBodyByte, Cut.lf}
 use Rattle.texting_robots.specs.Internal.{Line.line_of, Statement.trimmed}
 use Rattle.texting_robots.proofs.Shared.{placed_of, each_append, trim_unique, trimmed_is_trim}
 use Rattle.texting_robots.proofs.Shared.{collapsed_within}

@@ -10,8 +10,7 @@ use Rattle.texting_robots.specs.{Rules.PlacedRule, Rules.Rule, Rules.unplaced}
 use Rattle.texting_robots.specs.Pattern.{Matches, MatchesWith, dollar, star}
 use Rattle.texting_robots.specs.Verdict.{IsDenied, robots_file}
 use Rattle.texting_robots.proofs.Shared.{matches, matches_decides, placed_of}
-use Rattle.robots_rules.specs.Internal.{rank_of}
-use Rattle.robots_rules.specs.Same.{HaveSameVerdicts}
+use Rattle.robots_rules.specs.{Internal.rank_of, Same.HaveSameVerdicts}
 use Rattle.robots_rules.specs.Search.{Covers, IsNoRival, IsReducedTo, Replaces, least_rival, others}
 use Rattle.robots_rules.proofs.TogetherLemmas.{in_cons, unplaced_of, verdicts}
 

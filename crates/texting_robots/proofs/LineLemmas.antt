@@ -6,9 +6,8 @@ use Rattle.std.specs.{List.AllZip, Str.str_to_ascii_lowercase}
 use Rattle.std.proofs.lemmas.Bool.{cases_Bool, cond-true, cond-false, ne_eqb, Decides.eqb_tells}
 use Rattle.texting_robots.specs.{declared.parser.statement.Kind.Kind, Cut.lf, Delay.IsDelay}
 use Rattle.texting_robots.specs.Group.{is_agent, is_agent_named}
-use Rattle.texting_robots.specs.Internal.{Delay.delay_of, Cut.bodies_of, Cut.cut}
+use Rattle.texting_robots.specs.Internal.{Delay.delay_of, Cut.bodies_of, Cut.cut, Statement.value_of}
 use Rattle.texting_robots.specs.Internal.Statement.{colon, kind_by, skip_blanks, statement_of, tail_as}
-use Rattle.texting_robots.specs.Internal.Statement.{value_of}
 use Rattle.texting_robots.specs.Executable.{file_bodies, file_lines, parsed}
 use Rattle.texting_robots.specs.Statement.{IsAfterBlanks, IsAfterColon, IsStatement}
 use Rattle.texting_robots.specs.Line.{AreFileBodiesOf, AreLinesOf, HoldRangesOf, HoldsRangeOf, IsLineOf, Raw}

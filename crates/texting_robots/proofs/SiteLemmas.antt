@@ -16,9 +16,8 @@ use Rattle.texting_robots.specs.Internal.Site.{Named, Tagged, delay_of, has_name
 use Rattle.texting_robots.specs.Internal.Site.{rule_of, count_after, named_from, own_tagged, tagged_from}
 use Rattle.texting_robots.specs.Internal.Site.{early_after}
 use Rattle.texting_robots.proofs.{RulesLemmas.delay_from, RulesLemmas.last_or_cons}
-use Rattle.texting_robots.proofs.{ExecutableLemmas.given_come}
+use Rattle.texting_robots.proofs.{ExecutableLemmas.given_come, CapturedLemmas.is_captured_decides}
 use Rattle.texting_robots.proofs.CapturedLemmas.{captured_walked, filter_map_if, cond_some_iff, cond_same}
-use Rattle.texting_robots.proofs.CapturedLemmas.{is_captured_decides}
 use Rattle.texting_robots.specs.Groups.{GroupValue, grouped_from, groups, is_for, lines_for, with_name}
 
 -- ---- What the `GroupTracker` captures for a name is what the groups with that name contain.

@@ -11,16 +11,14 @@ use Rattle.texting_robots.specs.Rules.{IsFirstOverlong, PlacedRule}
 use Rattle.texting_robots.specs.{declared.error.Error.Error, Error.IsMemoryErrorOr, Executable.IsRejectionOf}
 use Rattle.texting_robots.specs.declared.error.Error.TheVariants as error
 use Rattle.texting_robots.specs.Group.{group_name, is_agent, is_member}
-use Rattle.texting_robots.specs.{Pattern.IsOverlong, Internal.Group.from_captured}
+use Rattle.texting_robots.specs.{Pattern.IsOverlong, Internal.Group.from_captured, Robot.IsRobotOf}
 use Rattle.texting_robots.specs.declared.site.{lines.ByteRange.ByteRange, own.Position.Position}
-use Rattle.texting_robots.specs.{Robot.IsRobotOf, Robot.RobotValue, Line.LineValue, Line.UserAgent}
+use Rattle.texting_robots.specs.{Robot.RobotValue, Line.LineValue, Line.UserAgent, Executable.placed_rules}
 use Rattle.texting_robots.specs.Executable.{captured_delays, captured_lines, file_lines, delay_for}
-use Rattle.texting_robots.specs.Executable.{placed_rules}
 use Rattle.texting_robots.proofs.{CapturedLemmas.captured_walked, ExecutableLemmas.delay_is_computed}
 use Rattle.texting_robots.proofs.SiteNameLemmas.{drop_is, first_here, here, later_at, past_end}
-use Rattle.texting_robots.proofs.SiteNameLemmas.{groups_from_first}
+use Rattle.texting_robots.proofs.{SiteNameLemmas.groups_from_first, MainTheoremLemmas.rules_are_computed}
 use Rattle.texting_robots.proofs.MainTheoremLemmas.{overlong_rejected, rejection_is_computed}
-use Rattle.texting_robots.proofs.MainTheoremLemmas.{rules_are_computed}
 use Rattle.texting_robots.proofs.SiteLemmas.{delay_of_group, given_push, rule_of_group, none_later}
 use Rattle.texting_robots.specs.Internal.Site.{Named, Tagged, delay_of, in_front, is_group_of, named, listed}
 use Rattle.texting_robots.specs.Internal.Site.{own_tagged, rejection_at, rule_of, tagged, tagged_from}

@@ -1,8 +1,7 @@
 use Rattle.std.proofs.Common.{◌-◌, arith, sym, ◌∙◌}
 use Rattle.std.{proofs.lemmas.Option.slice_get_within, specs.Str.str_to_ascii_lowercase}
-use Rattle.texting_robots.proofs.NameLemmas.{tested_names}
+use Rattle.texting_robots.proofs.{NameLemmas.tested_names, SiteNameLemmas.walk_on}
 use Rattle.texting_robots.proofs.SiteNameLemmas.{agent_at, first_named_zero, next_is_after, first_named_next}
-use Rattle.texting_robots.proofs.SiteNameLemmas.{walk_on}
 use Rattle.texting_robots.proofs.site.names.NameIndex.find_from.Goals as goal
 
 pub loop-position-preserved : goal.loop-position-preserved
