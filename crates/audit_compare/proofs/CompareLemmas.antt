@@ -11,7 +11,7 @@ use Rattle.texting_robots.specs.declared.labels.LabeledLine.{LabeledLine}
 use Rattle.robots_rules.specs.Same.{HaveSameVerdicts}
 use Rattle.robots_warnings.specs.{File.lines_of}
 use Rattle.audit_core.specs.{Audit.VerdictValue}
-use Rattle.audit_core.proofs.{AuditLemmas.none_of}
+use Rattle.audit_core.proofs.{AuditLemmas.nil_if_empty}
 use Rattle.audit_compare.specs.declared.compared.{Compared.Compared, RuleChanges.RuleChanges}
 use Rattle.audit_compare.specs.Compare.{AreChanges, IsCompared, are_none, changes_in, has_rule}
 use Rattle.audit_compare.specs.Compare.{is_same_rule}
@@ -81,7 +81,8 @@ module _ (older newer : List PlacedRule) where
       → IsVerdict (unplaced older) text allowed ↔ IsVerdict (unplaced newer) text allowed
   unchanged_alike rules are none text allowed =
       let (first, second) = and_parts _ (length rules.added.items == 0) none in
-      decide_alike text allowed (sym are.removed_are ∙ none_of _ first) (sym are.added_are ∙ none_of _ second)
+      decide_alike text allowed (sym are.removed_are ∙ nil_if_empty _ first)
+      (sym are.added_are ∙ nil_if_empty _ second)
 
   pub same_verdicts : (rules : RuleChanges) → AreChanges older newer rules → are_none rules ≡ true
       → HaveSameVerdicts (codes "/") (unplaced older) (unplaced newer)

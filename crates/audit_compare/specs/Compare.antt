@@ -21,7 +21,7 @@ is_same_rule one other = beq one.1 other.1 && bytes_eq one.0 other.0
 abbrev pub has_rule : List PlacedRule → Rule → Bool
 has_rule rules rule = list_any (λ (placed : PlacedRule). is_same_rule placed.rule rule) rules
 
--- those of the rules that the others lack, in order
+-- the rules that the others lack, in order
 abbrev pub rules_lacked : List PlacedRule → List PlacedRule → List PlacedRule
 rules_lacked others rules = filter (λ (placed : PlacedRule). not (has_rule others placed.rule)) rules
 
@@ -29,7 +29,7 @@ rules_lacked others rules = filter (λ (placed : PlacedRule). not (has_rule othe
 abbrev pub rules_only_in : List LineValue → List LineValue → List ℕ → List PlacedRule
 rules_only_in lines others agent = rules_lacked (placed_rules agent others) (placed_rules agent lines)
 
--- those of the rules that the other file lacks
+-- the rules of each list that the other one lacks
 pub record AreChanges (older newer : List PlacedRule) (rules : RuleChanges) : Type 0 where
   pub removed_are : rules.removed.items ≡ rules_lacked newer older
   pub added_are : rules.added.items ≡ rules_lacked older newer
@@ -52,7 +52,7 @@ change_on rules one other =
     if is_same_decision rules one.decision other.decision then []
     else (one.url, one.decision, other.decision) ∷ []
 
--- the same for each URL
+-- the changes on all URLs, in order
 abbrev pub changes_in : RuleChanges → (older newer : List VerdictValue) → List Changed
 changes_in rules (one ∷ older) (other ∷ newer) = change_on rules one other ++ changes_in rules older newer
 changes_in rules _ _ = []

@@ -58,7 +58,7 @@ pub record IsVendorChange (older newer : List LineValue) (agent : List ℕ) (ven
   pub newer_is : string_bytes vendor.newer ≡ name_at_vendor newer agent
   pub verdicts_are : AreVerdicts (rules_at_vendor older agent) (rules_at_vendor newer agent) vendor.verdicts
 
--- the same, unless that is here
+-- what changes at the vendor, unless it applies the groups that apply here
 abbrev pub AreAtVendor : (older newer : List LineValue) (agent : List ℕ) → Option VendorChange → Type 0
 AreAtVendor older newer agent None = is_here older newer agent ≡ true
 AreAtVendor older newer agent (Some vendor) = IsVendorChange older newer agent vendor

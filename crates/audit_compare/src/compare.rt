@@ -40,7 +40,7 @@ pub struct Comparison<'a> {
     pub crawlers: Vec<Compared<'a>>,
     /// The sitemaps that only the older file lists.
     pub removed: Vec<&'a [u8]>,
-    /// Those that only the newer one lists.
+    /// The sitemaps that only the newer file lists.
     pub added: Vec<&'a [u8]>,
 }
 

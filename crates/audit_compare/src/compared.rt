@@ -25,9 +25,9 @@ pub struct UrlChange<'a> {
 
 #[derive(Drop)]
 pub struct RuleChanges {
-    /// Those that only the older file has.
+    /// Rules that only the older file has.
     pub removed: Vec<Rule>,
-    /// Those that only the newer one has.
+    /// Rules that only the newer file has.
     pub added: Vec<Rule>,
 }
 
@@ -58,7 +58,8 @@ fn is_in_line_of(rules: &[Rule], line: Option<usize>) -> bool
     rules.iter().any(|rule| line == Some(rule.line))
 }
 
-/// Both allow or both deny, the rule that decided wasn't removed, and the one that decides now wasn't added.
+/// Whether both decisions allow or both deny, the older one's rule wasn't removed, and the newer one's wasn't
+/// added.
 fn is_same_decision(rules: &RuleChanges, older: &Decision, newer: &Decision) -> bool
     ensures { result ≡ is_same_decision rules.now older.now newer.now }
 {

@@ -212,7 +212,6 @@ fn has_unchanged(crawlers: &[Compared<'_>]) -> bool
     crawlers.iter().any(is_unchanged)
 }
 
-/// What is said of the unchanged ones, if there are some.
 pub(crate) fn unchanged_words(crawlers: &[Compared<'_>]) -> &'static str
     ensures { result.now ≡ unchanged_words crawlers.now }
 {
@@ -223,7 +222,7 @@ pub(crate) fn unchanged_words(crawlers: &[Compared<'_>]) -> &'static str
     }
 }
 
-/// Of a crawler that loses everything, or the home page.
+/// An error for a crawler that loses everything, a warning for one that loses the home page, else a note.
 fn change_level(newer: Reach, example: &Example) -> Level {
     match newer {
         Reach::Nothing => Level::Error,
@@ -232,7 +231,6 @@ fn change_level(newer: Reach, example: &Example) -> Level {
     }
 }
 
-/// That no verdict changes, or that it isn't decided.
 fn without_example(is_same: bool) -> &'static str
     ensures { result.now ≡ without_example is_same }
 {

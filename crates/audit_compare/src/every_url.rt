@@ -22,9 +22,9 @@ pub struct Example {
 /// What becomes of the verdicts of all URLs.
 #[derive(Drop)]
 pub enum Verdicts {
-    /// None changes.
+    /// No verdict changes.
     Same,
-    /// Some change, such as that of this path.
+    /// Some verdicts change, such as that of this path.
     Other(Example),
     /// A file is rejected, or the search gave up, or found a match target that is that of no path.
     Undecided,

@@ -9,7 +9,6 @@ use std::alloc::Global;
 use std::fmt;
 use std::fmt::Write;
 
-/// Adds what these sections say of each of these crawlers.
 fn add_crawlers(
     alloc: Global,
     found: &mut Findings,

@@ -73,7 +73,6 @@ fn copies_of(alloc: Global, rules: &[Rule]) -> Result<Vec<Rule>, AllocError>
     Ok(copies)
 }
 
-/// Those of the rules that the others lack, in order.
 pub(crate) fn rules_lacked(
     alloc: Global,
     others: &[Rule],

@@ -9,7 +9,7 @@ use std::alloc::{AllocError, Global};
 use std::collections::BTreeSet;
 use texting_robots::labels::LabeledLine;
 
-/// Those of the texts that aren't among the others, each once, in order.
+/// The texts that aren't among `others`, each once, in order.
 fn texts_only_in<'a>(
     alloc: Global,
     texts: &[&'a [u8]],

@@ -57,7 +57,7 @@ fn file_of_group<'f>(
     if name.is_empty() { empty } else { read }
 }
 
-/// `None` if that is here.
+/// What changes at the vendor; `None` if it applies the groups that apply here.
 pub(crate) fn at_vendor(
     alloc: Global,
     agent: &str,

@@ -1,10 +1,8 @@
 -- Warnings that an audit has besides those about its lines, and which of all are reported.
 use Rattle.std.proofs.Common.{◌≡◌, ◌∙◌, ◌<◌, ◌+◌, ◌||◌, ℕ, All, Bool, true, false, Contains, List, [], ◌∷◌}
-use Rattle.std.proofs.Common.{◌++◌}
-use Rattle.std.proofs.Common.{MatchOption, Option, None, Some, ap, ap₂, append-nil, append_assoc, codes}
-use Rattle.std.proofs.Common.{filter}
-use Rattle.std.proofs.Common.{flat_map, if◌then◌else◌, inl, inr, length, option_to_list, refl, slice_index_or}
-use Rattle.std.proofs.Common.{sym, take}
+use Rattle.std.proofs.Common.{◌++◌, MatchOption, Option, None, Some, ap, ap₂, append-nil, append_assoc, codes}
+use Rattle.std.proofs.Common.{filter, flat_map, if◌then◌else◌, inl, inr, length, option_to_list, refl}
+use Rattle.std.proofs.Common.{slice_index_or, sym, take}
 use Rattle.std.proofs.lemmas.Bool.{cases_Bool, false≢true}
 use Rattle.std.proofs.lemmas.List.{Concat.flat_map-append, map-append, take_more}
 use Rattle.std.proofs.lemmas.List.Elements.{All-append, All-cons, All-filter, All-head, All-nil, All-tail}

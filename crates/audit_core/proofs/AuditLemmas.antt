@@ -19,7 +19,7 @@ use Rattle.audit_core.specs.Internal.Agents.{AddsAgent, HasAgents, has_lowered}
 use Rattle.robots_warnings.proofs.{ClosedLemmas.any_last}
 use Rattle.robots_warnings.specs.{File.lines_of}
 use Rattle.audit_core.specs.Audit.{IsRuling, IsVerdictOn, VerdictValue}
-use Rattle.texting_robots.proofs.Shared.{delay_is_computed, answers_computed, lines_are_read, of_lines}
+use Rattle.texting_robots.proofs.Shared.{delay_is_computed, answer_as_placed, lines_are_read, lines_satisfy}
 use Rattle.texting_robots.proofs.Shared.{read_robot}
 use Rattle.audit_core.specs.{Target.asked_target}
 
@@ -86,9 +86,9 @@ zips_joined R [] (y ∷ ys) more others are too = absurd are
 zips_joined R (x ∷ xs) [] more others are too = absurd are
 zips_joined R (x ∷ xs) (y ∷ ys) more others are too = (are.0, zips_joined R xs ys more others are.1 too)
 
-pub none_of : {X : Type 0} (xs : List X) → (length xs == 0) ≡ true → xs ≡ []
-none_of [] is = refl
-none_of (x ∷ xs) is =
+pub nil_if_empty : {X : Type 0} (xs : List X) → (length xs == 0) ≡ true → xs ≡ []
+nil_if_empty [] is = refl
+nil_if_empty (x ∷ xs) is =
     let none : length (x ∷ xs) ≡ 0 = (Decides-eqb (length (x ∷ xs)) 0).0 is in absurd (omega arith)
 
 pub zip_next : {A B V : Type 0} (R : B → V → Type 0) (f : A → B) (items : List A) (place : ℕ) (item : A)
@@ -124,7 +124,7 @@ pub ruling_made : (urls : List (List ℕ)) (file agent : List ℕ) (robot : Robo
 ruling_made urls file agent robot verdicts of are =
     let lines = lines_read file in
     let is = read_robot agent file _ of.2 in
-    let alike = answers_computed agent lines robot.rules is.rules in
+    let alike = answer_as_placed agent lines robot.rules is.rules in
     (is.accepted, verdicts_like robot.rules (placed_rules agent lines) alike urls verdicts are)
 
 pub delay_read : (agent file : List ℕ) (delay : Option ℕ)
@@ -132,4 +132,4 @@ pub delay_read : (agent file : List ℕ) (delay : Option ℕ)
     → delay ≡ delay_for agent (lines_read file)
 delay_read agent file delay has =
     (delay_is_computed agent (lines_read file) delay).0
-    (of_lines _ (λ lines. IsDelayFor agent lines delay) has (lines_read file) (lines_are_read file))
+    (lines_satisfy _ (λ lines. IsDelayFor agent lines delay) has (lines_read file) (lines_are_read file))

@@ -7,7 +7,7 @@ use Rattle.texting_robots.specs.Callers.{Allow, LineValue}
 use Rattle.texting_robots.specs.{Statement.IsStatement, Internal.Line.line_of}
 use Rattle.texting_robots.specs.declared.parser.statement.Kind.{Kind, TheVariants.Disallow}
 use Rattle.texting_robots.specs.Internal.Statement.{kind_by, skip_blanks, statement_of}
-use Rattle.texting_robots.proofs.Shared.{found_statement, line_raw, line_stated, statement_found}
+use Rattle.texting_robots.proofs.Shared.{statement_sound, line_raw, line_stated, statement_complete}
 use Rattle.robots_warnings.specs.Conflicts.{begins_with_d, is_empty_disallow}
 use Rattle.safe_output.specs.{Bytes.trim_blanks_start}
 
@@ -37,7 +37,7 @@ module _ (body : List ℕ) where
     where
       at : (found : Option (Kind × List ℕ)) → statement_of body ≡ found → IsStatement Disallow [] body
       at None none = let wrong = rw (line_raw body none) at is in cc
-      at (Some (Disallow, [])) stated = found_statement Disallow [] body stated
+      at (Some (Disallow, [])) stated = statement_sound Disallow [] body stated
       at (Some (Disallow, b ∷ value)) stated =
           let wrong = rw (line_stated body Disallow (b ∷ value) stated) at is in cc
       at (Some (_, value)) stated =
@@ -45,9 +45,9 @@ module _ (body : List ℕ) where
 
   pub stated_empty : IsStatement Disallow [] body → is_empty_disallow (line_of body) body ≡ true
   stated_empty is =
-      let stated = statement_found Disallow [] body is in
+      let stated = statement_complete Disallow [] body is in
       rw (line_stated body Disallow [] stated) (selected Disallow [] stated)
 
   -- as an Allow of `/`
   pub empty_allows : IsStatement Disallow [] body → line_of body ≡ Allow (codes "/")
-  empty_allows is = line_stated body Disallow [] (statement_found Disallow [] body is)
+  empty_allows is = line_stated body Disallow [] (statement_complete Disallow [] body is)

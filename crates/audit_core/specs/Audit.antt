@@ -162,7 +162,7 @@ pub record IsAuditOf (requested : RequestValue) (file : List ℕ) (audit : Audit
   -- the line that closes the site to a crawler has a warning
   pub closed : is_chosen requested.only requested.ignored (codes "closes-everything") ≡ true
       → HasClosed (agents_requested requested.agents (lines_read file)) (lines_read file) audit.warnings
-  -- and so has an empty Disallow that overrules a Disallow for a crawler
+  -- an empty Disallow that overrules a Disallow for a crawler has a warning
   pub overruling : is_chosen requested.only requested.ignored (codes "empty-disallow") ≡ true
       → HasOverruling (is_empty_at (labels_requested requested file))
       (agents_requested requested.agents (lines_read file)) (lines_read file) audit.warnings

@@ -24,7 +24,7 @@ pub record IsCrawlerIn (file : List ℕ) (crawler : Crawler) : Type 0 where
   pub rules_are : crawler.rules.items ≡ placed_rules crawler.agent.now (lines_read file)
   pub reading_is : IsReading crawler.agent.now file crawler.reading
 
--- such warnings are appended, and those of needless rules are in these lines
+-- plain warnings are appended, and those of needless rules are in these lines
 pub record AddsNeedless (lines : List ℕ) (old new : List WarningValue) : Type 0 where
   pub added : List WarningValue
   pub appended : new ≡ old ++ added

@@ -1,7 +1,6 @@
 -- What a crawler may fetch. Crawlers ask for match targets, which begin with `/`.
 use Rattle.std.specs.Prelude.{◌≡◌, ◌≢◌, ℕ, Bool, true, false, ◌&&◌, List, [], ◌∷◌, ◌++◌, Contains, codes}
-use Rattle.std.specs.Prelude.{length}
-use Rattle.std.specs.Prelude.{nat_le, not}
+use Rattle.std.specs.Prelude.{length, nat_le, not}
 use Rattle.texting_robots.specs.Callers.{IsVerdict, Matches, PlacedRule, robots_file, unplaced}
 use Rattle.robots_warnings.specs.Closed.{is_whole_site}
 use Rattle.audit_core.specs.declared.reach.Reach.{Reach}

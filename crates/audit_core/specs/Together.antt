@@ -24,6 +24,6 @@ is_needless causes.AllowedAnyway = true
 is_needless causes.NotNeeded = true
 is_needless cause = false
 
--- its line, if the warning is about a needless rule
+-- the line of a warning, if that is about a needless rule
 abbrev pub needless_line : WarningValue → List ℕ
 needless_line warning = if is_needless warning.cause then option_to_list warning.line else []

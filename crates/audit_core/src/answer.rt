@@ -9,7 +9,8 @@ use std::io::Write;
 
 #[derive(Drop)]
 pub struct Outcome {
-    /// For a crawler of the report. Expectations fail then, so it is `false` after `--expect`.
+    /// Whether the file is rejected for a crawler of the report. After `--expect` it is `false`, as
+    /// expectations fail then.
     pub is_rejected: bool,
     /// After an audit, whether each crawler for which the file isn't rejected may fetch every URL of the
     /// request; after `--expect`, whether all expectations hold; after `--compare`, whether nothing differs;
@@ -17,7 +18,7 @@ pub struct Outcome {
     pub has_passed: bool,
     /// Whether a warning is at the level of `--strict`, or at a more serious one.
     pub is_warned: bool,
-    /// One per line; empty if they are in the report.
+    /// The warnings, one per line; empty if they are in the report.
     pub warnings: String,
 }
 

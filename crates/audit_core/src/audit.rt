@@ -52,17 +52,17 @@ impl<'a> Model for Verdict<'a> {
 pub struct AgentAudit<'a> {
     pub agent: &'a str,
     pub group: Group,
-    /// Of the first user-agent line that names the group; `None` if no line does.
+    /// The first user-agent line that names the group; `None` if no line does.
     pub group_line: Option<usize>,
     pub rules: usize,
     /// What the crawler may fetch, unless the file is rejected for it.
     pub reach: Reach,
-    /// If that is listed, the lines of the Allows.
+    /// The lines of the Allows, if `reach` is `Listed`.
     pub allows: Vec<usize>,
     pub vendor: AtVendor,
-    /// If it is `*`, the known crawlers that ignore its group.
+    /// If `agent` is `*`, the known crawlers that ignore its group.
     pub ignored_by: Vec<&'static str>,
-    /// In microseconds.
+    /// The crawl delay in microseconds.
     pub delay: Option<u64>,
     /// The line of the crawler's first overlong rule, because of which the file is rejected for the crawler.
     pub rejected: Option<usize>,
@@ -122,7 +122,7 @@ fn read_for(alloc: Global, agent: &str, read: &FileRead<'_>) -> Result<Reading, 
 #[derive(Drop)]
 pub struct Crawler<'a> {
     pub agent: &'a str,
-    /// In file order.
+    /// The crawler's rules in file order.
     pub rules: Vec<Rule>,
     pub reading: Reading,
 }
@@ -227,7 +227,7 @@ pub fn audit_for<'a>(
     })
 }
 
-/// The same for the crawler with this name, which may be `star`.
+/// What the file means for the crawler with this name; if that is `*`, `star` is used.
 fn audit_beside<'a>(
     alloc: Global,
     agent: &'a str,

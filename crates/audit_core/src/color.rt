@@ -28,7 +28,7 @@ fn is_dumb(name: &Variable) -> bool {
     }
 }
 
-/// If standard error is a terminal that can show colors, unless NO_COLOR is set and not empty.
+/// Whether standard error is a terminal that can show colors, and NO_COLOR is unset or empty.
 pub fn colors_by_default(rt: &HostRuntime) -> bool {
     let is_terminal = rt.stderr().is_terminal();
     let (no_color, term) = (env::var(rt, "NO_COLOR"), env::var(rt, "TERM"));

@@ -17,18 +17,18 @@ use std::fmt::Write;
 /// arguments, or with a file that can't be a robots.txt file.
 #[derive(Clone, Copy)]
 pub enum Flaw {
-    /// It isn't of the form `allow AGENT URL`, or with another of four words.
+    /// The line isn't of the form `allow AGENT URL`, or with another of four words.
     Form,
     /// A rule with this pattern is rejected or matches no path, or something follows a `$`.
     Pattern,
     NotUtf8,
     /// No crawler has this name.
     Agent,
-    /// The same, but this one of the known crawlers is probably meant.
+    /// No crawler has this name; the known crawler with this index is probably meant.
     Meant(usize),
     /// The text is neither a path nor an http(s) URL that can be parsed.
     Url,
-    /// The same, but it may be the name of a crawler.
+    /// The text is no path or URL, but may be the name of a crawler.
     Name,
     /// Crawlers ask for the path in another form.
     Path,
@@ -199,10 +199,10 @@ fn entry_text(entry: EntryKind) -> &'static str {
     }
 }
 
-/// It follows an error in the arguments that `clap` doesn't report.
+/// Follows an error in the arguments that `clap` doesn't report.
 const USAGE: &str = "; usage: robots_audit [OPTIONS] FILE [URL]..";
 
-/// They follow the usage if FILE is missing.
+/// Examples of commands, which follow the usage if FILE is missing.
 const EXAMPLES: &str = "example: robots_audit robots.txt /search\n\
     example: curl -fsSL https://example.com/robots.txt | robots_audit --agent Googlebot -";
 

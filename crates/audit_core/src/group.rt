@@ -15,9 +15,9 @@ use texting_robots::parser::Line;
 /// Which user-agent lines determine the group of a crawler.
 #[derive(Clone, Copy, PartialEq, Eq)]
 pub enum Group {
-    /// Those that name the crawler.
+    /// The lines that name the crawler.
     Named,
-    /// Those of `*`, as no line names the crawler.
+    /// The lines of `*`, as no line names the crawler.
     Star,
     /// No line names the crawler or `*`, so no group applies.
     Nobody,
@@ -25,7 +25,6 @@ pub enum Group {
     Everyone,
 }
 
-/// Which group applies to a crawler in this file.
 pub(crate) fn group_of(agent: &str, site: &Site) -> Group
     ensures { result ≡ group_of agent.now (file_lines site.now) }
 {
@@ -43,7 +42,7 @@ pub(crate) fn group_of(agent: &str, site: &Site) -> Group
 /// Which group the vendor of a known crawler applies to it.
 #[derive(Clone, Copy, PartialEq, Eq)]
 pub enum AtVendor {
-    /// The one that applies here.
+    /// The group that applies here.
     Same,
     NoGroup,
     OtherGroup,

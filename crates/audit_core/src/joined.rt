@@ -43,7 +43,7 @@ pub fn push_if<'a>(
     Ok(())
 }
 
-/// By line, and within a line by level; those that aren't about a line come first.
+/// The warnings by line, and within a line by level; those that aren't about a line come first.
 pub fn in_order<'a>(
     alloc: Global,
     warnings: &[Warning<'a>],

@@ -67,8 +67,8 @@ pub(crate) fn add_needless(
     add_undecided(found, &needless.undecided)
 }
 
-/// None if they aren't looked for, or if not the whole file is read, since deleting lines would let more of
-/// it be read.
+/// The needless rules. None if they aren't looked for, or if not the whole file is read, since deleting lines
+/// would let more of it be read.
 pub(crate) fn needless_rules(
     alloc: Global,
     is_requested: bool,

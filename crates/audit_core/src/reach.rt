@@ -18,14 +18,14 @@ pub enum Reach {
     Nothing,
     /// Only what a few Allows match, and `/robots.txt`.
     Listed,
-    /// It may also be everything or nothing.
+    /// A part of the site, as far as is known: it may also be everything or nothing.
     Part,
 }
 
 /// Bounds how long the rules of all crawlers of a file are compared on all paths.
 pub(crate) const BUDGET: usize = 4_000_000;
 
-/// The same for one crawler.
+/// Bounds how long the rules of one crawler are compared on all paths.
 const MOST: usize = 10_000;
 
 /// How many patterns are tried as paths.
@@ -79,7 +79,7 @@ fn reach_below(
     Ok((Reach::Listed, lines))
 }
 
-/// By the first Disallow of the whole site, or by there being no Disallow.
+/// What rules let fetch, by the first Disallow of the whole site, or by there being no Disallow.
 fn reach_by(alloc: Global, rules: &[Rule]) -> Result<(Reach, Vec<usize>), AllocError>
     ensures { IfOk result (λ found. IsReach rules.now found.0 found.1.items) }
 {
@@ -108,7 +108,6 @@ fn is_mixed(robot: &Robot, is_open: bool, rules: &[Rule]) -> bool {
         })
 }
 
-/// Rules that allow everything, or nothing.
 fn plain_rules(alloc: Global, is_open: bool) -> Result<Vec<Rule>, AllocError>
     ensures { IfOk result (λ rules. rules.items ≡ plain_rules is_open) }
 {

@@ -5,9 +5,9 @@ use safe_output::level::Level;
 /// How a report is written.
 #[derive(Clone, Copy)]
 pub enum Format {
-    /// With warnings on standard error.
+    /// Text, with warnings on standard error.
     Text,
-    /// One line, with the warnings in it.
+    /// One line of JSON, with the warnings in it.
     Json,
     /// A page, with the lines and the warnings in it.
     Html,
@@ -45,11 +45,11 @@ pub struct Request<'a> {
     pub format: Format,
     /// The date that a page has.
     pub date: Option<&'a str>,
-    /// Of the levels of warnings on standard error.
+    /// Whether levels of warnings on standard error are colored.
     pub has_colors: bool,
     /// A warning at this level, or at a more serious one, leads to exit status 3.
     pub strict: Option<Level>,
-    /// If the report is about a single crawler.
+    /// The crawler, if the report is about a single one.
     pub agent: Option<&'a str>,
     /// Empty for `*` and each crawler that the file names.
     pub agents: Vec<&'a str>,

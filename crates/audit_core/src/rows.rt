@@ -33,7 +33,6 @@ pub fn kind_text(line: Line<'_>) -> &'static str {
     }
 }
 
-/// Whether a line has a value that is shown.
 fn has_value(line: Line<'_>) -> bool {
     match line {
         Line::UserAgent(value)
@@ -45,7 +44,7 @@ fn has_value(line: Line<'_>) -> bool {
     }
 }
 
-/// If the line is a directive; other lines are shown with their comments.
+/// The comment of a directive; other lines are shown with their comments, so they have none here.
 pub fn comment_of<'a>(line: Line<'_>, body: &'a [u8]) -> &'a [u8] {
     match line {
         Line::Raw(_) => b"",
@@ -53,7 +52,7 @@ pub fn comment_of<'a>(line: Line<'_>, body: &'a [u8]) -> &'a [u8] {
     }
 }
 
-/// The same for people: what is read as an Allow may be an empty Disallow.
+/// [`kind_text`] for people: what is read as an Allow may be an empty Disallow.
 pub fn shown_kind(labeled: &LabeledLine<'_>) -> &'static str {
     if is_empty_disallow(labeled.line, labeled.body) {
         "disallow"

@@ -6,8 +6,8 @@ use std::fmt::Write;
 use texting_robots::labels::LabeledLine;
 use texting_robots::parser::Line;
 
-/// If the file is in the grammar, and whether each verdict is the standard's; or the line that isn't. Nothing
-/// is said of some files.
+/// Says that the file is in the grammar, and whether each verdict is the standard's; or which line isn't. Of
+/// some files it says nothing.
 #[derive(Clone, Copy)]
 pub struct Standard(pub Conformance);
 

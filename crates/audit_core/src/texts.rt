@@ -25,7 +25,8 @@ fn reach_word(reach: Reach) -> &'static str
     }
 }
 
-/// If the file isn't rejected for the crawler, and its vendor applies the group that is reported.
+/// What the crawler may fetch, in a word; `None` if the file is rejected for it or its vendor applies another
+/// group.
 pub fn may_fetch(rejected: Option<usize>, vendor: AtVendor, reach: Reach) -> Option<&'static str>
     ensures { option_map (λ word. word.now) result ≡ may_fetch rejected vendor reach }
 {
@@ -189,7 +190,7 @@ impl<'a, 'b> fmt::Display for Applied<'a, 'b> {
     }
 }
 
-/// That the file is rejected for a crawler because of this line.
+/// Says that the file is rejected for a crawler because of this line.
 #[derive(Clone, Copy)]
 pub struct Rejected<'a> {
     pub agent: &'a str,
@@ -207,7 +208,7 @@ impl<'a> fmt::Display for Rejected<'a> {
     }
 }
 
-/// Writes it as a line, if the file is rejected.
+/// Writes a line that says that the file is rejected, if it is.
 pub fn write_rejected(out: &mut Report, agent: &str, rejected: Option<usize>) -> fmt::Result {
     let Some(line) = rejected else {
         return Ok(());

@@ -14,7 +14,7 @@ pub struct Range {
     pub more: usize,
 }
 
-/// With this line, if it is the next one.
+/// The range with this line, if that is the next one.
 #[tactic(auto, using(crate::proofs::TogetherLemmas::line_added))]
 fn extended(range: Range, line: usize) -> Option<Range>
     ensures { MatchOption result ⊤ (λ longer. lines_of longer ≡ lines_of range ++ line ∷ []) }
@@ -96,7 +96,7 @@ pub fn keep_shown(together: Together<'_>, warnings: &mut Vec<Warning<'_>>) {
     warnings.retain(|warning| is_shown(together, warning));
 }
 
-/// Such as `lines 3-27, 31`.
+/// Ranges as a text such as `lines 3-27, 31`.
 #[derive(Clone, Copy)]
 struct Ranges<'a>(&'a [Range]);
 

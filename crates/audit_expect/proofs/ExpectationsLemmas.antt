@@ -8,7 +8,7 @@ use Rattle.texting_robots.specs.Callers.{bodies_read}
 use Rattle.texting_robots.specs.Callers.{escaped}
 use Rattle.texting_robots.specs.Callers.{file_limit, lines_read, placed_rules, unplaced}
 use Rattle.texting_robots.specs.{Decision.IsDecisionOn, declared.decision.Decision.Decision}
-use Rattle.texting_robots.proofs.Shared.{answers_computed, read_robot}
+use Rattle.texting_robots.proofs.Shared.{answer_as_placed, read_robot}
 use Rattle.robots_warnings.specs.{Crawlers.Row, Internal.row_value}
 use Rattle.robots_warnings.specs.Targets.{normal_target, written_target}
 use Rattle.audit_core.specs.Target.{asked_target}
@@ -58,7 +58,7 @@ module _ (file agent : List ℕ) (one : ExpectationValue) where
       → IsJudgmentOn file agent one (Decided decision other normal)
   decided_as robot decision other normal is plain written by is_other is_normal passes =
       let rules = placed_rules agent (lines_read file) in
-      let alike = answers_computed agent (lines_read file) robot.rules (read_robot agent file _ is.2).rules in
+      let alike = answer_as_placed agent (lines_read file) robot.rules (read_robot agent file _ is.2).rules in
       let (first, rest) = or_parts _ _ passes in
       let (second, third) = or_parts _ _ rest in
       record {

@@ -15,7 +15,7 @@ use Rattle.texting_robots.specs.declared.labels.{LabeledLine.LabeledLine}
 use Rattle.texting_robots.specs.{Statement.IsStatement, declared.parser.statement.Kind.TheVariants.Disallow}
 use Rattle.texting_robots.specs.{Decision.IsDecisionOn, declared.decision.Decision.Decision}
 use Rattle.texting_robots.specs.{Internal.Line.line_of}
-use Rattle.texting_robots.proofs.Shared.{any_unplaced, length_within, none_denies, verdict_by}
+use Rattle.texting_robots.proofs.Shared.{any_unplaced, collapsed_within, allowed_if_none, verdict_by_rule}
 use Rattle.texting_robots.proofs.Shared.{rejection_is_computed}
 use Rattle.audit_core.proofs.EmptyLemmas.{empty_stated, stated_empty}
 use Rattle.robots_warnings.specs.Conflicts.{IsEmptyDisallow}
@@ -102,8 +102,8 @@ module _ (rules : List PlacedRule) (text : List ℕ) (rule : PlacedRule) where
 
 pub decision_found : (rules : List PlacedRule) (text : List ℕ) (found : Option PlacedRule)
     → text ≢ robots_file → IsDecidedBy rules text found → IsDecisionOn rules text (decision_with found)
-decision_found rules text None differs none = grind (arith, none_denies)
-decision_found rules text (Some placed) differs is = grind (arith, verdict_by)
+decision_found rules text None differs none = grind (arith, allowed_if_none)
+decision_found rules text (Some placed) differs is = grind (arith, verdict_by_rule)
 
 module _ (bodies : List (List ℕ)) (rules : List PlacedRule) (text : List ℕ) (decision : Decision) where
   abbrev others : List PlacedRule
@@ -136,7 +136,7 @@ others_accepted bodies agent lines accepted =
 
 -- a rule in normal form isn't overlong if it wasn't before
 normal_short : (placed : PlacedRule) → ¬ IsOverlong placed.rule.0 → ¬ IsOverlong (normal_rule placed).rule.0
-normal_short placed accepted = grind (arith, cases_Bool, length_within)
+normal_short placed accepted = grind (arith, cases_Bool, collapsed_within)
 
 pub normal_accepted : (rules : List PlacedRule)
     → All (λ (placed : PlacedRule). ¬ IsOverlong placed.rule.0) rules

@@ -27,7 +27,7 @@ words line = filter is_word (slice_split is_blank line)
 abbrev pub quote : ℕ
 quote = byte "\""
 
--- the same words, but if one precedes the first quotation mark, what is between this and the next one is a
+-- the words of a line; if one precedes the first quotation mark, what is between this and the next one is a
 -- word, too
 abbrev pub words_with_name : List ℕ → List (List ℕ)
 words_with_name line =
@@ -62,7 +62,7 @@ expected agent url (allowed, expects_all) =
     let (is_pattern, text) = asked expects_all url in
     record { allowed = allowed; agent = agent; url = text; is_pattern = is_pattern }
 
--- that of a line with three words, the first of which is one of four
+-- the expectation of a line with three words, the first of which is one of four
 abbrev pub demanded : List (List ℕ) → Option ExpectationValue
 demanded (word ∷ agent ∷ url ∷ []) = option_map (expected agent url) (demand_of word)
 demanded words = None

@@ -34,8 +34,8 @@ pub record HoldsFor (file agent : List ℕ) (one : ExpectationValue) : Type 0 wh
   pub pattern : one.is_pattern ≡ true
       → AreDecidedAs (escaped one.url) (placed_rules agent (lines_read file)) one.allowed
 
--- the same for the group that the crawler's vendor applies in place of the one that applies here, if there is
--- one; with no group, which has an empty name, everything is allowed
+-- the expectation holds for the group that the crawler's vendor applies in place of the one that applies
+-- here, if there is one; with no group, which has an empty name, everything is allowed
 abbrev pub HoldsIn : List ℕ → ExpectationValue → (group : Option (List ℕ)) → Type 0
 HoldsIn file one None = ⊤
 HoldsIn file one (Some []) = one.allowed ≡ true

@@ -1,7 +1,6 @@
 -- Other readings: of an empty Disallow, and in normal forms.
 use Rattle.std.specs.Prelude.{◌↔◌, ◌≡◌, ℕ, Bool, IsTrue, List, ◌-◌, ◌++◌, codes, if◌then◌else◌, length, map}
-use Rattle.std.specs.Prelude.{nat_eq}
-use Rattle.std.specs.Prelude.{nat_le, take}
+use Rattle.std.specs.Prelude.{nat_eq, nat_le, take}
 use Rattle.texting_robots.specs.Callers.{IsVerdict, PlacedRule, unplaced}
 use Rattle.texting_robots.specs.{Pattern.longest_with_dollar}
 use Rattle.robots_warnings.specs.{Conflicts.IsEmptyDisallow, Conflicts.stated_rules, Targets.normal_text}

@@ -30,7 +30,7 @@ pub(crate) enum Judgment {
     Rewritten,
     /// The decision, the one where an empty Disallow is no rule, and the same of normal forms.
     Decided(Decision, Decision, Decision),
-    /// The first of these for all paths that `url` matches.
+    /// Whether all paths that the pattern `url` matches are decided as expected.
     Everywhere(OnPaths),
 }
 
@@ -39,9 +39,9 @@ pub(crate) enum Judgment {
 pub(crate) enum AtVendor<'a> {
     /// The group that applies here.
     Same,
-    /// The one with this name, which isn't empty, and what the file says about it.
+    /// The group with this name, which isn't empty, and what the file says about it.
     Group(&'a str, Judgment),
-    /// None, so everything is allowed.
+    /// No group, so everything is allowed.
     Nobody,
 }
 

@@ -21,9 +21,9 @@ use std::alloc::{AllocError, Global};
 /// What has to be allowed or denied.
 #[derive(Clone, Copy)]
 pub(crate) struct Expectation<'a> {
-    /// The number of its line.
+    /// The number of the expectation's line.
     pub(crate) number: usize,
-    /// Otherwise the URL must be denied to the crawler.
+    /// Whether the URL must be allowed to the crawler, or else denied.
     pub(crate) allowed: bool,
     pub(crate) agent: &'a str,
     pub(crate) url: &'a str,
@@ -100,7 +100,6 @@ fn is_pattern(alloc: Global, word: &[u8]) -> Result<bool, AllocError> {
     )
 }
 
-/// What is wrong with a pattern or a URL.
 fn asked_flaw(
     alloc: Global,
     expects_pattern: bool,
@@ -117,7 +116,6 @@ fn asked_flaw(
     }
 }
 
-/// Whether it is to be allowed, and whether all paths of a pattern are meant.
 fn demand_of(word: &[u8]) -> Option<(bool, bool)>
     ensures { result ≡ demand_of word.now }
 {
@@ -134,7 +132,7 @@ fn demand_of(word: &[u8]) -> Option<(bool, bool)>
     }
 }
 
-/// Whether it is a pattern, and it or the only path that it matches.
+/// Whether the word is a pattern, and the word or the only path that it matches.
 fn asked(expects_all: bool, word: &[u8]) -> (bool, &[u8])
     ensures { (result.0, result.1.now) ≡ asked expects_all word.now }
 {
@@ -144,14 +142,13 @@ fn asked(expects_all: bool, word: &[u8]) -> (bool, &[u8])
     }
 }
 
-/// Whether it stands for every crawler.
+/// Whether the name stands for every crawler.
 pub(crate) fn is_any(name: &str) -> bool
     ensures { result ≡ is_any name.now }
 {
     name.eq_ignore_ascii_case("any")
 }
 
-/// What is wrong with a crawler's name.
 fn name_flaw(alloc: Global, name: &str) -> Result<Option<Flaw>, AllocError> {
     if !is_crawler_name(name) {
         return Ok(Some(Flaw::Agent));

@@ -164,18 +164,18 @@ impl<'a, 'c> fmt::Display for Failure<'a, 'c> {
 /// How many failures of one line are written, if it is about any crawler.
 const MOST: usize = 5;
 
-/// Of how many more the crawler is named.
+/// How many more failures of such a line name their crawler.
 const NAMED: usize = 10;
 
 /// The report on failures, and how many of the latest line it has.
 #[derive(Drop)]
 struct Failing<'a> {
     out: Report,
-    /// Of the file of expectations.
+    /// The name of the file of expectations.
     name: &'a str,
     line: usize,
     number: usize,
-    /// What is said of those that are only named, and ignore the group of `*`.
+    /// What is said of crawlers that are only named, and ignore the group of `*`.
     end: &'static str,
 }
 

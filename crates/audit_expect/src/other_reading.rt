@@ -22,7 +22,6 @@ use texting_robots::labels::LabeledLine;
 use texting_robots::minregex::MinRegex;
 use texting_robots::robot::Decision;
 
-/// Whether the line with this number is an empty Disallow.
 fn is_marked(labels: &[LabeledLine<'_>], number: usize) -> bool
     ensures { result ≡ is_marked (marks_in (map label_by_value labels.now)) number }
 {

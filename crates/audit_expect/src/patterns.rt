@@ -19,9 +19,9 @@ const BUDGET: usize = 10_000_000;
 /// What rules say of all paths that a pattern matches.
 #[derive(Drop)]
 pub(crate) enum OnPaths {
-    /// Each is decided as expected.
+    /// Each path is decided as expected.
     Hold,
-    /// This one isn't.
+    /// A path that isn't decided as expected, and its decision.
     Fail(String, Decision),
     Undecided,
 }
@@ -86,8 +86,8 @@ fn are_shorter(rules: &[Rule], than: usize) -> bool
     rules.iter().all(|rule| rule.pattern.len() < than)
 }
 
-/// It matches what the pattern does, and is longer than the rules, by stars before its first one or at its
-/// end.
+/// A pattern that matches what this one does, and is longer than the rules, by stars before its first one or
+/// at its end.
 fn longer_pattern(alloc: Global, pattern: &[u8], rules: &[Rule]) -> Result<String, AllocError>
     ensures { IfOk result (λ longer. (text : List ℕ) → Matches (escaped pattern.now) text
         → Matches (string_bytes longer) text) }
@@ -100,7 +100,8 @@ fn longer_pattern(alloc: Global, pattern: &[u8], rules: &[Rule]) -> Result<Strin
     Ok(longer)
 }
 
-/// If a rule that is longer than the others changes no verdict, all paths are decided as it demands.
+/// Whether all paths that the pattern `url` matches are decided as expected: they are, if a rule that demands
+/// it, and is longer than the others, changes no verdict.
 pub(crate) fn on_paths(
     alloc: Global,
     allowed: bool,

@@ -42,7 +42,7 @@ command_of file finding =
     ++ (property_text file ++ (line_property finding.line
     ++ (codes ",title=" ++ (property_text finding.name.now ++ (codes "::" ++ message)))))
 
--- the same, sanitized as a whole, so that it is one line, and no other command begins within it
+-- a command, sanitized as a whole, so that it is one line, and no other command begins within it
 abbrev pub command : List ℕ → Finding → List ℕ
 command file finding = sanitized (command_of file finding)
 

@@ -60,7 +60,7 @@ fn write_values(out: &mut Lines<'_>, audit: &Audit<'_>, lines: &[usize]) {
     }
 }
 
-/// Such as `crawler GPTBot: group * (line 1), 3 rules, delay 2 s`.
+/// Writes a line such as `crawler GPTBot: group * (line 1), 3 rules, delay 2 s`.
 fn write_crawler(out: &mut Lines<'_>, audit: &Audit<'_>, agent: &AgentAudit<'_>) {
     let name = agent.agent;
     write!(out, "crawler {name}");
@@ -84,7 +84,7 @@ fn write_crawler(out: &mut Lines<'_>, audit: &Audit<'_>, agent: &AgentAudit<'_>)
     out.end_line();
 }
 
-/// If `denied_only` is true, not those that have no verdicts.
+/// Writes about each crawler, or if `denied_only` is true about each that has verdicts or a rejected file.
 pub(crate) fn write_crawlers(out: &mut Lines<'_>, denied_only: bool, audit: &Audit<'_>) {
     for agent in &audit.agents {
         if !denied_only || agent.rejected.is_some() || !agent.verdicts.is_empty() {

@@ -8,7 +8,7 @@ pub struct Totals {
     pub denied: usize,
 }
 
-/// All of the audit, or if `denied_only` is true that with the denied URLs alone.
+/// The audit, or if `denied_only` is true the audit with the denied URLs alone.
 pub fn shown<'a>(denied_only: bool, audit: Audit<'a>) -> Audit<'a> {
     let mut reported = audit;
     if denied_only {

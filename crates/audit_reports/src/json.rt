@@ -38,7 +38,7 @@ fn sanitized_json(alloc: Global, bytes: &[u8]) -> Result<Value, AllocError> {
     Ok(Value::String(text))
 }
 
-/// These bytes, or null if there are none.
+/// The bytes as a sanitized text, or null if there are none.
 fn text_json(alloc: Global, bytes: &[u8]) -> Result<Value, AllocError> {
     if bytes.is_empty() {
         Ok(Value::Null)

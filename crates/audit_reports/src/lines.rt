@@ -41,7 +41,7 @@ impl<'a> Lines<'a> {
         self.has_failed |= self.report.level(level).is_err();
     }
 
-    /// That the file is rejected, if it is.
+    /// Writes that the file is rejected, if it is.
     pub(crate) fn rejected(&mut self, agent: &str, rejected: Option<usize>) {
         self.has_failed |= write_rejected(self.report, agent, rejected).is_err();
     }

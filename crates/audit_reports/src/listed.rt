@@ -8,7 +8,7 @@ use std::collections::BTreeMap;
 
 const MOST: usize = 20;
 
-/// By the name of a warning, one number for each level.
+/// How many warnings there are, by name and level.
 type Counts = BTreeMap<&'static str, [usize; 3]>;
 
 /// How many warnings with the name and the level of this one aren't listed.

@@ -34,7 +34,6 @@ impl Object {
     }
 }
 
-/// An object with one member.
 pub(crate) fn with_one(
     alloc: Global,
     name: &str,
@@ -43,7 +42,6 @@ pub(crate) fn with_one(
     Ok(Object::new(alloc).with(name, value)?.value())
 }
 
-/// An array of one value.
 pub(crate) fn array_of_one(
     alloc: Global,
     value: Result<Value, AllocError>,

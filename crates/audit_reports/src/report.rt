@@ -54,7 +54,7 @@ fn write_agents(out: &mut Lines<'_>, request: &Request<'_>, audit: &Audit<'_>) {
     }
 }
 
-/// Nothing of a file that only has comments.
+/// Writes whether the file is in the standard's grammar; nothing of a file that only has comments.
 fn write_syntax(out: &mut Lines<'_>, audit: &Audit<'_>) {
     match audit.syntax {
         Conformance::OtherFile => {}

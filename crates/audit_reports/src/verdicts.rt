@@ -4,7 +4,7 @@ use audit_core::audit::Verdict;
 use std::fmt;
 use texting_robots::Decision;
 
-/// Such as `deny 3`, or `allow -` if no line decides.
+/// A decision as a text such as `deny 3`, or `allow -` if no line decides.
 #[derive(Clone, Copy)]
 struct Decided(Decision);
 
@@ -23,7 +23,7 @@ impl fmt::Display for Decided {
     }
 }
 
-/// Such as `deny 3 https://example.com/search`; a crawler's name is between the line and the URL.
+/// Writes a line such as `deny 3 https://example.com/search`; a crawler's name precedes the URL.
 fn write_verdict(out: &mut Lines<'_>, name: Option<&str>, verdict: &Verdict<'_>) {
     let (decided, url) = (Decided(verdict.decision), verdict.url);
     write!(out, "{decided}");

@@ -13,8 +13,9 @@ use Rattle.texting_robots.specs.Callers.{lines_read, unplaced, IsCaptured, IsRej
 use Rattle.texting_robots.specs.Callers.{IsRejectionOf, is_agent_named, is_named, prepared}
 use Rattle.texting_robots.specs.declared.error.RobotError.{RobotError}
 use Rattle.texting_robots.specs.declared.error.RobotError.TheVariants as rejection
-use Rattle.texting_robots.proofs.Shared.{deciding_line_holds_its_rule, lines_within, each_text_has_its_lines}
-use Rattle.texting_robots.proofs.Shared.{same_robot, no_line_allows, of_lines, read_robot, has_lines}
+use Rattle.texting_robots.proofs.Shared.{deciding_line_holds_its_rule, parsed_within, each_text_has_its_lines}
+use Rattle.texting_robots.proofs.Shared.{same_group_robot, no_line_allows, lines_satisfy, read_robot}
+use Rattle.texting_robots.proofs.Shared.{has_lines}
 use Rattle.c_calls.specs.{File.IsRobotOfSomeFile, File.IsSiteOfSomeFile, Status.IsWhyNoResult, Results.IsRow}
 use Rattle.c_calls.specs.Status.{IsWhyNoRobot, error_of}
 use Rattle.c_calls.specs.Results.{IsResultOn, LinesFit, number_of, HasResult, AreRows, items_in, no_result}
@@ -40,7 +41,7 @@ one_more R xs at x ys y (below, here) are is =
 
 pub by_lines : (site : List ℕ) (P : List LineValue → Type 0) → HasLines site P → P (file_lines site)
 by_lines site P is =
-    of_lines site P is (file_lines site) ((each_text_has_its_lines (map nul_as_lf site) _).1 refl)
+    lines_satisfy site P is (file_lines site) ((each_text_has_its_lines (map nul_as_lf site) _).1 refl)
 
 pub why_rejected : {X : Type 0} (r : Result X Error) (agent site : List ℕ) (why : RobotError)
     → IsErrAnd r (λ error. error ≡ error_of why) → IsUtf8 agent → IsRejectionOf agent site why
@@ -50,7 +51,7 @@ why_rejected (Err error) agent site (rejection.Overlong line) same utf8 is = rw 
 why_rejected (Err error) agent site rejection.Memory same utf8 is = rw same utf8
 
 lines_counted : (text : List ℕ) → length (file_lines text) ≤ length text
-lines_counted text = omega (arith, lines_within (map nul_as_lf text), length-map text nul_as_lf)
+lines_counted text = omega (arith, parsed_within (map nul_as_lf text), length-map text nul_as_lf)
 
 pub few_lines : (file : List ℕ) → length (lines_read file) ≤ file_limit
 few_lines file = omega (arith, lines_counted (take file_limit file), length-take file_limit file)
@@ -258,7 +259,7 @@ shared_row site targets agent row unnamed (inl (robot, of, are)) =
     inl (
       robot,
       has_lines site (λ lines. IsRobotOf agent lines robot)
-          (same_robot star agent (file_lines site) robot (starred agent (file_lines site) unnamed)
+          (same_group_robot star agent (file_lines site) robot (starred agent (file_lines site) unnamed)
           (by_lines site (λ lines. IsRobotOf star lines robot) of)),
       are,
     )

@@ -120,7 +120,7 @@ fn fits(agents: &str, urls: &str, capacity: usize) -> bool
     }
 }
 
-/// Both as strings, if they are UTF-8 and their results fit.
+/// Crawlers and URLs as strings, if they are UTF-8 and their results fit.
 fn texts_of<'a>(
     agents: &'a [u8],
     urls: &'a [u8],

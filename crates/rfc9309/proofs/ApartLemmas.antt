@@ -6,8 +6,7 @@ use Rattle.std.proofs.Common.{refl, suc, subst, sym, zero, ◌∙◌}
 use Rattle.std.specs.List.{AllByRecursion as Each, AllZip, ends_with, list_any, position_from}
 use Rattle.std.specs.Option.{option_or}
 use Rattle.std.proofs.lemmas.Bool.{and_parts, both_ways, cases_Bool, eqb-true, not-false, not-true, leb-true}
-use Rattle.std.proofs.lemmas.Bool.{or_cases}
-use Rattle.std.proofs.lemmas.Simd.{map-map}
+use Rattle.std.proofs.lemmas.{Bool.or_cases, Simd.map-map}
 use Rattle.std.proofs.lemmas.Bool.Decides.{nat_tests}
 use Rattle.std.proofs.lemmas.List.Folds.{list_any-from_Any}
 use Rattle.std.proofs.lemmas.Slice.Eq.{bytes_eq-Decides}
@@ -15,10 +14,10 @@ use Rattle.texting_robots.specs.Callers.{IsRobotOfFile, IsVerdict, PlacedRule, R
 use Rattle.texting_robots.specs.Callers.{IsFileRejected, IsOverlong, agents_in, placed_rules, unplaced}
 use Rattle.texting_robots.specs.Executable.{file_bodies, file_lines, rules_for}
 use Rattle.texting_robots.specs.Line.{Allow, CrawlDelay, Disallow, LineValue, Raw, UserAgent, nul_as_lf}
-use Rattle.texting_robots.specs.Line.{without_bom}
-use Rattle.texting_robots.specs.{Trim.IsTrimOf, Cut.IsBodyByte, Cut.lf}
+use Rattle.texting_robots.specs.{Line.without_bom, Trim.IsTrimOf, Cut.IsBodyByte, Cut.lf}
 use Rattle.texting_robots.specs.Internal.{Line.line_of, Statement.trimmed}
-use Rattle.texting_robots.proofs.Shared.{placed_of, each_append, is_trimmed, trimmed_is_trim, length_within}
+use Rattle.texting_robots.proofs.Shared.{placed_of, each_append, trim_unique, trimmed_is_trim}
+use Rattle.texting_robots.proofs.Shared.{collapsed_within}
 use Rattle.rfc9309.specs.Comparable.{AreComparable, IsPathOf, has_odd_escape}
 use Rattle.rfc9309.specs.Conformance.{allows_all, denies_all, first_denying, first_mixed, first_mixed_for}
 use Rattle.rfc9309.specs.Conformance.{first_split, front_of, is_all, is_apart, is_odd_octet, is_plain_path}
@@ -47,8 +46,8 @@ pub record IsFine (path : List ℕ) : Type 0 where
   pub written : is_read_as_written path ≡ true
   pub is_pattern : is_pattern path ≡ true
 
-fine_trim : (path : List ℕ) → IsFine path → IsTrimOf path path
-fine_trim path fine = grind (arith, and_parts, bytes_eq-Decides, trimmed_is_trim)
+trimmed_if_fine : (path : List ℕ) → IsFine path → IsTrimOf path path
+trimmed_if_fine path fine = grind (arith, and_parts, bytes_eq-Decides, trimmed_is_trim)
 
 abbrev IsFineMember : rfc.Member → Type 0
 IsFineMember (rfc.Allow path) = IsFine path
@@ -199,7 +198,7 @@ fits path fine (has, long) =
         → (not (ends_with nat_eq path (codes "$")) || nat_le (length path) 1365) ≡ true → ⊥
     by true is none short =
         let size : length path ≤ 1365 = leb-true (length path) 1365 (rw is at short) in
-        omega (arith, short_escape path, length_within (escaped path), long)
+        omega (arith, short_escape path, collapsed_within (escaped path), long)
     by false is none short =
         let all : has_dollar path ≡ false = rw is at none in
         both_ways (has_dollar (escaped path)) (escaped_plain path all)
@@ -212,24 +211,24 @@ pattern_fits : (path value : List ℕ) (rule : Rule) → IsFine path → IsTrimO
     → rule.0 ≡ escaped value → ¬ IsOverlong rule.0
 pattern_fits path value rule fine trim same long =
     let value_is : value ≡ path =
-    sym (is_trimmed path value trim) ∙ is_trimmed path path (fine_trim path fine) in
+    sym (trim_unique path value trim) ∙ trim_unique path path (trimmed_if_fine path fine) in
     fits path fine (subst IsOverlong (same ∙ ap escaped value_is) long)
 
-read_fits : (member : rfc.Member) (rule : Rule) → IsFineMember member → IsReadAs member rule
+read_not_overlong : (member : rfc.Member) (rule : Rule) → IsFineMember member → IsReadAs member rule
     → ¬ IsOverlong rule.0
-read_fits (rfc.Allow path) rule fine (value, trim, e) long =
+read_not_overlong (rfc.Allow path) rule fine (value, trim, e) long =
     pattern_fits path value rule fine trim (ap (λ (rule : Rule). rule.0) e) long
-read_fits (rfc.Disallow []) rule fine e long = grind (arith, root_fits)
-read_fits (rfc.Disallow (b ∷ path)) rule fine (value, trim, e) long =
+read_not_overlong (rfc.Disallow []) rule fine e long = grind (arith, root_fits)
+read_not_overlong (rfc.Disallow (b ∷ path)) rule fine (value, trim, e) long =
     pattern_fits (b ∷ path) value rule fine trim (ap (λ (rule : Rule). rule.0) e) long
-read_fits (rfc.Delay number) rule fine e long = absurd e
+read_not_overlong (rfc.Delay number) rule fine e long = absurd e
 
-none_long : (members : List rfc.Member) (rules : List Rule)
+none_overlong : (members : List rfc.Member) (rules : List Rule)
     → ((member : rfc.Member) → Contains members member → IsFineMember member) → AllZip IsReadAs members rules
     → ¬ Any (λ (rule : Rule). IsOverlong rule.0) rules
-none_long members rules fine zip (k, rule, below, at, long) =
+none_overlong members rules fine zip (k, rule, below, at, long) =
     let (member, has, as_read) = zip_has IsReadAs members rules rule zip (k, below, at) in
-    read_fits member rule (fine member has) as_read long
+    read_not_overlong member rule (fine member has) as_read long
 
 both_none : (one other : Option ℕ) → option_or one other ≡ None → (one ≡ None) × (other ≡ None)
 both_none one other h = grind arith
@@ -324,7 +323,7 @@ module _ (text : List ℕ) (near : line_apart text ≡ None) (groups : List rfc.
         let (deny, own, (value, trim, two)) =
         zip_right (members agent) rules (rfc.Disallow (b ∷ [])) zip listed in
         let value_is : value ≡ b ∷ [] =
-        sym (is_trimmed (b ∷ []) value trim) ∙ is_trimmed (b ∷ []) (b ∷ []) (fine_trim _ path_fine) in
+        sym (trim_unique (b ∷ []) value trim) ∙ trim_unique (b ∷ []) (b ∷ []) (trimmed_if_fine _ path_fine) in
         absurd (alone (escaped (b ∷ [])) (subst (Contains rules) one there)
         (subst (Contains rules) (two ∙ ap (λ v. (escaped v, false)) value_is) own)
         (all_of b path_fine.is_pattern))
@@ -344,7 +343,7 @@ module _ (text : List ℕ) (near : line_apart text ≡ None) (groups : List rfc.
         let comparable : AreComparable all_stay (octets all_stay) (members agent) uri = record {
           normal = normal;
           robots = refl;
-          trimmed = λ path listed. fine_trim path (fine_path path listed);
+          trimmed = λ path listed. trimmed_if_fine path (fine_path path listed);
           plain = λ path listed. plain_compared path (fine_path path listed).plain;
           counted = λ path listed. refl;
           empty = empty_beside;
@@ -361,4 +360,4 @@ module _ (text : List ℕ) (near : line_apart text ≡ None) (groups : List rfc.
     pub accepted : ¬ IsFileRejected agent text
     accepted rejected =
         let (found, zipped, long) = rejected_as agent text groups is rejected in
-        none_long (members agent) found (fine agent) zipped long
+        none_overlong (members agent) found (fine agent) zipped long

@@ -30,8 +30,8 @@ abbrev AreFormed : Bool → List (List ℕ) → Type 0
 AreFormed below bodies =
     (forms : List Form) × AllZip HasForm forms bodies × (below ≡ false → AreFree forms)
 
-has_it : (form : Form) (body : List ℕ) → has_form form body ≡ true → HasForm form body
-has_it form body = form_passes (lf ∷ []) (inr (inl refl)) form body
+form_if_true : (form : Form) (body : List ℕ) → has_form form body ≡ true → HasForm form body
+form_if_true form body = form_passes (lf ∷ []) (inr (inl refl)) form body
 
 module _ (below : Bool) (body : List ℕ) (bodies : List (List ℕ)) (rest : AreFormed below bodies) where
   formed_with : (form : Form) → has_form form body ≡ true
@@ -39,7 +39,7 @@ module _ (below : Bool) (body : List ℕ) (bodies : List (List ℕ)) (rest : Are
       → AreFormed below (body ∷ bodies)
   formed_with form tested free =
       let (forms, each, rest_free) = rest in
-      (form ∷ forms, (has_it form body tested, each), λ none. free none forms (rest_free none))
+      (form ∷ forms, (form_if_true form body tested, each), λ none. free none forms (rest_free none))
 
   other_formed : is_line_below below body ≡ true → AreFormed below (body ∷ bodies)
   unfolding is_line_below
@@ -78,7 +78,7 @@ lines_formed below number (body ∷ bodies) none =
     (first_other true (number + 1) bodies) (first_other below (number + 1) bodies) none) [
       | inl (agent, more) ↦
           let (forms, each, free) = lines_formed true (number + 1) bodies more in
-          (Agent ∷ forms, (has_it Agent body agent, each), λ e. tt)
+          (Agent ∷ forms, (form_if_true Agent body agent, each), λ e. tt)
       | inr (isnt, is, more) ↦ other_formed below body bodies (lines_formed below (number + 1) bodies more) is
     ]
 
@@ -182,9 +182,9 @@ has_verdicts_by whole other apart h = grind arith
 read_whole : (file : List ℕ) → is_read_whole file ≡ true → length file ≤ file_limit
 read_whole file is = grind (arith, and_parts, leb-true)
 
-none_apart : (file : List ℕ) → has_verdicts (conformance_of file) ≡ true
+no_line_apart : (file : List ℕ) → has_verdicts (conformance_of file) ≡ true
     → (take file_limit file ≡ file) × (line_apart (take file_limit file) ≡ None)
-none_apart file is =
+no_line_apart file is =
     let (whole, near) = has_verdicts_by (is_read_whole file)
     (first_other false 1 (file_bodies (take file_limit file))) (line_apart (take file_limit file)) is in
     (take_all file_limit file (read_whole file whole), near)
@@ -232,12 +232,12 @@ module _ (file agent name : List ℕ) (groups : List rfc.Group)
     (listed : Contains (codes "*" ∷ agents_in (lines_read file)) name)
     (same : placed_rules agent (lines_read file) ≡ placed_rules name (lines_read file)) where
   read : rfc.IsFile groups (take file_limit file)
-  read = subst (rfc.IsFile groups) (sym (none_apart file has).0) is
+  read = subst (rfc.IsFile groups) (sym (no_line_apart file has).0) is
 
   pub verdicts_are : (uri : List ℕ) (robot : RobotValue) (answer : Bool) → normal_uri all_stay uri ≡ uri
       → IsRobotOfFile agent (take file_limit file) robot → IsVerdict (unplaced robot.rules) uri answer
       ↔ IsRfcVerdict all_stay (octets all_stay) (rfc.standard_rules agent groups) uri answer
-  verdicts_are = verdict_is _ (none_apart file has).1 groups read agent name listed same
+  verdicts_are = verdict_is _ (no_line_apart file has).1 groups read agent name listed same
 
   pub accepted_file : ¬ IsFileRejected agent (take file_limit file)
-  accepted_file = accepted _ (none_apart file has).1 groups read agent name listed same
+  accepted_file = accepted _ (no_line_apart file has).1 groups read agent name listed same

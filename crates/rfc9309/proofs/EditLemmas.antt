@@ -1,7 +1,6 @@
 -- A rule that isn't captured for a crawler has no effect on its robot.
-use Rattle.std.proofs.Common.{◌≡◌, ℕ, suc, ◌+◌, Bool, false, true, List, [], ◌∷◌, ◌++◌, Option}
-use Rattle.std.proofs.Common.{None, length, drop, take, if◌then◌else◌, codes, sym, refl, ap, ◌∙◌, subst}
-use Rattle.std.proofs.Common.{arith, zero-add}
+use Rattle.std.proofs.Common.{◌≡◌, ℕ, suc, ◌+◌, Bool, false, true, List, [], ◌∷◌, ◌++◌, Option, None, length}
+use Rattle.std.proofs.Common.{drop, take, if◌then◌else◌, codes, sym, refl, ap, ◌∙◌, subst, arith, zero-add}
 use Rattle.std.specs.List.{Any, Sorted.IsPermutation, filter_map, list_any}
 use Rattle.std.specs.Str.{str_to_ascii_lowercase}
 use Rattle.std.proofs.lemmas.{Bool.false_from_ne_true, List.Folds.list_any-append}
@@ -14,10 +13,10 @@ use Rattle.texting_robots.specs.Group.{is_agent, is_agent_named, is_member}
 use Rattle.texting_robots.specs.Internal.{Captured.is_captured, Group.from_captured, Group.start_of}
 use Rattle.texting_robots.specs.Internal.Group.{step}
 use Rattle.texting_robots.specs.{declared.groups.GroupTracker.GroupTracker, Line.delay_in, Robot.IsRobotOf}
-use Rattle.texting_robots.proofs.Shared.{IsWalkAt, at_front, captured_walked, is_captured_decides}
-use Rattle.texting_robots.proofs.Shared.{occurs_first, occurs_next, delay_is_computed, sitemaps_are_computed}
-use Rattle.texting_robots.proofs.Shared.{of_lines, rejection_is_computed, rules_are_computed, before_agent}
-use Rattle.texting_robots.proofs.Shared.{before_agents}
+use Rattle.texting_robots.proofs.Shared.{IsWalkAt, drop_cons, captured_walked, is_captured_decides}
+use Rattle.texting_robots.proofs.Shared.{walk_first, walk_next, delay_is_computed, sitemaps_are_computed}
+use Rattle.texting_robots.proofs.Shared.{lines_satisfy, rejection_is_computed, rules_are_computed}
+use Rattle.texting_robots.proofs.Shared.{before_agent, before_agents}
 use Rattle.rfc9309.specs.Edits.{DifferInRule, IsRule}
 
 record Facts (line : LineValue) : Type 0 where
@@ -52,10 +51,10 @@ module _ (line other : LineValue) (is : Facts line) (too : Facts other) (back : 
       ≡ from_captured given name tracker position (front ++ other ∷ back)
   captured_same given name all tracker position [] walk left free = grind arith
   captured_same given name all tracker position (first ∷ front) walk left free =
-      let (at, next) = at_front all position first (front ++ line ∷ back) left in
+      let (at, next) = drop_cons all position first (front ++ line ∷ back) left in
       let sum : position + suc (length front) ≡ (position + 1) + length front = omega arith in
       rw (captured_same given name all (step name tracker first) (position + 1) front
-      (occurs_next name all position tracker first at walk) next (rw sum at free)) refl
+      (walk_next name all position tracker first at walk) next (rw sum at free)) refl
 
   module _ (agent : List ℕ) (front : List LineValue)
       (uncaptured : ¬ IsCaptured (group_name agent (front ++ line ∷ back)) (front ++ line ∷ back)
@@ -82,7 +81,7 @@ module _ (line other : LineValue) (is : Facts line) (too : Facts other) (back : 
           let free =
           false_from_ne_true _ (λ h. uncaptured ((is_captured_decides name lines (length front)).0 h)) in
           captured_walked given name lines
-          ∙ captured_same given name lines (start_of lines) 0 front (occurs_first name lines) refl
+          ∙ captured_same given name lines (start_of lines) 0 front (walk_first name lines) refl
           (rw (zero-add (length front)) free)
           ∙ rw (agents, named) (sym (captured_walked given (group_name agent others) others))
 
@@ -119,7 +118,7 @@ module _ (agent file other : List ℕ) (is : DifferInRule agent file other) wher
 
   moved : (P : List LineValue → Type 0) → (P old → P new) → HasLines (take file_limit file) P
       → HasLines (take file_limit other) P
-  moved P moves has = (new, is.other_lines, moves (of_lines (take file_limit file) P has old is.lines))
+  moved P moves has = (new, is.other_lines, moves (lines_satisfy (take file_limit file) P has old is.lines))
 
   pub robot_same : (robot : RobotValue) → IsRobotOfFile agent (take file_limit file) robot
       → IsRobotOfFile agent (take file_limit other) robot

@@ -6,7 +6,7 @@ use Rattle.std.specs.List.{AllZip, AllByRecursion as Each, list_any, cons_option
 use Rattle.texting_robots.specs.Executable.{rule_in, rules_for, captured_delays, delay_for}
 use Rattle.texting_robots.specs.Line.{LineValue, UserAgent, delay_in}
 use Rattle.texting_robots.specs.Group.{group_name, is_agent, is_agent_named, is_member}
-use Rattle.texting_robots.proofs.Shared.{cond_same, given_captured, rules_are, delays_are, before_agent}
+use Rattle.texting_robots.proofs.Shared.{cond_same, given_captured, rules_walked, delays_walked, before_agent}
 use Rattle.texting_robots.proofs.Shared.{before_agents, option_or_none}
 use Rattle.rfc9309.specs.Rfc9309.{Group, Member, put_before, is_rule, has_token, groups_for}
 use Rattle.rfc9309.proofs.Sources.{IsRead, Source, allowed_in, member_in, parts_in}
@@ -162,7 +162,7 @@ module _ (agent : List ℕ) (sources : List Source)
       (rules_for agent (lines_in sources))
   rules_written all =
       let lines = lines_in sources in
-      rw (rules_are agent lines) (
+      rw (rules_walked agent lines) (
       subst (λ members. AllZip IsReadAs members (given_captured rule_in own_name (start_of lines) lines))
       rules_captured (walk_finds rule_in is_rule IsReadAs rules_given own_name (start_of lines) sources all))
 
@@ -229,7 +229,7 @@ delay_written agent sources all =
     let is = list_any is_agent lines in
     let found = walk_finds delay_in is_delay IsDelayOf delays_given name (start_of lines) sources all in
     let members = captured name (start_of lines) parts.ungrouped parts.groups in
-    let delays = subst (AllZip IsDelayOf (filter is_delay members)) (sym (delays_are agent lines)) found in
+    let delays = subst (AllZip IsDelayOf (filter is_delay members)) (sym (delays_walked agent lines)) found in
     let caught =
     subst (λ members. AllZip IsDelayOf (filter is_delay members) (captured_delays agent lines))
     (captured_closed name (not is) parts.ungrouped _) delays in

@@ -7,11 +7,12 @@ use Rattle.std.proofs.lemmas.List.Folds.{list_all-append, list_any-from_Any}
 use Rattle.std.proofs.lemmas.Bool.{Decides.nat_tests, and_parts, cases_lt, le-ltb, lt-ltb, cases_Bool}
 use Rattle.std.proofs.lemmas.Bool.{eqb-true, not-true, or_cases}
 use Rattle.std.proofs.Common.{append_assoc, reverse, suc, take-append-drop, ◌+◌}
-use Rattle.std.proofs.lemmas.{List.drop_all, List.reverse-append, List.reverse-reverse, Slice.Eq.bytes_eq-Decides}
+use Rattle.std.proofs.lemmas.{List.drop_all, List.reverse-append, List.reverse-reverse}
+use Rattle.std.proofs.lemmas.{Slice.Eq.bytes_eq-Decides}
 use Rattle.std.proofs.lemmas.Str.{IsUtf8-append, IsUtf8-encode, IsUtf8-nil, IsUtf8-from_is_utf8, encode_ascii}
 use Rattle.bstr.specs.Utf8.{code_of_2, code_of_3, code_of_4, continues, decoded, good, second}
 use Rattle.bstr.proofs.lemmas.PieceLemmas.{value-1, value-6, value-9, value-12}
-use Rattle.rfc9309.proofs.{SyntaxLemmas.many, SyntaxLemmas.passing, ValueLemmas.identifier_byte}
+use Rattle.rfc9309.proofs.{SyntaxLemmas.many, SyntaxLemmas.each_if_all, ValueLemmas.identifier_byte}
 use Rattle.safe_output.specs.Bytes.{after_byte, before_byte, from_byte, has, is_blank, trim_blanks}
 use Rattle.safe_output.specs.Bytes.{trim_blanks_end, trim_blanks_start}
 use Rattle.rfc9309.specs.LineTest.{is_comment_byte, is_comment_text, is_value_byte, is_value_text, colon}
@@ -214,7 +215,7 @@ named : (body : List ℕ) → has colon body ≡ true → body ≡ (around (befo
 named body has = grind (arith, append_assoc, around, found, split)
 
 identifier : (word : List ℕ) → are_some is_identifier_byte word ≡ true → rfc.IsIdentifier word
-identifier word h = grind (arith, identifier_byte, passing)
+identifier word h = grind (arith, identifier_byte, each_if_all)
 
 product_token : (value : List ℕ) → is_product_token value ≡ true → rfc.IsProductToken value
 product_token value is = grind (arith, bytes_eq-Decides, identifier, or_cases)
@@ -230,7 +231,7 @@ digit : (b : ℕ) → is_digit b ≡ true → rfc.IsDigitByte b
 digit b is = grind (arith, nat_tests)
 
 digits : (text : List ℕ) → are_some is_digit text ≡ true → rfc.IsDigits text
-digits text h = grind (arith, digit, passing)
+digits text h = grind (arith, digit, each_if_all)
 
 number : (value : List ℕ) → is_number value ≡ true → rfc.IsNumber value
 unfolding is_number
@@ -306,7 +307,7 @@ module _ (end : List ℕ) (nl : rfc.IsNl end) where
       let (blanks, comment) = and_parts _ _ is in
       subst rfc.IsEol
       (sym (ap (λ t. t ++ end) (split hash body) ∙ append_assoc (before_byte hash body) _ end))
-      (eol _ body (passing rfc.IsWs is_blank blank _ blanks) comment)
+      (eol _ body (each_if_all rfc.IsWs is_blank blank _ blanks) comment)
   form_passes Agent body is = (value_in body, agent_passes body is)
   form_passes Rule body is =
       let (key, value) = and_parts _ _ is in

@@ -11,7 +11,8 @@ use lib.Utf8.{low_scalar}
 use Rattle.texting_robots.specs.Statement.{IsBlank, IsStatement, field_names}
 use Rattle.texting_robots.specs.{Line.LineValue, Trim.IsTrimOf, declared.parser.statement.Kind.Kind}
 use Rattle.texting_robots.specs.{Internal.Statement.IsOptionalComment, Internal.Line.line_with}
-use Rattle.texting_robots.proofs.Shared.{each_append, blanks_skipped, same_trim, line_stated, statement_found}
+use Rattle.texting_robots.proofs.Shared.{each_append, trim_skips_blanks, trim_if_same, line_stated}
+use Rattle.texting_robots.proofs.Shared.{statement_complete}
 use Rattle.rfc9309.proofs.HasFormLemmas.{IsCharByte, IsCharText, char_text, each_reversed, blank, next_place}
 use Rattle.rfc9309.proofs.ValueLemmas.{blank_no_letter, identifier_bounds, blanks_after, identifier}
 use Rattle.rfc9309.proofs.Sources.{IsRead, Source, is_not_raw, source_of, written}
@@ -19,9 +20,9 @@ use Rattle.rfc9309.proofs.SyntaxLemmas.{each_weaker, many}
 use Rattle.rfc9309.proofs.ReadLemmas.{BeginsLow, IsBare}
 use Rattle.safe_output.specs.Bytes.{after_byte, before_byte, from_byte, has, is_blank, trim_blanks}
 use Rattle.safe_output.specs.Bytes.{trim_blanks_end, trim_blanks_start}
-use Rattle.rfc9309.specs.LineTest.{colon, hash, is_comment_byte, is_comment_text, is_value_byte, is_value_text}
-use Rattle.rfc9309.specs.LineTest.{name_in, has_form, value_in}
-use Rattle.rfc9309.specs.LineTest.{is_identifier_byte, is_keyed, is_number, is_pattern, is_product_token}
+use Rattle.rfc9309.specs.LineTest.{colon, hash, is_comment_byte, is_comment_text, is_value_byte}
+use Rattle.rfc9309.specs.LineTest.{is_value_text, name_in, has_form, value_in, is_identifier_byte, is_keyed}
+use Rattle.rfc9309.specs.LineTest.{is_number, is_pattern, is_product_token}
 use Rattle.rfc9309.specs.LineForms.{Form, Agent, Delay, Rule, Sitemap}
 use Rattle.std.specs.{Str.IsUtf8}
 use Rattle.std.proofs.{lemmas.Bool.Decides.nat_tests, lemmas.Slice.Eq.bytes_eq-Decides}
@@ -309,8 +310,8 @@ module _ (kind : Kind) (value read text : List ℕ) (line : rfc.IsKeyed (word_of
     no_hash = no_hash;
     is_comment = comment.is;
     trimmed =
-        same_trim region (value ++ eol.blanks) read
-        (blanks_skipped line.gap _ line.gap_blank)
+        trim_if_same region (value ++ eol.blanks) read
+        (trim_skips_blanks line.gap _ line.gap_blank)
         (blanks_after eol.blanks value read eol.are_blanks chars.utf8 trim);
   }
 
@@ -321,7 +322,7 @@ module _ (kind : Kind) (value read text : List ℕ) (line : rfc.IsKeyed (word_of
   keyed_line found is is_read passes =
       let source : ◌≡◌ {A = Source} (source_of body) (found, value) =
       ap (λ found. (found, written body))
-      (line_stated body kind read (statement_found kind read body states) ∙ is body)
+      (line_stated body kind read (statement_complete kind read body states) ∙ is body)
       ∙ ap (λ v. (found, v)) value_written in
       record {
         body = body;

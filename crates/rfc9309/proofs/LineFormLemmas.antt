@@ -4,7 +4,7 @@ use Rattle.std.proofs.Common.{◌≡◌, ◌⊎◌, inl, inr, ℕ, List, [], ◌
 use Rattle.std.proofs.Common.{◌≢◌, filter, map, arith, subst}
 use Rattle.std.specs.{List.AllByRecursion as Each, List.AllZip, Prelude.All}
 use Rattle.texting_robots.specs.{Cut.IsBodyByte, Cut.cr, Cut.lf, Internal.Cut.bodies_of, Line.without_bom}
-use Rattle.texting_robots.proofs.Shared.{body_step, step, bodies_nil, byte_cases, each_append}
+use Rattle.texting_robots.proofs.Shared.{body_step, bodies_cons, bodies_nil, byte_cases, each_append}
 use Rattle.rfc9309.specs.{Rfc9309.IsLastNl}
 use Rattle.rfc9309.specs.LineForms.{Form, IsFormOf, HasForm, Empty, Agent, Rule, Delay, Sitemap, Other}
 use Rattle.rfc9309.specs.LineForms.{AreForms, AreRulesBelowAgents as AreFree}
@@ -79,7 +79,7 @@ after_step b bodies text is = elim (byte_cases b) [
 
 completed : (text : List ℕ) → IsCompleted (bodies_of text) text
 completed [] = rw bodies_nil ([], inl refl, refl)
-completed (b ∷ text) = rw (step b _) (after_step b _ text (completed _))
+completed (b ∷ text) = rw (bodies_cons b _) (after_step b _ text (completed _))
 
 ended_bytes : (bodies : List (List ℕ)) (text : List ℕ) → AreEnded bodies text → Each (Each IsBodyByte) bodies
 ended_bytes [] text are = tt

@@ -7,7 +7,8 @@ use Rattle.std.proofs.lemmas.List.Elements.{All-from_recursion, All-nil}
 use Rattle.texting_robots.specs.{Line.UserAgent, Line.Allow, Line.CrawlDelay, Line.Disallow, Delay.Decimal}
 use Rattle.texting_robots.specs.{Delay.NamesDelay, Delay.Writes, Trim.IsTrimOf, Internal.Statement.trimmed}
 use Rattle.texting_robots.specs.Internal.{Line.line_with, Line.delay_or_raw, Delay.delay_of, Delay.rounded}
-use Rattle.texting_robots.proofs.Shared.{is_delay_of, one_delay, rounded_rounds, each_append, trimmed_is_trim}
+use Rattle.texting_robots.proofs.Shared.{is_delay_of, delay_computed, rounded_rounds, each_append}
+use Rattle.texting_robots.proofs.Shared.{trimmed_is_trim}
 use Rattle.rfc9309.proofs.HasFormLemmas.{IsCharText, chars_text, text_append}
 use Rattle.rfc9309.proofs.KeyedLemmas.{IsLineOf, keyed_line, has_at, parts_at, passes, value_passes}
 use Rattle.rfc9309.proofs.ValueLemmas.{IsVisible, trim_some, trim_utf8, visible_trim, visible_utf8}
@@ -276,7 +277,7 @@ delay_line (rfc.Delay number) text (is, line) =
       is_line =
           keyed_line kind.CrawlDelay number number text line chars trim _
           (λ body. ap (λ delay. delay_or_raw delay body) n.is)
-          ((one_delay number (Some n.delay)).1 (sym n.is), tt) n.passes;
+          ((delay_computed number (Some n.delay)).1 (sym n.is), tt) n.passes;
       written = λ parts. refl;
       unlisted = λ following. refl;
     }

@@ -9,8 +9,8 @@ use Rattle.std.proofs.{lemmas.Map.Views.Contains-from_any, lemmas.Slice.Eq.bytes
 use Rattle.texting_robots.specs.{Cut.IsBodyByte, Cut.cr, Cut.lf, declared.parser.statement.Kind.Kind}
 use Rattle.texting_robots.specs.Statement.{IsAfterBlanks, IsAfterColon, IsStatement}
 use Rattle.texting_robots.specs.Internal.Statement.{IsOptionalComment, kind_by, skip_blanks, statement_of}
-use Rattle.texting_robots.proofs.Shared.{line_raw, line_without_kind, each_append, NoBlank, found_statement}
-use Rattle.texting_robots.proofs.Shared.{kept, skip_front}
+use Rattle.texting_robots.proofs.Shared.{line_raw, line_without_kind, each_append, NoBlank, statement_sound}
+use Rattle.texting_robots.proofs.Shared.{skips_nothing, skip_front}
 use Rattle.rfc9309.proofs.KeyedLemmas.{IsLineOf, IsNamed, IsValueByte, blank_passes, blanks_low, named}
 use Rattle.rfc9309.proofs.KeyedLemmas.{blanks_value, comment_text, identifier_name, parts_comment}
 use Rattle.rfc9309.proofs.KeyedLemmas.{passes, remark, values_bare}
@@ -123,10 +123,11 @@ module _ (text : List ℕ) (o : rfc.IsOtherLine text) where
       word_plain s.key s.rest (written_begins (lower s.key) (expressed kind (lower s.key) s.is_key)) in
       sym (map-append to_ascii_lowercase o.name after_name)
       ∙ ap lower (
-      sym (skip_front o.margin (o.name ++ after_name) o.margin_blank ∙ kept (o.name ++ after_name) name)
+      sym (skip_front o.margin (o.name ++ after_name) o.margin_blank
+      ∙ skips_nothing (o.name ++ after_name) name)
       ∙ ap skip_blanks s.whole
       ∙ skip_front s.margin (s.key ++ s.rest) s.margin_blank
-      ∙ kept (s.key ++ s.rest) key)
+      ∙ skips_nothing (s.key ++ s.rest) key)
       ∙ map-append to_ascii_lowercase s.key s.rest
     where
       at : (name : List ℕ) → rfc.IsIdentifier name → Begins (lower name)
@@ -155,7 +156,7 @@ module _ (text : List ℕ) (o : rfc.IsOtherLine text) where
 
   no_statement : (found : Option (Kind × List ℕ)) → statement_of body ≡ found → statement_of body ≡ None
   no_statement None e = e
-  no_statement (Some (kind, value)) e = absurd (unstated kind value (found_statement kind value body e))
+  no_statement (Some (kind, value)) e = absurd (unstated kind value (statement_sound kind value body e))
 
   other_passes : is_other_name o.name ≡ true
   other_passes = grind (arith, and_from, name_passes, unlisted)

@@ -6,7 +6,7 @@ use Rattle.std.proofs.lemmas.{Bool.ne_eqb, List.Elements.filter-append}
 use Rattle.texting_robots.specs.Line.{is_raw, LineValue, nul_as_lf, without_bom}
 use Rattle.texting_robots.specs.{Executable.file_bodies, Executable.file_lines, Theorems.Same}
 use Rattle.rfc9309.specs.Rfc9309.{IsLastNl, IsNl, IsBom}
-use Rattle.texting_robots.proofs.Shared.{body_byte, body_return, body_step, step, raw_changes_nothing}
+use Rattle.texting_robots.proofs.Shared.{body_byte, body_return, body_step, bodies_cons, raw_changes_nothing}
 use Rattle.texting_robots.proofs.Shared.{bodies_nil, byte_cases, line_without_kind}
 use Rattle.rfc9309.proofs.Sources.{Source, is_not_raw, source_of, written}
 use Rattle.rfc9309.proofs.SyntaxLemmas.{each_weaker}
@@ -49,13 +49,13 @@ after_return : (bodies : List (List ℕ)) → IsBefore [] (body_return bodies) b
 after_return bodies = grind arith
 
 end_before : (nl rest : List ℕ) → IsNl nl → IsBefore [] (bodies_of (nl ++ rest)) (bodies_of rest)
-end_before nl rest h = grind (arith, after_return, step)
+end_before nl rest h = grind (arith, after_return, bodies_cons)
 
 pub line_before : (body nl rest : List ℕ) → Each IsBare body → IsNl nl
     → IsBefore body (bodies_of (body ++ (nl ++ rest))) (bodies_of rest)
 line_before [] nl rest bare is = end_before nl rest is
 line_before (b ∷ body) nl rest bare is =
-    grind (arith, body_step, ne_eqb, step, line_before body nl rest bare.1 is)
+    grind (arith, body_step, ne_eqb, bodies_cons, line_before body nl rest bare.1 is)
 
 pub before_sources : (body : List ℕ) (bodies others : List (List ℕ)) → IsBefore body bodies others
     → sources_in bodies ≡ filter is_not_raw (source_of body ∷ []) ++ sources_in others
@@ -73,7 +73,7 @@ byte_more : (b : ℕ) (bodies : List (List ℕ))
 byte_more b bodies = grind (arith, body_byte, byte_cases, ne_eqb, return_more)
 
 one_end : (nl : List ℕ) → IsNl nl → bodies_of nl ≡ [] ∷ []
-one_end nl h = grind (arith, bodies_nil, step)
+one_end nl h = grind (arith, bodies_nil, bodies_cons)
 
 pub end_more : (text nl : List ℕ) → IsLastNl nl → IsSameOrMore (bodies_of (text ++ nl)) (bodies_of text)
 end_more text nl (inl none) = rw (none, append-nil) (inl refl)
@@ -81,7 +81,7 @@ end_more text nl (inr is) = at text
   where
     at : (text : List ℕ) → IsSameOrMore (bodies_of (text ++ nl)) (bodies_of text)
     at [] = rw bodies_nil (inr (one_end nl is))
-    at (b ∷ text) = rw (step b (text ++ nl), step b text) (elim (at text) [
+    at (b ∷ text) = rw (bodies_cons b (text ++ nl), bodies_cons b text) (elim (at text) [
       | inl same ↦ inl (ap (body_step b) same)
       | inr more ↦ rw more (byte_more b (bodies_of text))
     ])

@@ -6,7 +6,7 @@ use Rattle.texting_robots.specs.Executable.{delay_for, file_lines, placed_rules,
 use Rattle.texting_robots.specs.Robot.{IsFileRejected, IsRobotOf, IsRobotOfFile, RobotValue, file_limit}
 use Rattle.texting_robots.specs.{Line.AreFileLinesOf, Trim.IsTrimOf}
 use Rattle.texting_robots.proofs.Shared.{delay_is_computed, sitemaps_are_computed, rejection_is_computed}
-use Rattle.texting_robots.proofs.Shared.{rules_are_computed, of_lines, each_text_has_its_lines}
+use Rattle.texting_robots.proofs.Shared.{rules_are_computed, lines_satisfy, each_text_has_its_lines}
 use Rattle.rfc9309.proofs.ReadLemmas.{file_same, file_sources, lines_in}
 use Rattle.rfc9309.proofs.FileLemmas.{FileRead, file_read, file_with, sitemaps_are_read}
 use Rattle.rfc9309.proofs.{GroupLemmas.delay_written, GroupLemmas.rules_written, EntryLemmas.robotstxt_lines}
@@ -57,7 +57,7 @@ pub robot_as : (agent text : List ℕ) (groups : List rfc.Group) (numbers addres
 robot_as agent text groups numbers addresses robot file lists is =
     let lines = file_lines text in
     let read = file_with text numbers groups file in
-    let has = of_lines text (λ lines. IsRobotOf agent lines robot) is lines (lines_are text) in
+    let has = lines_satisfy text (λ lines. IsRobotOf agent lines robot) is lines (lines_are text) in
     let delay : robot.delay ≡ delay_for agent (lines_in (file_sources text)) =
     (delay_is_computed agent lines robot.delay).0 has.delay ∙ (file_same text agent).0.delay in
     let found = delay_for agent (lines_in (file_sources text)) in
@@ -88,7 +88,7 @@ rejected_as agent text groups file rejected =
       rules_for agent lines,
       rules_read text agent numbers groups read,
       (rejection_is_computed agent lines).0
-          (of_lines text _ rejected lines (lines_are text)),
+          (lines_satisfy text _ rejected lines (lines_are text)),
     )
 
 pub forms_robot : (agent file : List ℕ) (forms : List Form) (robot : RobotValue)

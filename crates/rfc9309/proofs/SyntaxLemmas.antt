@@ -18,11 +18,11 @@ pub each_back : {X : Type 0} (P : X → Type 0) (xs ys : List X) → Each P (xs 
 each_back P [] ys all = all
 each_back P (x ∷ xs) ys all = each_back P xs ys all.1
 
-pub passing : {X : Type 0} (P : X → Type 0) (test : X → Bool) → ((x : X) → test x ≡ true → P x)
+pub each_if_all : {X : Type 0} (P : X → Type 0) (test : X → Bool) → ((x : X) → test x ≡ true → P x)
     → (xs : List X) → list_all test xs ≡ true
     → Each P xs
-passing P test is [] all = tt
-passing P test is (x ∷ xs) all = grind (arith, and_parts, passing P test is xs)
+each_if_all P test is [] all = tt
+each_if_all P test is (x ∷ xs) all = grind (arith, and_parts, each_if_all P test is xs)
 
 module _ {X : Type 0} (P : List X → List ℕ → Type 0) where
   pub repeats_none : Repeats P [] []

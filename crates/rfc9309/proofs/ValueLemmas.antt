@@ -13,9 +13,9 @@ use Rattle.std.proofs.lemmas.Str.{IsUtf8-past_char, IsUtf8-take, char_from_byte}
 use Rattle.texting_robots.specs.{Statement.field_names, Statement.IsBlank, Trim.IsSpaces, Trim.IsTrimOf}
 use Rattle.std.specs.Str.{IsUtf8, encode_utf8_all}
 use Rattle.std.proofs.Math.{Seq.drop-nil, Seq.take-nil, Utf8.scalars}
-use Rattle.texting_robots.proofs.Shared.{trailing_blanks, graphic_trim, same_trim, trimmed_is_trim}
-use Rattle.texting_robots.proofs.Shared.{white_scalar}
-use Rattle.rfc9309.proofs.{SyntaxLemmas.passing}
+use Rattle.texting_robots.proofs.Shared.{trim_drops_blanks, graphic_trimmed, trim_if_same, trimmed_is_trim}
+use Rattle.texting_robots.proofs.Shared.{white_is_scalar}
+use Rattle.rfc9309.proofs.{SyntaxLemmas.each_if_all}
 use Rattle.texting_robots.specs.declared.parser.statement.{Kind.Kind}
 use Rattle.rfc9309.specs.{LineTest.is_identifier_byte}
 use Rattle.texting_robots.specs.declared.parser.statement.Kind.TheVariants as kind
@@ -47,7 +47,7 @@ pub identifier_byte : (b : ℕ) → is_identifier_byte b ≡ true → rfc.IsIden
 identifier_byte b is = grind (arith, nat_tests)
 
 pub identifier : (word : List ℕ) → list_all is_identifier_byte word ≡ true → Each rfc.IsIdentifierByte word
-identifier = passing _ is_identifier_byte identifier_byte
+identifier = each_if_all _ is_identifier_byte identifier_byte
 
 -- an identifier, a space and an identifier byte, and any bytes after them
 pub record IsTwoWords (spelling : List ℕ) : Type 0 where
@@ -136,7 +136,7 @@ spaces_begin s rest text b visible (c ∷ cs, all, is) e =
 
 scalar_spaces : (chars : List ℕ) → Each IsWhite chars → scalars chars ≡ true
 scalar_spaces [] all = refl
-scalar_spaces (c ∷ cs) all = rw (white_scalar c all.0) (scalar_spaces cs all.1)
+scalar_spaces (c ∷ cs) all = rw (white_is_scalar c all.0) (scalar_spaces cs all.1)
 
 spaces_utf8 : (s : List ℕ) → IsSpaces s → IsUtf8 s
 spaces_utf8 s (chars, all, is) = (chars, (scalar_spaces _ all, sym is))
@@ -144,14 +144,14 @@ spaces_utf8 s (chars, all, is) = (chars, (scalar_spaces _ all, sym is))
 pub blanks_after : (blanks region value : List ℕ) → Each IsBlank blanks → IsUtf8 region
     → IsTrimOf value region
     → IsTrimOf value (region ++ blanks)
-blanks_after blanks region value all utf8 = same_trim _ _ _ (trailing_blanks _ _ utf8 all)
+blanks_after blanks region value all utf8 = trim_if_same _ _ _ (trim_drops_blanks _ _ utf8 all)
 
 pub visible_trim : (bytes : List ℕ) → Each IsVisible bytes → IsTrimOf bytes bytes
 visible_trim [] all = rw (drop-nil, take-nil) at (trimmed_is_trim [])
 visible_trim (b ∷ bytes) all =
     let last = All-from_recursion IsVisible (b ∷ bytes) all (length bytes) 0 (omega arith) in
     subst (λ v. IsTrimOf v (b ∷ bytes))
-    (graphic_trim b bytes (visible_graphic b all.0) (visible_graphic _ last)) (trimmed_is_trim _)
+    (graphic_trimmed b bytes (visible_graphic b all.0) (visible_graphic _ last)) (trimmed_is_trim _)
 
 pub visible_utf8 : (bytes : List ℕ) → Each IsVisible bytes → IsUtf8 bytes
 visible_utf8 bytes all =

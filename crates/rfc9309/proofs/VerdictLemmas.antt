@@ -6,7 +6,7 @@ use Rattle.std.proofs.lemmas.List.Elements.{All-contains, All-from_recursion}
 use Rattle.texting_robots.specs.Callers.{IsDenied, IsRobotOfFile, IsVerdict, Matches, RobotValue, Rule}
 use Rattle.texting_robots.specs.Callers.{escaped, unplaced}
 use Rattle.texting_robots.specs.{Escape.is_escaped, Trim.IsTrimOf}
-use Rattle.texting_robots.proofs.Shared.{plain_stays, is_trimmed, same_verdicts}
+use Rattle.texting_robots.proofs.Shared.{escaped_plain, trim_unique, permuted_verdicts}
 use Rattle.rfc9309.specs.Comparable.{AreComparable, IsPathOf, IsPlainPath}
 use Rattle.rfc9309.specs.Matching.{IsDisallowed, IsMatch, IsRfcVerdict, Reading, normal_uri, octets}
 use Rattle.rfc9309.specs.{StandardRobot.IsReadAs, Rfc9309.IsFileWith}
@@ -58,7 +58,7 @@ octets_are stays path is = grind (arith, end_of, escaped_parts, length-append)
 
 pub octets_written : (stays : Reading) (path : List ℕ) → IsPlainPath stays path
     → list_any is_escaped path ≡ false → length path ≡ octets stays path
-octets_written stays path is plain = grind (arith, octets_are, plain_stays)
+octets_written stays path is plain = grind (arith, octets_are, escaped_plain)
 
 module _ (stays : Reading) (count : List ℕ → ℕ) (members : List rfc.Member) (rules : List Rule)
     (uri : List ℕ) (zip : AllZip IsReadAs members rules)
@@ -70,7 +70,7 @@ module _ (stays : Reading) (count : List ℕ → ℕ) (members : List rfc.Member
   counts path listed = grind (arith, octets_are)
 
   own : (path value : List ℕ) → IsPathOf members path → IsTrimOf value path → value ≡ path
-  own path value listed trim = sym (is_trimmed path _ trim) ∙ is_trimmed _ _ (are.trimmed _ listed)
+  own path value listed trim = sym (trim_unique path _ trim) ∙ trim_unique _ _ (are.trimmed _ listed)
 
   read_of : (member : rfc.Member) (rule : Rule) → Contains members member → IsReadAs member rule
       → ◌≡◌ {A = Rule} rule (read member)
@@ -161,6 +161,6 @@ robot_agrees stays count agent text uri groups numbers robot answer written is f
     let members = rfc.rules_for agent groups in
     let (placed, same, zip) =
     (robot_as agent text groups numbers addresses robot written lists is).rules in
-    let alike = same_verdicts placed robot.rules same uri answer in
+    let alike = permuted_verdicts placed robot.rules same uri answer in
     let agree = verdicts_agree stays count members (unplaced placed) uri zip fit answer in
     (λ v. agree.0 (alike.0 v), λ v. alike.1 (agree.1 v))

@@ -63,7 +63,7 @@ reserved_in_uri =
     OnlyByStandard as_in_table (codes "/foo/bar?baz=https://foo.bar")
     (codes "/foo/bar?baz=https%3A%2F%2Ffoo.bar")
 
--- it is matched by both if it is written alike in the rule and in the URI
+-- a reserved octet is matched by both if it is written alike in the rule and in the URI
 abbrev pub reserved_alike : Type 0
 reserved_alike =
     IsMatch as_in_table (codes "/foo/bar?baz=https://foo.bar") (codes "/foo/bar?baz=https://foo.bar")

@@ -347,7 +347,7 @@ pub record IsRobotstxtByLines (groups : List Group) (text : List ℕ) : Type 0 w
 
 -- ---- the extended grammar by its lines
 
--- It has no form by groups: that further lines are skipped is stated by `groups_of` itself.
+-- The extended grammar has no form by groups: that further lines are skipped is stated by `groups_of` itself.
 
 -- memberline = rule / starrule / delayline; in the standard: rule
 abbrev pub IsMemberLine : Member → List ℕ → Type 0

@@ -26,9 +26,9 @@ use texting_robots::robot::FILE_LIMIT;
 /// What a file is by RFC 9309. Each line is counted from 1.
 #[derive(Clone, Copy, PartialEq, Eq)]
 pub enum Conformance {
-    /// It has more than 512,000 bytes, a NUL, or only a part of a byte order mark.
+    /// The file has more than 512,000 bytes, a NUL, or only a part of a byte order mark.
     OtherFile,
-    /// This is the first line that isn't in the grammar.
+    /// The first line that isn't in the grammar is this one.
     OtherLine(usize),
     /// The file is in the grammar; because of this line, verdicts may not be the standard's.
     Syntax(usize),
@@ -124,7 +124,7 @@ fn front_of<'a>(path: &'a [u8]) -> &'a [u8]
     }
 }
 
-/// This library compares the path as the standard does.
+/// Whether this library compares the path as the standard does.
 fn is_plain_path(path: &[u8]) -> bool
     ensures { result ≡ is_plain_path path.now }
 {

@@ -1,8 +1,7 @@
 -- What is answered, and that it is safe.
 use Rattle.std.specs.Prelude.{IfOk}
 use Rattle.std.proofs.Common.{◌≡◌, ◌+◌, ◌<◌, ◌||◌, ℕ, Bool, true, List, [], Result, Some, drop, inl, inr}
-use Rattle.std.proofs.Common.{length}
-use Rattle.std.proofs.Common.{refl, slice_index_or, string_bytes, subst, sym}
+use Rattle.std.proofs.Common.{length, refl, slice_index_or, string_bytes, subst, sym}
 use Rattle.std.proofs.{lemmas.List.drop_more, lemmas.Result.IfOk-weaker}
 use Rattle.safe_output.specs.{declared.level.Level.Level}
 use Rattle.safe_output.specs.{Sanitize.IsPrintable}

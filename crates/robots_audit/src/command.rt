@@ -158,7 +158,7 @@ fn urls_of<'a>(alloc: Global, matches: &ArgMatches<'a>) -> Result<Vec<&'a str>, 
     Ok(urls)
 }
 
-/// Also if one of the names of `--only` is that of a warning about needless rules.
+/// Whether needless rules are looked for: by their option, or as `--only` names a warning about them.
 fn has_needless(matches: &ArgMatches<'_>, only: &[&str]) -> bool {
     matches.get_flag("needless")
         || only

@@ -75,7 +75,7 @@ fn read_named(rt: &HostRuntime, name: &str) -> Result<Vec<u8>, Error> {
     }
 }
 
-/// Fails if there are none, as after a failed download.
+/// The bytes of standard input. Fails if there are none, as after a failed download.
 fn read_stdin(rt: &HostRuntime) -> Result<Vec<u8>, Error> {
     let bytes = read_all(rt.alloc(), &mut rt.stdin())?;
     if bytes.is_empty() {
@@ -92,7 +92,8 @@ fn read(rt: &HostRuntime, name: Option<&str>) -> Result<Vec<u8>, Error> {
     }
 }
 
-/// The same for `-` or a name. Fails if that can't be a robots.txt file.
+/// The bytes of the file with this name, or of standard input for `-`. Fails if that can't be a robots.txt
+/// file.
 fn read_robots(rt: &HostRuntime, name: &str) -> Result<Vec<u8>, Error> {
     let bytes = read(rt, Some(name))?;
     check_content(rt.alloc(), name, &bytes)?;

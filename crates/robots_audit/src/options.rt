@@ -14,13 +14,14 @@ enum Value {
     Texts(&'static str),
     /// The option needs this other one.
     AbsentWith(&'static str),
-    /// One each time that the option is given.
+    /// A text each time that the option is given.
     Repeated(&'static str),
-    /// The same, and another name of the option.
+    /// A text each time that the option is given; and another name of the option.
     RepeatedAs(&'static str, &'static str),
     /// One of these words.
     OneOf(&'static str, &'static [&'static str]),
-    /// They can only follow a `=`, as FILE may follow the option. Without a `=`, the last field is the value.
+    /// One of these words, which can only follow a `=`, as FILE may follow the option. Without a `=`, the
+    /// last field is the value.
     OneOfAfterEquals(&'static str, &'static [&'static str], &'static str),
 }
 

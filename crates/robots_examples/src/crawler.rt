@@ -21,7 +21,7 @@ pub struct DelayPolicy {
 pub struct Plan<'a> {
     /// The URLs that it fetches, in the given order.
     pub urls: Vec<&'a str>,
-    /// Between two requests, in microseconds.
+    /// The time between two requests, in microseconds.
     pub wait: u64,
 }
 

@@ -9,7 +9,7 @@ use Rattle.texting_robots.specs.{Callers.IsOverlong, Pattern.MatchesWith}
 use Rattle.texting_robots.specs.Callers.{IsVerdict, Matches, PlacedRule, Rule, Disallow, UserAgent, unplaced}
 use Rattle.texting_robots.specs.Callers.{file_limit, group_name, lines_read, placed_rules, robots_file}
 use Rattle.texting_robots.specs.Internal.{Cut.cut, Delay.delay_of, Line.line_of, Statement.statement_of}
-use Rattle.texting_robots.proofs.Shared.{any_overlong_decides, rejection_is_computed, answers_computed}
+use Rattle.texting_robots.proofs.Shared.{any_overlong_decides, rejection_is_computed, answer_as_placed}
 use Rattle.texting_robots.proofs.Shared.{read_rejected, read_robot}
 use Rattle.robots_responses.specs.{Responses.DecidesAll}
 use lib.Utf8.{encode}
@@ -25,7 +25,7 @@ decides answer file rules are fit verdict = record {
       (are agent) ((rejection_is_computed agent (lines_read file)).0 (read_rejected agent file rejected)));
   verdict = λ agent text robot is differs.
       let own = (read_robot agent file robot is).rules in
-      ((answers_computed agent (lines_read file) robot.rules own).verdicts text answer).1
+      ((answer_as_placed agent (lines_read file) robot.rules own).verdicts text answer).1
       (rw (are agent) (verdict text differs));
 }
 

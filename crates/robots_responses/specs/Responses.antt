@@ -5,7 +5,7 @@ use Rattle.texting_robots.specs.Callers.{unplaced}
 use Rattle.robots_responses.specs.declared.response.{Meaning.Meaning, Response.Response}
 use Rattle.robots_responses.specs.declared.response.Meaning.TheVariants.{Parse, Follow, AllowAll, DenyAll}
 
--- its status is one of those from `least` to `greatest`, but not `other`
+-- the status is one of those from `least` to `greatest`, but not `other`
 abbrev pub HasStatus : (least greatest other : ℕ) → Response → Type 0
 HasStatus least greatest other response =
     IsSomeAnd response.status (λ status. (least ≤ status) × (status ≤ greatest) × (status ≢ other))

@@ -1,16 +1,14 @@
 -- If each block that has rules keeps one, the lines that are left apply to the same crawlers.
-use Rattle.std.proofs.Common.{◌≡◌, ℕ, ◌+◌, ◌==◌, Bool, true, false, not, ◌||◌, []}
-use Rattle.std.proofs.Common.{List, ◌∷◌, Option, Some, None, ap, sym, refl, ◌∙◌, arith}
-use Rattle.std.proofs.Common.{filter, filter_map, map, if◌then◌else◌}
+use Rattle.std.proofs.Common.{◌≡◌, ℕ, ◌+◌, ◌==◌, Bool, true, false, not, ◌||◌, [], List, ◌∷◌, Option, Some}
+use Rattle.std.proofs.Common.{None, ap, sym, refl, ◌∙◌, arith, filter, filter_map, map, if◌then◌else◌}
 use Rattle.std.specs.{List.enumerate_from, List.list_any}
 use Rattle.texting_robots.specs.{declared.groups.GroupTracker.GroupTracker}
 use Rattle.texting_robots.specs.{Line.LineValue, Rules.PlacedRule, Rules.unplaced, Theorems.Same}
 use Rattle.texting_robots.specs.Line.{Raw, is_raw}
 use Rattle.texting_robots.specs.Group.{group_name, is_agent}
-use Rattle.texting_robots.specs.Executable.{captured_lines, placed_in}
-use Rattle.texting_robots.specs.Executable.{placed_rules, rules_for}
+use Rattle.texting_robots.specs.Executable.{captured_lines, placed_in, placed_rules, rules_for}
 use Rattle.texting_robots.specs.Internal.Group.{from_captured, start_of, step}
-use Rattle.texting_robots.proofs.Shared.{captured_walked, only_agents, raw_changes_nothing}
+use Rattle.texting_robots.proofs.Shared.{captured_walked, named_is_agent, raw_changes_nothing}
 use Rattle.robots_rules.specs.{declared.blocks.Block.Block}
 use Rattle.robots_rules.specs.Blocks.{block_after, is_rule, keep_blocks_from, left_from, no_rule}
 use Rattle.robots_rules.specs.Needless.{lines_without, without}
@@ -25,8 +23,8 @@ pub left_are : {A : Type 0} (numbers : List ℕ) (position : ℕ) (lines : List 
 left_are numbers position [] = refl
 left_are numbers position (line ∷ lines) = grind (arith, left_are numbers (position + 1) lines)
 
-pub no_agent : (line : LineValue) → is_rule line ≡ true → is_agent line ≡ false
-no_agent line is = grind arith
+pub rule_isnt_agent : (line : LineValue) → is_rule line ≡ true → is_agent line ≡ false
+rule_isnt_agent line is = grind arith
 
 next_block : (gone : ℕ → Bool) (block : Block) (position : ℕ) (line : LineValue) (lines : List LineValue)
     → keep_blocks_from gone block position (line ∷ lines) ≡ true
@@ -42,10 +40,10 @@ blank gone position (line ∷ lines) =
 abbrev is_meant : LineValue → Bool
 is_meant line = not (is_raw line)
 
-left_blank : (gone : ℕ → Bool) (position : ℕ) (lines : List LineValue)
+left_as_blanked : (gone : ℕ → Bool) (position : ℕ) (lines : List LineValue)
     → filter is_meant (left_from gone position lines) ≡ filter is_meant (blank gone position lines)
-left_blank gone position [] = refl
-left_blank gone position (line ∷ lines) = grind (arith, left_blank gone (position + 1) lines)
+left_as_blanked gone position [] = refl
+left_as_blanked gone position (line ∷ lines) = grind (arith, left_as_blanked gone (position + 1) lines)
 
 -- the next line is captured or not in the same way
 record AreAlike (block : Block) (tracker other : GroupTracker) : Type 0 where
@@ -106,14 +104,14 @@ module _ (numbers : List ℕ) (lines : List LineValue)
       (λ _ _. refl) (λ line later is. rw (none, others line is) refl) no_rule 0 lines keeps
 
   same_name : (agent : List ℕ) → group_name agent rest ≡ group_name agent lines
-  same_name agent = grind (arith, same_any, only_agents, no_agent)
+  same_name agent = grind (arith, same_any, named_is_agent, rule_isnt_agent)
 
   same_agents : list_any is_agent rest ≡ list_any is_agent lines
-  same_agents = same_any is_agent refl no_agent
+  same_agents = same_any is_agent refl rule_isnt_agent
 
   same_lines : (agent : List ℕ) → Same agent (lines_without numbers lines) agent rest
   same_lines agent = raw_changes_nothing agent _ _
-      (ap (filter is_meant) (left_are numbers 0 lines) ∙ left_blank goes 0 lines)
+      (ap (filter is_meant) (left_are numbers 0 lines) ∙ left_as_blanked goes 0 lines)
 
   captured : {X : Type 0} (given : ℕ × LineValue → Option X)
       → ((position : ℕ) → given (position, Raw []) ≡ None) → (name : List ℕ)

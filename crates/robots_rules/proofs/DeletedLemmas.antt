@@ -10,7 +10,7 @@ use Rattle.std.proofs.lemmas.List.Elements.{All-head, All-tail, recursion_from_A
 use Rattle.texting_robots.specs.Cut.{IsBodyByte, IsCut, IsLineEnd, Pair, cr, joined, lf}
 use Rattle.texting_robots.specs.Line.{LineValue, Raw, is_raw, nul_as_lf, without, without_bom}
 use Rattle.texting_robots.specs.Internal.{Cut.bodies_of, Line.line_of, Statement.statement_of}
-use Rattle.texting_robots.proofs.Shared.{body_byte, body_return, body_step, step, cut_nil}
+use Rattle.texting_robots.proofs.Shared.{body_byte, body_return, body_step, bodies_cons, cut_nil}
 use Rattle.robots_rules.specs.{Blocks.left_from}
 
 abbrev pub pair_body : Pair → List ℕ
@@ -45,17 +45,17 @@ after_return ((b ∷ first) ∷ bodies) = ((b ∷ first) ∷ bodies, refl, refl)
 one_return : (rest : List ℕ) → IsEnded (cr ∷ rest) rest
 one_return rest =
     let (later, is, same) = after_return (bodies_of rest) in
-    record { later = later; bodies = step cr rest ∙ is; same = same }
+    record { later = later; bodies = bodies_cons cr rest ∙ is; same = same }
 
 more_return : (text rest : List ℕ) → IsEnded text rest → IsEnded (cr ∷ text) rest
-more_return text rest is = grind (arith, step, body_return)
+more_return text rest is = grind (arith, bodies_cons, body_return)
 
 returns_end : (k : ℕ) (rest : List ℕ) → IsEnded (replicate (suc k) cr ++ rest) rest
 returns_end zero rest = one_return rest
 returns_end (suc k) rest = grind (arith, more_return, returns_end k rest)
 
 feed_end : (k : ℕ) (rest : List ℕ) → IsEnded ((replicate k cr ++ lf ∷ []) ++ rest) rest
-feed_end zero rest = record { later = bodies_of rest; bodies = step lf rest; same = refl }
+feed_end zero rest = record { later = bodies_of rest; bodies = bodies_cons lf rest; same = refl }
 feed_end (suc k) rest = grind (arith, more_return, feed_end k rest)
 
 at_body : (b : ℕ) (bodies : List (List ℕ)) → IsBodyByte b → body_step b bodies ≡ body_byte b bodies
@@ -65,11 +65,11 @@ body_first : (bytes text : List ℕ) (later : List (List ℕ)) → Each IsBodyBy
     → bodies_of text ≡ [] ∷ later → bodies_of (bytes ++ text) ≡ bytes ∷ later
 body_first [] text later all is = is
 body_first (b ∷ bytes) text later all is =
-    grind (arith, step, at_body, body_byte, body_first bytes text later all.1 is)
+    grind (arith, bodies_cons, at_body, body_byte, body_first bytes text later all.1 is)
 
 body_last : (b : ℕ) (bytes : List ℕ) → Each IsBodyByte (b ∷ bytes) → bodies_of (b ∷ bytes) ≡ (b ∷ bytes) ∷ []
-body_last b [] all = grind (arith, step, at_body, body_byte, cut_nil)
-body_last b (c ∷ bytes) all = grind (arith, step, at_body, body_byte, body_last c bytes all.1)
+body_last b [] all = grind (arith, bodies_cons, at_body, body_byte, cut_nil)
+body_last b (c ∷ bytes) all = grind (arith, bodies_cons, at_body, body_byte, body_last c bytes all.1)
 
 pub record IsPair (pair : Pair) (later : List Pair) : Type 0 where
   pub body : Each IsBodyByte pair.body

@@ -1,9 +1,8 @@
 -- If the found lines are deleted from a file, each crawler's robot stays the same.
 use mathlib.Core.Logic.Iff
-use Rattle.std.proofs.Common.{◌≡◌, ◌≢◌, ◌≤◌, ◌↔◌, inl, inr, ℕ, zero, suc, ◌+◌, Bool, false, not}
-use Rattle.std.proofs.Common.{[], Option}
-use Rattle.std.proofs.Common.{List, ◌∷◌, ◌++◌, IsUtf8, ap, ap₂, sym, refl, ◌∙◌, arith, filter}
-use Rattle.std.proofs.Common.{length, length-append, map}
+use Rattle.std.proofs.Common.{◌≡◌, ◌≢◌, ◌≤◌, ◌↔◌, inl, inr, ℕ, zero, suc, ◌+◌, Bool, false, not, [], Option}
+use Rattle.std.proofs.Common.{List, ◌∷◌, ◌++◌, IsUtf8, ap, ap₂, sym, refl, ◌∙◌, arith, filter, length}
+use Rattle.std.proofs.Common.{length-append, map}
 use Rattle.std.specs.{List.concat}
 use Rattle.std.proofs.lemmas.{Bool.or_parts, List.map-append}
 use Rattle.texting_robots.specs.Callers.{HasLines, IsRejected, IsRobotOf, IsVerdict, LineValue, RobotValue}
@@ -12,9 +11,9 @@ use Rattle.texting_robots.specs.Callers.{IsDelayFor, delay_for, file_bodies, fil
 use Rattle.texting_robots.specs.Cut.{IsLineEnd, Pair, joined}
 use Rattle.texting_robots.specs.{Theorems.Same, Line.is_raw, Line.without_bom}
 use Rattle.texting_robots.specs.Internal.{Cut.bodies_of, Cut.cut, Line.line_of}
-use Rattle.texting_robots.proofs.Shared.{delay_is_computed, sitemaps_are_computed, answers_computed, of_lines}
-use Rattle.texting_robots.proofs.Shared.{each_text_has_its_lines, front_is_end}
-use Rattle.texting_robots.proofs.Shared.{front_read, raw_changes_nothing, is_cut, only_cut}
+use Rattle.texting_robots.proofs.Shared.{delay_is_computed, sitemaps_are_computed, answer_as_placed}
+use Rattle.texting_robots.proofs.Shared.{lines_satisfy, each_text_has_its_lines, without_bom_suffix}
+use Rattle.texting_robots.proofs.Shared.{without_bom_map, raw_changes_nothing, is_cut, cut_unique}
 use Rattle.robots_rules.specs.Blocks.{left_from, AreAlike, AreWholeLines, CanBeDeleted, HaveSameRobot}
 use Rattle.robots_rules.specs.Blocks.{IsLeftOf, begin_with_mark}
 use Rattle.robots_rules.specs.Needless.{MeanTheSame, lines_without}
@@ -67,7 +66,8 @@ module _ (numbers file left : List ℕ) (is : IsLeftOf numbers file left)
   bodies_kept : lines_without numbers (file_bodies file) ≡ map pair_body kept
   bodies_kept =
       left_are numbers 0 (file_bodies file)
-      ∙ ap (λ pairs. left_from gone 0 (map pair_body pairs)) (sym (only_cut _ is.lines.pairs is.lines.is_cut))
+      ∙ ap (λ pairs. left_from gone 0 (map pair_body pairs))
+      (sym (cut_unique _ is.lines.pairs is.lines.is_cut))
       ∙ sym (map_left pair_body gone 0 is.lines.pairs)
 
   text_left : map nul_as_lf (concat (lines_without numbers is.whole)) ≡ joined kept
@@ -108,11 +108,11 @@ whole_of (pair ∷ later) text is =
       ap (λ t. one ++ t) all ∙ sym whole,
     )
 
-pub some_lines : (file : List ℕ) → (whole : List (List ℕ)) × AreWholeLines whole file
-some_lines file =
+pub has_whole_lines : (file : List ℕ) → (whole : List (List ℕ)) × AreWholeLines whole file
+has_whole_lines file =
     let text = without_bom (map nul_as_lf file) in
     let (whole, read, all) = whole_of (cut text) (without_bom file)
-    (front_read file ∙ sym (is_cut text).whole) in
+    (without_bom_map file ∙ sym (is_cut text).whole) in
     (whole, record { pairs = cut text; is_cut = is_cut text; read = read; joined = all })
 
 concat_within : (gone : ℕ → Bool) (position : ℕ) (lines : List (List ℕ))
@@ -126,7 +126,7 @@ left_within numbers file left is =
     let rest = concat (lines_without numbers is.whole) in
     let less : length rest ≤ length (without_bom file) =
     rw (left_are numbers 0 is.whole, ← is.lines.joined) (concat_within (among numbers) 0 is.whole) in
-    let (mark, whole) = front_is_end file in
+    let (mark, whole) = without_bom_suffix file in
     let all = ap length whole ∙ length-append mark (without_bom file) in
     let both = ap length is.rest ∙ length-append is.mark rest in
     (grind (arith, length-append))
@@ -134,7 +134,7 @@ left_within numbers file left is =
 pub of_file : (file : List ℕ) (P : List LineValue → Type 0)
     → HasLines file P → P (file_lines file)
 of_file file P is =
-    of_lines file P is (file_lines file) ((each_text_has_its_lines (map nul_as_lf file) _).1 refl)
+    lines_satisfy file P is (file_lines file) ((each_text_has_its_lines (map nul_as_lf file) _).1 refl)
 
 pub same_delay : (agent file other : List ℕ) (one two : Option ℕ)
     → HasLines file (λ lines. IsDelayFor agent lines one) → HasLines other (λ lines. IsDelayFor agent lines two)
@@ -175,8 +175,8 @@ module _ (file left : List ℕ) (numbers : List ℕ) (are : CanBeDeleted numbers
         ∙ sym same_as_less.0.delay ∙ sym ((delay_is_computed agent _ two.delay).0 is_two.delay);
     sitemaps = (grind (arith, sitemaps_are_computed, same_as_less, are));
     verdicts = λ text answer.
-        let first = (answers_computed agent lines one.rules is_one.rules).verdicts text answer in
-        let second = (answers_computed agent _ two.rules is_two.rules).verdicts text answer in
+        let first = (answer_as_placed agent lines one.rules is_one.rules).verdicts text answer in
+        let second = (answer_as_placed agent _ two.rules is_two.rules).verdicts text answer in
         Iff.trans first (Iff.trans (verdicts_stay text answer) (second.1, second.0));
   }
 

@@ -1,10 +1,8 @@
 -- Rules that are chosen from a pool.
-use Rattle.std.proofs.Common.{◌≡◌, ℕ, ◌+◌, ◌<◌, ◌≤◌, Bool, true, false, List}
-use Rattle.std.proofs.Common.{[], ◌∷◌, ◌++◌}
-use Rattle.std.specs.Prelude.{if◌then◌else◌}
-use Rattle.std.proofs.Common.{add-one, drop}
-use Rattle.std.proofs.Math.{Seq.drop-cons}
+use Rattle.std.proofs.Common.{◌≡◌, ℕ, ◌+◌, ◌<◌, ◌≤◌, Bool, true, false, List, [], ◌∷◌, ◌++◌, add-one, drop}
 use Rattle.std.proofs.Common.{arith, take, get_or, length, refl, ap, ◌∙◌}
+use Rattle.std.specs.Prelude.{if◌then◌else◌}
+use Rattle.std.proofs.Math.{Seq.drop-cons}
 use Rattle.std.proofs.{lemmas.Bool.cases_Bool, lemmas.List.append-nil, lemmas.List.take_all}
 use Rattle.std.proofs.{lemmas.List.take_more}
 use Rattle.texting_robots.specs.{Rules.Rule}

@@ -1,19 +1,16 @@
 -- A rule that another one replaces changes no verdict.
-use Rattle.std.proofs.Common.{◌≡◌, ◌≢◌, ◌<◌, ◌≤◌, ◌+◌, ◌↔◌, ◌⊎◌, inl, inr, ℕ, zero, suc, true, false}
-use Rattle.std.proofs.Common.{List}
+use Rattle.std.proofs.Common.{◌≡◌, ◌≢◌, ◌<◌, ◌≤◌, ◌+◌, ◌↔◌, ◌⊎◌, inl, inr, ℕ, zero, suc, true, false, List}
 use Rattle.std.proofs.Common.{[], ◌∷◌, ◌++◌, All, Contains, add-one, arith, bytes_eq, drop, get_or, length}
 use Rattle.std.proofs.Common.{refl, subst, sym, take}
 use Rattle.std.proofs.lemmas.Bool.{cases_Bool, cases_lt, false≢true, ne_eqb}
 use Rattle.std.proofs.lemmas.Bool.Decides.{not_from_Decides}
-use Rattle.std.proofs.lemmas.List.{get_or_default}
-use Rattle.std.proofs.lemmas.List.{Elements.All-contains}
+use Rattle.std.proofs.lemmas.List.{get_or_default, Elements.All-contains}
 use Rattle.std.proofs.lemmas.Slice.Eq.{bytes_eq-Decides}
 use Rattle.texting_robots.specs.{Rules.PlacedRule, Rules.Rule, Rules.unplaced}
 use Rattle.texting_robots.specs.Pattern.{Matches, MatchesWith, dollar, star}
 use Rattle.texting_robots.specs.Verdict.{IsDenied, robots_file}
 use Rattle.texting_robots.proofs.Shared.{matches, matches_decides, placed_of}
-use Rattle.robots_rules.specs.Internal.{rank_of}
-use Rattle.robots_rules.specs.Same.{HaveSameVerdicts}
+use Rattle.robots_rules.specs.{Internal.rank_of, Same.HaveSameVerdicts}
 use Rattle.robots_rules.specs.Search.{Covers, IsNoRival, IsReducedTo, Replaces, least_rival, others}
 use Rattle.robots_rules.proofs.TogetherLemmas.{in_cons, unplaced_of, verdicts}
 

@@ -1,7 +1,6 @@
 -- What the check at the end says of the found lines.
-use Rattle.std.proofs.Common.{◌≡◌, ◌+◌, ◌∙◌, ℕ, zero, suc, Bool, true, false, List, [], ◌∷◌, ◌++◌}
-use Rattle.std.proofs.Common.{All}
-use Rattle.std.proofs.Common.{ap, arith, codes, filter, length, map, refl, subst, subst₂, sym, take, take_all}
+use Rattle.std.proofs.Common.{◌≡◌, ◌+◌, ◌∙◌, ℕ, zero, suc, Bool, true, false, List, [], ◌∷◌, ◌++◌, All, ap}
+use Rattle.std.proofs.Common.{arith, codes, filter, length, map, refl, subst, subst₂, sym, take, take_all}
 use Rattle.std.proofs.Common.{◌==◌}
 use Rattle.std.specs.{BTreeMap.keys, Cmp.nat_cmp_total, Bool.Decides}
 use Rattle.std.proofs.lemmas.List.Elements.{All-contains, Contains-append_left, Contains-push}
@@ -10,12 +9,11 @@ use Rattle.std.proofs.lemmas.Map.{Lookups.exact_unsigned, Views.btree_map_contai
 use Rattle.std.specs.List.{Contains, enumerate_from, list_any}
 use Rattle.texting_robots.specs.Callers.{IsRejected, LineValue, PlacedRule, agents_in, delay_for, file_bodies}
 use Rattle.texting_robots.specs.Callers.{file_lines, placed_rules, rules_for, sitemaps_in, unplaced}
-use Rattle.robots_rules.specs.{Same.HaveSameVerdicts}
+use Rattle.robots_rules.specs.{Same.HaveSameVerdicts, Search.rule_at}
 use Rattle.texting_robots.specs.Internal.{Line.line_of}
 use Rattle.robots_rules.specs.declared.needless.{NeedlessRule.NeedlessRule, Reason.Reason}
 use Rattle.robots_rules.specs.Blocks.{AreFoundIn, KeepBlocks, begin_with_mark, left_from}
 use Rattle.robots_rules.specs.Search.{IsSameWithout, IsSettled, Reasons, SettledValue, is_found, names_of}
-use Rattle.robots_rules.specs.{Search.rule_at}
 use Rattle.robots_rules.specs.Needless.{MeanTheSame, lines_without, numbers_of}
 use Rattle.robots_rules.proofs.BlockLemmas.{among, left_are}
 use Rattle.robots_rules.proofs.LeftLemmas.{map_left}
@@ -85,13 +83,13 @@ module _ (found : Reasons) (list : List NeedlessRule) (are : list ≡ map rule_a
       };
     }
 
-pub means : (lines left : List LineValue) (settled : SettledValue) (agent : List ℕ)
+pub means_the_same : (lines left : List LineValue) (settled : SettledValue) (agent : List ℕ)
     (rules others : List PlacedRule)
     → ◌≡◌ {A = SettledValue} (record { agent = agent; rules = rules }) settled → IsSettled lines settled
     → ¬ IsRejected agent left → delay_for agent left ≡ delay_for agent lines
     → others ≡ placed_rules agent left → unplaced rules ≡ unplaced others
     → MeanTheSame settled.agent lines left
-means lines left settled agent rules others is settled_so accepted delay are same =
+means_the_same lines left settled agent rules others is settled_so accepted delay are same =
     subst (λ (s : SettledValue). IsSettled lines s → MeanTheSame s.agent lines left) is (λ so. record {
       accepted = so.accepted;
       left_accepted = accepted;

@@ -1,7 +1,6 @@
 -- What one more item does to a side, and a step by a byte.
-use Rattle.std.proofs.Common.{◌≡◌, ℕ, zero, suc, ◌+◌, ◌<◌, ◌≤◌, cond, Bool, true, false}
-use Rattle.std.proofs.Common.{List, [], ◌∷◌, ◌++◌, Contains, append_assoc, take, get_or, length}
-use Rattle.std.proofs.Common.{refl, sym, ap, ◌∙◌, arith}
+use Rattle.std.proofs.Common.{◌≡◌, ℕ, zero, suc, ◌+◌, ◌<◌, ◌≤◌, cond, Bool, true, false, List, [], ◌∷◌, ◌++◌}
+use Rattle.std.proofs.Common.{Contains, append_assoc, take, get_or, length, refl, sym, ap, ◌∙◌, arith}
 use Rattle.std.proofs.{lemmas.List.take_all, lemmas.List.take_more}
 use Rattle.texting_robots.specs.{Rules.Rule}
 use Rattle.texting_robots.proofs.Shared.{matches}

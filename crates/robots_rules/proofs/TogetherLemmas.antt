@@ -1,20 +1,17 @@
 -- Rules that are needless together.
-use Rattle.std.proofs.Common.{rules, []}
+use Rattle.std.proofs.Common.{rules, [], ◌≡◌, ◌↔◌, ℕ, zero, suc, ◌==◌, Bool, true, List, ◌∷◌, ap}
 use Rattle.std.proofs.lemmas.Grind.{common_steps}
-use Rattle.std.proofs.Common.{◌≡◌, ◌↔◌, ℕ, zero, suc, ◌==◌, Bool, true, List, ◌∷◌}
-use Rattle.std.proofs.Common.{ap}
 use Rattle.std.proofs.Common.{IsPermutation, refl, ◌∙◌, arith, map}
 use Rattle.std.specs.List.{Contains, filter, list_any}
 use Rattle.std.proofs.lemmas.Bool.{cond_both, eqb-true}
 use Rattle.std.proofs.lemmas.Bool.Decides.{Decides-eqb}
 use mathlib.Core.Logic.Iff
 use Rattle.std.proofs.lemmas.List.Elements.{All-contains, All-contains_itself, All-filter, filter_passes}
-use Rattle.std.proofs.lemmas.List.{get_or-map, length-map}
-use Rattle.std.proofs.lemmas.List.{Folds.Any-from_list_any, Folds.list_any_at}
+use Rattle.std.proofs.lemmas.List.{get_or-map, length-map, Folds.Any-from_list_any, Folds.list_any_at}
 use Rattle.texting_robots.specs.Rules.{PlacedRule, Rule, unplaced}
 use Rattle.robots_rules.specs.{Search.IsReducedTo}
 use Rattle.texting_robots.specs.Verdict.{IsDenied, IsVerdict}
-use Rattle.texting_robots.proofs.Shared.{same_verdicts}
+use Rattle.texting_robots.proofs.Shared.{permuted_verdicts}
 
 -- ---- Which rules are left without those in some lines.
 
@@ -68,7 +65,7 @@ pub verdicts : (rules others : List Rule) (text : List ℕ) → IsDenied rules t
 verdicts rules others text same answer = grind (arith, common_steps)
 
 pub permuted : (rules others : List PlacedRule) → IsPermutation rules others → IsReducedTo rules others
-permuted rules others same text answer = Iff.symm (same_verdicts rules others same text answer)
+permuted rules others same text answer = Iff.symm (permuted_verdicts rules others same text answer)
 
 pub reduced_more : (rules mid left : List PlacedRule) → IsReducedTo rules mid → IsReducedTo mid left
     → IsReducedTo rules left

@@ -1,16 +1,14 @@
 -- The last matching rule decides, if the rules are in ascending order.
-use Rattle.std.proofs.Common.{◌≡◌, ◌≢◌, ◌⊎◌, inl, inr, ℕ, suc, ◌+◌, ◌-◌, ◌<◌, ◌≤◌, Bool, true}
-use Rattle.std.proofs.Common.{false}
-use Rattle.std.proofs.Common.{List, [], ◌∷◌, ◌++◌, All, Contains, IsPermutation, get_or, length, refl}
-use Rattle.std.proofs.Common.{sym, subst, ◌∙◌, arith, add-one}
+use Rattle.std.proofs.Common.{◌≡◌, ◌≢◌, ◌⊎◌, inl, inr, ℕ, suc, ◌+◌, ◌-◌, ◌<◌, ◌≤◌, Bool, true, false, List}
+use Rattle.std.proofs.Common.{[], ◌∷◌, ◌++◌, All, Contains, IsPermutation, get_or, length, refl, sym, subst}
+use Rattle.std.proofs.Common.{◌∙◌, arith, add-one}
 use Rattle.std.proofs.lemmas.Bool.{cases_Bool, cases_lt, false≢true}
-use Rattle.std.proofs.lemmas.List.{get_or_default}
+use Rattle.std.proofs.lemmas.List.{get_or_default, Sorted.IsPermutation-sym}
 use Rattle.std.proofs.lemmas.Bool.Decides.{not_from_Decides}
 use Rattle.std.proofs.lemmas.List.Elements.{All-cons, All-contains, All-nil}
-use Rattle.std.proofs.lemmas.List.{Sorted.IsPermutation-sym}
 use Rattle.texting_robots.specs.{Pattern.Matches, Pattern.MatchesWith, Rules.Rule}
 use Rattle.texting_robots.specs.Verdict.{IsDenied, IsVerdict, robots_file}
-use Rattle.texting_robots.proofs.Shared.{matches, matches_decides, one_verdict, order_changes_nothing}
+use Rattle.texting_robots.proofs.Shared.{matches, matches_decides, verdict_unique, order_changes_nothing}
 use Rattle.robots_rules.specs.declared.pool.Entry.{Entry}
 use Rattle.robots_rules.specs.declared.compare.Comparison.{Comparison}
 use Rattle.robots_rules.specs.Same.{HaveSameVerdicts, IsComparison}
@@ -153,11 +151,11 @@ module _ (old new sorted_old sorted_new : List Rule) (pool : List Entry) (old_is
   new_verdict text = grind arith
 
   same_verdicts : (front : List ℕ) → AgreeFrom front pool → HaveSameVerdicts front old new
-  same_verdicts front agree rest answer = grind (arith, new_verdict, old_verdict, one_verdict)
+  same_verdicts front agree rest answer = grind (arith, new_verdict, old_verdict, verdict_unique)
 
   other_verdict : (text : List ℕ) → ¬ IsSameOn text pool → (answer : Bool) → IsVerdict old text answer
       → ¬ IsVerdict new text answer
-  other_verdict text differ answer is is_too = grind (arith, new_verdict, old_verdict, one_verdict)
+  other_verdict text differ answer is is_too = grind (arith, new_verdict, old_verdict, verdict_unique)
 
   pub compared : (front : List ℕ) (answer : Comparison) → IsAnswer front pool answer
       → IsComparison front old new answer

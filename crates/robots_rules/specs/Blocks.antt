@@ -65,7 +65,7 @@ pub record IsLeftOf (numbers : List ℕ) (file left : List ℕ) : Type 0 where
   pub front : (mark ≡ []) ⊎ (mark ++ without_bom file ≡ file)
   pub rest : left ≡ mark ++ concat (lines_without numbers whole)
 
--- the same delay, sitemaps and verdicts
+-- both robots have the same delay, sitemaps and verdicts
 pub record AreAlike (robot other : RobotValue) : Type 0 where
   pub delay : robot.delay ≡ other.delay
   pub sitemaps : robot.sitemaps ≡ other.sitemaps

@@ -24,7 +24,7 @@ abbrev pub AreAscending : List Rule → Type 0
 AreAscending rules = (k : ℕ) (d : Rule) → k + 1 < length rules
     → rank_of (slice_index_or rules k d) ≤ rank_of (slice_index_or rules (k + 1) d)
 
--- it is above all others
+-- the rule that `/robots.txt` is allowed, which is above all others
 abbrev pub robots_rule : Rule
 robots_rule = (codes "/robots.txt$", true)
 
@@ -54,7 +54,7 @@ pub record StateValue : Type 0 where
 abbrev pub verdict : SideValue → List ℕ → Bool
 verdict side text = last_kind side.start side.items text
 
--- as the next byte of the text, those that aren't listed are alike
+-- as the next byte of the text, all bytes that aren't listed are alike
 abbrev pub AreAlike : List ℕ → List Rule → Type 0
 AreAlike bytes items = (b c : ℕ) (start : Bool) (text : List ℕ) → ¬ Contains bytes b → ¬ Contains bytes c
     → last_kind start items (b ∷ text) ≡ last_kind start items (c ∷ text)
@@ -102,7 +102,7 @@ abbrev pub IsSameOn : List ℕ → List Entry → Type 0
 IsSameOn text pool =
     last_kind true (chosen true false pool) text ≡ last_kind true (chosen true true pool) text
 
--- both lists have the same verdict on every text that begins so
+-- both lists have the same verdict on every text that begins with `front`
 abbrev pub AgreeFrom : List ℕ → List Entry → Type 0
 AgreeFrom front pool = (text : List ℕ) → IsSameOn (front ++ text) pool
 

@@ -147,7 +147,7 @@ fn tried(
     Ok(Comparison::Undecided)
 }
 
-/// All rules at once. A quarter of the budget is kept for texts to try.
+/// Compares all rules at once. A quarter of the budget is kept for texts to try.
 fn compare_all(
     alloc: Global,
     pool: &[Entry<'_>],

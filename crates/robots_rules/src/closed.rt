@@ -36,7 +36,8 @@ fn all_follow(
     Ok(true)
 }
 
-/// Both verdicts are the same at the end of the text, and each byte leads to a state that was found.
+/// Whether the state's two verdicts agree at the end of the text, and each byte leads to a state that was
+/// found.
 fn is_checked(alloc: Global, found: &Found<'_>, state: &State<'_>) -> Result<bool, AllocError>
     ensures { IfOk result (λ is. IsTrue is → IsChecked found.now.states.items state.now) }
 {
@@ -65,7 +66,6 @@ fn are_checked(alloc: Global, found: &Found<'_>, states: &[State<'_>]) -> Result
     Ok(true)
 }
 
-/// The state of these rules was found.
 fn starts_settled(
     alloc: Global,
     found: &Found<'_>,
@@ -80,7 +80,6 @@ fn starts_settled(
     Ok(found.is_settled(&state))
 }
 
-/// The state above a shared rule was found.
 fn leaf_settled(
     alloc: Global,
     found: &Found<'_>,
@@ -99,7 +98,6 @@ fn leaf_settled(
     starts_settled(alloc, found, front, &pool[k + 1..], pool[k].item.is_allow())
 }
 
-/// The states above shared rules were found.
 fn leaves_settled(
     alloc: Global,
     found: &Found<'_>,

@@ -17,12 +17,12 @@ use texting_robots::site::Site;
 /// How two lists of rules compare.
 #[derive(Debug, Drop)]
 pub enum Comparison {
-    /// They have the same verdict on every text that begins with `front`.
+    /// The lists have the same verdict on every text that begins with `front`.
     Same,
-    /// They have opposite verdicts on this text, which begins with `front`. It is a match target, not a URL,
-    /// and may not be UTF-8.
+    /// The lists have opposite verdicts on this text, which begins with `front`. It is a match target, not a
+    /// URL, and may not be UTF-8.
     Differ(Vec<u8>),
-    /// Neither was found within the budget.
+    /// The budget was spent before either was found.
     Undecided,
 }
 
@@ -36,7 +36,7 @@ fn order(one: &Item<'_>, other: &Item<'_>) -> Ordering {
         .then(one.rest().cmp(other.rest()))
 }
 
-/// The first one doesn't rank above the other one.
+/// Whether the first item doesn't rank above the other one.
 #[tactic(auto, using(crate::proofs::VerdictLemmas::shorter_below, crate::proofs::VerdictLemmas::disallow_below, crate::proofs::VerdictLemmas::below_allow))]
 pub(crate) fn is_below(one: &Item<'_>, other: &Item<'_>) -> bool
     ensures { IsTrue result → rank_of one.now ≤ rank_of other.now }
@@ -99,7 +99,7 @@ fn one_if(taken: bool) -> usize
     if taken { 1 } else { 0 }
 }
 
-/// The next one of both lists.
+/// The next item of both lists.
 fn next_entry<'a>(
     old: &[Item<'a>],
     new: &[Item<'a>],

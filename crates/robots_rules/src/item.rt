@@ -52,7 +52,6 @@ impl<'a> Item<'a> {
         self.number
     }
 
-    /// The same rule with another rest.
     pub(crate) fn with(&self, rest: &'a [u8]) -> Item<'a>
         ensures { result ≡ (rest.now, self.now.1) }
     {
@@ -70,7 +69,7 @@ impl<'a> Item<'a> {
     }
 }
 
-/// How many stars it begins with. All but one of them change nothing.
+/// How many stars the rest of a pattern begins with. All but one of them change nothing.
 pub(crate) fn stars(rest: &[u8]) -> usize
     ensures within { result ≤ length rest.now }
     ensures alike { (text : List ℕ) → matches true rest.now text
@@ -85,7 +84,6 @@ pub(crate) fn stars(rest: &[u8]) -> usize
     rest.len()
 }
 
-/// It matches every text.
 pub(crate) fn matches_all(rest: &[u8]) -> bool
     ensures { IsTrue result → (text : List ℕ) → matches true rest.now text ≡ true }
 {
@@ -96,7 +94,6 @@ pub(crate) fn matches_all(rest: &[u8]) -> bool
     true
 }
 
-/// It matches the empty text.
 pub(crate) fn matches_end(rest: &[u8]) -> bool
     ensures { result ≡ matches true rest.now [] }
 {
@@ -108,7 +105,7 @@ pub(crate) fn matches_end(rest: &[u8]) -> bool
     true
 }
 
-/// Adds the byte that matters to it as the next byte of the text, if there is one.
+/// Adds the byte that matters to the rest of a pattern as the next byte of the text, if there is one.
 pub(crate) fn add_next_byte(rest: &[u8], bytes: &mut Vec<u8>) -> Result<(), AllocError>
     ensures adds { OnOk result (Adds bytes.old.items bytes.new.items) }
     ensures alike { OnOk result ((b c : ℕ) (text : List ℕ)

@@ -45,7 +45,7 @@ fn has_star(agents: &[&str]) -> bool
     agents.iter().any(|agent| *agent == "*")
 }
 
-/// Each once.
+/// The names of the file's crawlers, each once.
 fn crawlers_of(alloc: Global, site: &Site) -> Result<Vec<&str>, AllocError>
     ensures { IfOk result (λ crawlers. (agent : List ℕ)
         → Contains (codes "*" ∷ agents_in (file_lines site.now)) agent

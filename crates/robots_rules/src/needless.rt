@@ -20,12 +20,12 @@ pub(crate) const BUDGET: usize = 50_000_000;
 /// Why a rule is needless.
 #[derive(Clone, Copy, Debug, Eq, PartialEq)]
 pub enum Reason {
-    /// Its pattern matches no text, except perhaps `/robots.txt`, which is always allowed.
+    /// The rule's pattern matches no text, except perhaps `/robots.txt`, which is always allowed.
     MatchesNothing,
-    /// It is an Allow, and what it allows stays allowed once all needless rules are deleted.
+    /// The rule is an Allow, and what it allows stays allowed once all needless rules are deleted.
     AllowedAnyway,
-    /// It never decides, since the rule in the line with this number matches every text that it matches, and
-    /// is longer; or as long, and an Allow for a Disallow, or in a line above.
+    /// The rule never decides, since the one in the line with this number matches every text that it matches,
+    /// and is longer; or as long, and an Allow for a Disallow, or in a line above.
     NeverDecides(usize),
     /// Once all needless rules are deleted, the same verdict follows from the rule in the line with this
     /// number, which is of the same kind and matches every text that it matches, or from another rule.
@@ -34,7 +34,7 @@ pub enum Reason {
 
 #[derive(Clone, Copy, Debug, Eq, PartialEq)]
 pub struct NeedlessRule {
-    /// The number of its line, counted from 1.
+    /// The number of the rule's line, counted from 1.
     pub line: usize,
     pub reason: Reason,
 }
@@ -60,7 +60,7 @@ enum Outcome {
     Undecided,
 }
 
-/// The same rule, or another one with its pattern.
+/// A copy of the rule, as an Allow or a Disallow.
 fn copied(alloc: Global, rule: &Rule, is_allow: bool) -> Result<Rule, AllocError>
     ensures { IfOk result (λ made. made
         ≡ record { rule = (rule.now.rule.0, is_allow); line = rule.now.line }) }
@@ -74,7 +74,7 @@ fn copied(alloc: Global, rule: &Rule, is_allow: bool) -> Result<Rule, AllocError
     })
 }
 
-/// With an eighth of the budget at most.
+/// Compares two lists, with an eighth of the budget at most.
 fn compared(
     alloc: Global,
     budget: &mut usize,
@@ -97,7 +97,6 @@ fn matches_nothing(alloc: Global, budget: &mut usize, rule: &Rule) -> Result<boo
     Ok(matches!(comparison, Comparison::Same))
 }
 
-/// The first rule matches every text that the other one matches.
 fn covers(alloc: Global, budget: &mut usize, wide: &Rule, narrow: &Rule) -> Result<bool, AllocError>
     ensures { IfOk result (λ is. IsTrue is → Covers wide.now.rule.0 narrow.now.rule.0) }
 {
@@ -338,7 +337,7 @@ fn add_copies(alloc: Global, to: &mut Vec<Rule>, rules: &[Rule]) -> Result<(), A
     Ok(())
 }
 
-/// About how long it takes to copy and sort them, in steps of a comparison.
+/// About how long it takes to copy and sort the rules, in steps of a comparison.
 fn cost_of(rules: &[Rule]) -> usize {
     let mut cost: usize = 0;
     for rule in rules {

@@ -14,12 +14,11 @@ pub(crate) struct Entry<'a> {
     pub(crate) item: Item<'a>,
     pub(crate) old: bool,
     pub(crate) new: bool,
-    /// Else, if it is in both lists, no state has it.
+    /// Whether states have the rule even if it is in both lists.
     pub(crate) tracked: bool,
 }
 
 impl<'a> Entry<'a> {
-    /// It is in both lists, and not tracked.
     pub(crate) fn is_shared(&self) -> bool
         ensures { result ≡ is_shared self.now }
     {
@@ -62,7 +61,6 @@ fn push_entry<'a>(
     Ok(())
 }
 
-/// The rules of one list, or of these those that aren't shared.
 fn side_of<'a>(
     alloc: Global,
     pool: &[Entry<'a>],
@@ -83,7 +81,6 @@ fn side_of<'a>(
     Ok(side)
 }
 
-/// A state of these rules, or of those that aren't shared.
 pub(crate) fn state_of<'a>(
     alloc: Global,
     pool: &[Entry<'a>],
@@ -116,7 +113,7 @@ fn is_known(pool: &[Entry<'_>], kind: bool) -> bool
     true
 }
 
-/// The rule is shared, and the state above it isn't that of a rule above.
+/// Whether the rule is shared, and the state above it isn't that of a rule above.
 pub(crate) fn needs_state(pool: &[Entry<'_>], k: usize) -> bool
     ensures { result ≡ false → (text : List ℕ) → LeavesAgree text (drop (k + 1) pool.now)
         → LeavesAgree text (drop k pool.now) }

@@ -14,7 +14,6 @@ use std::alloc::{AllocError, Global};
 /// After so many rounds it gives up. In each, twice as many rules may be tracked.
 const ROUNDS: usize = 40;
 
-/// The text begins with `front`, and the two lists have opposite verdicts on it.
 pub(crate) fn differ_on(
     alloc: Global,
     pool: &[Entry<'_>],
@@ -34,7 +33,6 @@ pub(crate) fn differ_on(
     Ok(true)
 }
 
-/// The rule matches the text.
 fn matches(alloc: Global, item: &Item<'_>, text: &[u8]) -> Result<bool, AllocError> {
     let mut side = Side {
         items: Vec::new(alloc),
@@ -50,7 +48,7 @@ fn matches(alloc: Global, item: &Item<'_>, text: &[u8]) -> Result<bool, AllocErr
     Ok(verdict_at_end(&side) == item.is_allow())
 }
 
-/// The rule matches the text, though it was left out.
+/// Whether the rule matches the text, though it was left out.
 fn is_missed(alloc: Global, entry: &Entry<'_>, text: &[u8]) -> Result<bool, AllocError> {
     if !entry.is_shared() {
         return Ok(false);
@@ -85,7 +83,7 @@ fn cost_on(pool: &[Entry<'_>], len: usize) -> usize {
     pool.len().saturating_add(stars.saturating_mul(len) / 2)
 }
 
-/// The same rules, of which so many more are tracked.
+/// The pool, with at most `most` more of its rules tracked.
 pub(crate) fn refined<'a>(
     alloc: Global,
     pool: &[Entry<'a>],
@@ -110,7 +108,7 @@ pub(crate) fn refined<'a>(
     Ok(made)
 }
 
-/// On the texts that begin with `front`.
+/// Compares the two lists of a pool on the texts that begin with `front`.
 pub(crate) fn compare_pool<'a>(
     alloc: Global,
     start: Vec<Entry<'a>>,

@@ -12,7 +12,7 @@ use texting_robots::site::{Site, SiteRule};
 pub struct Rule {
     pub pattern: String,
     pub is_allow: bool,
-    /// The number of its line, which changes no verdict.
+    /// The number of the rule's line, which changes no verdict.
     pub line: usize,
 }
 

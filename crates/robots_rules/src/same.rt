@@ -68,7 +68,6 @@ fn without(
     Ok(left)
 }
 
-/// The other text has exactly the lines in which nothing was found.
 fn has_others(text: &[u8], left: &[u8], found: &BTreeMap<usize, Reason>) -> bool
     ensures { IsTrue result
         → file_bodies left.now ≡ left_from (is_found found.now) 0 (file_bodies text.now) }
@@ -92,7 +91,6 @@ fn is_same_rule(one: &Rule, other: &Rule) -> bool
     one.is_allow == other.is_allow && one.pattern.as_str() == other.pattern.as_str()
 }
 
-/// The same rules in the same order, whatever their lines are.
 fn are_same_rules(rules: &[Rule], others: &[Rule]) -> bool
     ensures { IsTrue result → unplaced rules.now ≡ unplaced others.now }
 {
@@ -127,7 +125,6 @@ fn are_same_texts(texts: &[&str], others: &[&str]) -> bool
     true
 }
 
-/// Both files give the crawler the same delay.
 fn have_same_delay(site: &Site, other: &Site, agent: &str) -> bool
     ensures { IsTrue result
         → delay_for agent.now (file_lines other.now) ≡ delay_for agent.now (file_lines site.now) }
@@ -146,7 +143,6 @@ pub(crate) fn accept(alloc: Global, site: &Site, agent: &str) -> Result<(), Robo
     Ok(())
 }
 
-/// The other file means the same for the crawler, of which these rules were left.
 fn means_the_same(
     alloc: Global,
     site: &Site,
@@ -165,7 +161,6 @@ fn means_the_same(
     Ok(are_same_rules(settled.rules.as_slice(), rules.as_slice()))
 }
 
-/// The same for all these crawlers.
 fn mean_the_same(
     alloc: Global,
     site: &Site,

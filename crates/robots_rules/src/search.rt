@@ -14,11 +14,11 @@ const MOST_ITEMS: usize = 2_000_000;
 #[derive(Drop)]
 pub(crate) struct Found<'a> {
     pub(crate) states: Vec<State<'a>>,
-    /// Their numbers, by their hashes.
+    /// The numbers of states, by their hashes.
     index: BTreeMap<u64, usize>,
     /// The state and the byte that led to each; a first one leads to itself.
     origins: Vec<(usize, u8)>,
-    /// For each of the first ones, how many rules of the pool lie below it.
+    /// For each of the first states, how many rules of the pool lie below it.
     below: Vec<usize>,
     items: usize,
 }
@@ -51,7 +51,7 @@ impl<'a> Found<'a> {
         }
     }
 
-    /// It is one of these, or its sides are the same.
+    /// Whether the state was found, or its sides are the same.
     pub(crate) fn is_settled(&self, state: &State<'_>) -> bool
         ensures { IsTrue result → IsSettled self.now.states.items state.now }
     {
@@ -130,7 +130,7 @@ impl<'a> Found<'a> {
         Ok(())
     }
 
-    /// Adds those that one byte leads to. False if that would take too long.
+    /// Adds the states that one byte leads to. False if that would take too long.
     fn add_all_next(
         &mut self,
         alloc: Global,

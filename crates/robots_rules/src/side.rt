@@ -9,7 +9,7 @@ use crate::item::{Item, add_next_byte, matches_all, matches_end, stars};
 use std::alloc::{AllocError, Global};
 use std::marker::Model;
 
-/// The last one that matches decides, or if none matches, the start.
+/// Items, of which the last that matches decides, or if none matches, the start.
 #[derive(Drop)]
 pub(crate) struct Side<'a> {
     pub(crate) items: Vec<Item<'a>>,
@@ -24,7 +24,6 @@ impl<'a> Model for Side<'a> {
     ghost view = { λ r. record { items = r.items.items; start = r.start } };
 }
 
-/// It is the last one of these already.
 fn is_last(items: &[Item<'_>], item: &Item<'_>) -> bool
     ensures { IsTrue result → (start : Bool) (text : List ℕ) → matches true item.now.0 text ≡ true
         → last_kind start items.now text ≡ item.now.1 }
@@ -77,7 +76,6 @@ fn push_next<'a>(side: &mut Side<'a>, item: Item<'a>, byte: u8) -> Result<(), Al
     push(side, item.with(&rest[1..]))
 }
 
-/// Pushes what a byte leaves of an item.
 fn push_after<'a>(side: &mut Side<'a>, item: &Item<'a>, byte: u8) -> Result<(), AllocError>
     ensures { OnOk result ((text : List ℕ) → verdict side.new text
         ≡ cond (matches true item.now.0 (byte ∷ text)) item.now.1 (verdict side.old text)) }
@@ -91,7 +89,6 @@ fn push_after<'a>(side: &mut Side<'a>, item: &Item<'a>, byte: u8) -> Result<(), 
     push_next(side, item.with(&rest[k..]), byte)
 }
 
-/// What a byte leaves of these items.
 fn step_items<'a>(
     alloc: Global,
     start: bool,
@@ -139,14 +136,13 @@ fn kind_at_end(start: bool, items: &[Item<'_>]) -> bool
     answer
 }
 
-/// Its verdict on the empty text.
 pub(crate) fn verdict_at_end(side: &Side<'_>) -> bool
     ensures { result ≡ verdict side.now [] }
 {
     kind_at_end(side.start, side.items.as_slice())
 }
 
-/// Adds the bytes that matter to them as the next byte of the text.
+/// Adds the bytes that matter to the items as the next byte of the text.
 pub(crate) fn add_next_bytes(items: &[Item<'_>], bytes: &mut Vec<u8>) -> Result<(), AllocError>
     ensures adds { OnOk result (Adds bytes.old.items bytes.new.items) }
     ensures alike { OnOk result (AreAlike bytes.new.items items.now) }

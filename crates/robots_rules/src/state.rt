@@ -25,7 +25,6 @@ impl<'a> Model for State<'a> {
 const OTHERS: &[u8] = b"abcdefghijklmnopqrstuvwxyz0123456789-_.~/%";
 
 impl<'a> State<'a> {
-    /// What is left after a byte.
     pub(crate) fn after(&self, alloc: Global, byte: u8) -> Result<State<'a>, AllocError>
         ensures { IfOk result (IsAfter (byte ∷ []) self.now) }
     {
@@ -42,7 +41,7 @@ impl<'a> State<'a> {
         verdict_at_end(&self.old) == verdict_at_end(&self.new)
     }
 
-    /// The bytes that matter to it as the next byte of the text.
+    /// The bytes that matter to the state as the next byte of the text.
     pub(crate) fn next_bytes(&self, alloc: Global) -> Result<Vec<u8>, AllocError>
         ensures old { IfOk result (λ bytes. AreAlike bytes.items self.now.old.items) }
         ensures new { IfOk result (λ bytes. AreAlike bytes.items self.now.new.items) }
@@ -65,12 +64,11 @@ impl<'a> State<'a> {
         is_same_side(&self.old, &other.old) && is_same_side(&self.new, &other.new)
     }
 
-    /// How many items it has.
     pub(crate) fn items(&self) -> usize {
         self.old.items.len().saturating_add(self.new.items.len())
     }
 
-    /// About how long a step of it takes, in steps of rules of ordinary lengths.
+    /// About how long a step of the state takes, in steps of rules of ordinary lengths.
     pub(crate) fn cost(&self) -> usize {
         cost_of(self.old.items.as_slice()).saturating_add(cost_of(self.new.items.as_slice()))
     }
@@ -121,7 +119,6 @@ pub(crate) fn along<'a>(
     Ok(state)
 }
 
-/// A byte that isn't one of these.
 pub(crate) fn other_byte(bytes: &[u8]) -> Option<u8>
     ensures { IfSome result (λ byte. ¬ Contains bytes.now byte) }
 {

@@ -2,7 +2,7 @@
 
 use std::alloc::{AllocError, Global};
 
-/// In place of a star, and at the end: few patterns have it.
+/// Stands in place of a star, and at the end: few patterns have it.
 const FILLER: &[u8] = b"~";
 
 /// The pattern matches the text; and how many steps that took, of which there are at most so many.
@@ -88,7 +88,7 @@ impl Texts {
         })
     }
 
-    /// The pattern matches both. Steps are subtracted.
+    /// Whether the pattern matches both texts. Steps are subtracted.
     pub fn are_matched(&self, pattern: &[u8], steps: &mut usize) -> bool {
         let (is_first, first) = is_match_within(pattern, &self.shortest, *steps);
         *steps = steps.saturating_sub(first).saturating_sub(2);

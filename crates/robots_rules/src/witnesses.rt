@@ -16,7 +16,7 @@ fn steps_of(budget: usize) -> usize {
     (budget / 16).saturating_mul(STEPS)
 }
 
-/// Subtracts what was taken of that part.
+/// Subtracts from a budget what was taken of its part in steps of a match.
 fn take(budget: &mut usize, left: usize) {
     let taken = (*budget / 16).saturating_sub(left / STEPS);
     *budget = budget.saturating_sub(taken);
@@ -41,7 +41,7 @@ impl Witnesses {
         })
     }
 
-    /// This rule matches both.
+    /// Whether this rule matches both texts.
     pub(crate) fn are_matched(&self, rule: &Rule, budget: &mut usize) -> bool {
         let mut steps = steps_of(*budget);
         let are = self.texts.are_matched(rule.pattern.as_bytes(), &mut steps);
@@ -49,12 +49,12 @@ impl Witnesses {
         are
     }
 
-    /// They are texts of the rule, and not that of which no rule decides.
+    /// Whether the rule matches both texts, and the shortest isn't `/robots.txt`, which no rule decides.
     pub(crate) fn are_proper(&self, rule: &Rule, budget: &mut usize) -> bool {
         !is_robots_file(&self.texts.shortest) && self.are_matched(rule, budget)
     }
 
-    /// The rule at this place is needed on one of them.
+    /// Whether the rule at this place is needed on one of the texts.
     pub(crate) fn show(&self, rules: &[Rule], at: usize, budget: &mut usize) -> bool {
         let mut steps = steps_of(*budget);
         let shown = is_needed_on(rules, at, &self.texts.shortest, &mut steps)
@@ -100,7 +100,7 @@ fn head(pattern: &[u8]) -> &[u8] {
     pattern
 }
 
-/// Both may match some text.
+/// Whether both rules may match some text.
 pub(crate) fn may_meet(one: &Rule, other: &Rule) -> bool {
     let begin = head(one.pattern.as_bytes());
     let other_begin = head(other.pattern.as_bytes());

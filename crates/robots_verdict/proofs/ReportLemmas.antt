@@ -5,7 +5,7 @@ use Rattle.std.proofs.lemmas.Bool.{cases_Bool, false≢true}
 use Rattle.texting_robots.specs.Callers.{IsRobotOf, RobotValue, delay_for, lines_read, placed_rules}
 use Rattle.texting_robots.specs.Callers.{rules_for, sitemaps_in}
 use Rattle.texting_robots.proofs.Shared.{Either, any_overlong_decides, delay_is_computed}
-use Rattle.texting_robots.proofs.Shared.{sitemaps_are_computed, answers_computed, lines_are_read}
+use Rattle.texting_robots.proofs.Shared.{sitemaps_are_computed, answer_as_placed, lines_are_read}
 use Rattle.texting_robots.proofs.Shared.{read_rejected, rejection_is_computed}
 use Rattle.robots_verdict.specs.{declared.fault.Fault.Fault, Input.Input, Input.are_utf8, Input.split}
 use Rattle.robots_verdict.specs.declared.fault.Fault.TheVariants.{HeaderNotUtf8, InvalidRule, NoEmptyLine}
@@ -28,7 +28,7 @@ text_made input one two text robot is first second last =
     record {
       verdict_lines = last.lines;
       verdicts = lines_like robot.rules (placed_rules input.agent lines)
-          (answers_computed input.agent lines robot.rules is.rules) input.urls last.lines last.verdicts;
+          (answer_as_placed input.agent lines robot.rules is.rules) input.urls last.lines last.verdicts;
       whole = lines_added one two text sitemaps last.lines (rw listed at second) last.whole
           ∙ ap (λ t. t ++ ended (sitemaps ++ last.lines)) (rw delayed at first)
           ∙ sym (ended-append delay (sitemaps ++ last.lines));

@@ -2,7 +2,7 @@
 use Rattle.std.specs.{Prelude.slice_get, Prelude.Any, Prelude.MatchOption, Global.Global}
 use Rattle.std.specs.{HashSet.contains_text, String.string_eq, List.filter_map, List.list_any, Str.byte}
 use Rattle.std.specs.List.{before_first, position_or_len}
-use Rattle.std.proofs.lemmas.List.{length-take, take_all}
+use Rattle.std.proofs.lemmas.List.{length-take, take_all, get_or-map, length-map, Folds.list_any-append}
 use Rattle.robots_warnings.specs.Crawlers.{ends_token, is_near}
 use Rattle.std.specs.{Str.str_to_ascii_lowercase, BTreeSet.BTreeSet, BTreeSet.Updates, BTreeSet.contains}
 use Rattle.std.proofs.Common.{[], ◌≡◌, ℕ, ◌+◌, ◌==◌, Bool, false, true, List, ◌∷◌, ap, arith, inl, inr, refl}
@@ -12,14 +12,13 @@ use Rattle.std.proofs.Common.{All, if◌then◌else◌}
 use Rattle.std.specs.Option.{option_or}
 use Rattle.std.proofs.lemmas.List.Elements.{All-contains, All-map, All-weaker, Contains-append_right}
 use Rattle.std.proofs.lemmas.List.Elements.{filter_map-append}
-use Rattle.std.proofs.lemmas.List.{get_or-map, length-map, Folds.list_any-append}
 use Rattle.std.proofs.lemmas.Bool.{and_parts, or_parts, cases_Bool, false≢true, ne_eqb, Decides.nat_tests}
 use Rattle.std.proofs.lemmas.Map.Text.{is_eq-slice_cmp, hash_set_updates_text}
 use Rattle.texting_robots.specs.Callers.{AreSitemapsOf, Label, LineValue, PlacedRule, escaped, file_lines}
 use Rattle.texting_robots.specs.Callers.{sitemaps_in}
 use Rattle.texting_robots.specs.Escape.{is_escaped}
 use Rattle.texting_robots.specs.Line.{AreFileLinesOf, nul_as_lf}
-use Rattle.texting_robots.proofs.Shared.{each_text_has_its_lines, of_lines, sitemaps_are_computed}
+use Rattle.texting_robots.proofs.Shared.{each_text_has_its_lines, lines_satisfy, sitemaps_are_computed}
 use Rattle.robots_warnings.specs.Closed.{closes, are_signs, first_closing, first_line, is_closing, is_rival}
 use Rattle.robots_warnings.specs.Closed.{is_literally, is_star_or_dollar, is_whole_site, leaves_closed}
 use Rattle.robots_warnings.specs.Closed.{line_closing_site, opened_path}
@@ -76,7 +75,7 @@ sitemaps_read text urls has =
     let read : AreFileLinesOf (file_lines text) text =
     (each_text_has_its_lines (map nul_as_lf text) _).1 refl in
     (sitemaps_are_computed (file_lines text) urls).0
-    (of_lines text (λ lines. AreSitemapsOf lines urls) has (file_lines text) read)
+    (lines_satisfy text (λ lines. AreSitemapsOf lines urls) has (file_lines text) read)
 
 pub any_opened : (pattern : List ℕ) (urls : List (Bor (List ℕ)))
     → list_any (λ url. list_any (is_literally pattern) (filter_map opened_path (url.now ∷ []))) urls

@@ -60,7 +60,7 @@ opens_little pattern =
     (somewhere begins_name_end pattern || bytes_eq pattern (codes "/$"))
     || list_any (λ start. starts_with nat_eq pattern start.now) WELL_KNOWN
 
--- it has no slash or star at its start, or has a byte other than a star or `$` after a `$`
+-- the pattern has no slash or star at its start, or has a byte other than a star or `$` after a `$`
 abbrev pub matches_no_path : List ℕ → Bool
 matches_no_path pattern = begins_oddly pattern || has_dollar_inside pattern
 

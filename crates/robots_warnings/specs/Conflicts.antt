@@ -1,7 +1,6 @@
 -- Rules that contradict each other, and empty Disallows.
-use Rattle.std.specs.Prelude.{[], ℕ, Bool, false, filter, slice_get, Contains, bytes_eq}
-use Rattle.std.specs.Prelude.{if◌then◌else◌, length}
-use Rattle.std.specs.Prelude.{◌≡◌, ◌+◌, ◌==◌, not, ◌||◌, ◌&&◌, List, ◌∷◌, Some, true, codes}
+use Rattle.std.specs.Prelude.{[], ℕ, Bool, false, filter, slice_get, Contains, bytes_eq, if◌then◌else◌}
+use Rattle.std.specs.Prelude.{length, ◌≡◌, ◌+◌, ◌==◌, not, ◌||◌, ◌&&◌, List, ◌∷◌, Some, true, codes}
 use Rattle.std.specs.{Str.byte, List.list_any}
 use Rattle.texting_robots.specs.Callers.{Allow, Label, LineValue, PlacedRule, AreRulesFor, placed_rules}
 use Rattle.texting_robots.specs.{Statement.IsStatement, declared.parser.statement.Kind.TheVariants.Disallow}
@@ -81,7 +80,7 @@ abbrev pub is_overruling : (ℕ → Bool) → (number : ℕ) → List PlacedRule
 is_overruling is_empty number rules =
     are_closed is_empty rules && list_any (is_empty_rule is_empty number) rules
 
--- it does so for one of these crawlers
+-- the empty Disallow overrules a Disallow for one of these crawlers
 abbrev pub overrules_for_one : (ℕ → Bool) → List (List ℕ) → List LineValue → (number : ℕ) → Bool
 overrules_for_one is_empty agents lines number =
     list_any (λ agent. is_overruling is_empty number (placed_rules agent lines)) agents

@@ -59,7 +59,7 @@ is_so_of cause.DollarNotAtEnd label = is_rule_that has_dollar_inside label.line
 is_so_of cause.RuleBeforeUserAgent label = is_above_agents label
 is_so_of other label = false
 
--- it is so of the line that the warning is about
+-- the cause holds of the line that the warning is about
 pub record IsOfLine (labels : List Label) (warning : WarningValue) : Type 0 where
   pub label : Label
   pub among : Contains labels label

@@ -350,8 +350,8 @@ fn warn_of_row<'a>(
     Ok(())
 }
 
-/// About each line of these rows. The crawler that is named is the first for which that is probably a
-/// mistake, or else the first.
+/// Warnings about each line of these rows. The crawler that is named is the first for which that is probably
+/// a mistake, or else the first.
 fn closing<'a>(
     alloc: Global,
     let_in: bool,
@@ -373,7 +373,7 @@ fn closing<'a>(
     Ok(found)
 }
 
-/// The same about the home page.
+/// A warning about a closed site as one about a closed home page.
 fn of_home<'a>(warning: &Warning<'a>) -> Warning<'a> {
     Warning {
         line: warning.line,

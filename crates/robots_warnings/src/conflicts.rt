@@ -181,7 +181,7 @@ fn add_overruling(
 /// What contradicts rules of some crawlers, by the numbers of their lines.
 #[derive(Drop)]
 pub(crate) struct RuleLines {
-    /// For a Disallow, the Allow of the same.
+    /// For a Disallow, the Allow with the same pattern.
     pub(crate) conflicts: Others,
     /// For an empty Disallow, the Disallow of `/` or `*`, if there is no Allow of these.
     pub(crate) overruling: Others,

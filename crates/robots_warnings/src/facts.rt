@@ -25,9 +25,9 @@ pub struct FileFacts {
     pub kinds: LineKinds,
     /// There is no directive, but some line that isn't empty or a comment, and the file looks like HTML.
     pub is_html: bool,
-    /// The same, but it looks like UTF-16 and not like HTML.
+    /// There is text but no directive, and the file looks like UTF-16 and not like HTML.
     pub is_utf_16: bool,
-    /// The same, but it looks like neither.
+    /// There is text but no directive, and the file looks like neither HTML nor UTF-16.
     pub is_other_text: bool,
     pub is_too_large: bool,
     pub has_cut_line: bool,

@@ -84,7 +84,6 @@ pub(crate) fn has_number(numbers: &[usize], number: usize) -> bool
     numbers.binary_search(&number).is_ok()
 }
 
-/// Whether a warning for this reason is about style.
 fn is_style(cause: Cause) -> bool
     ensures { result ≡ is_style cause }
 {
@@ -114,7 +113,7 @@ fn is_style(cause: Cause) -> bool
     }
 }
 
-/// Whether it is so of a line by itself.
+/// Whether the cause holds of a line by itself.
 fn is_so_of(cause: Cause, labeled: &LabeledLine<'_>) -> bool
     ensures { result ≡ true → is_so_of cause (label_by_value labeled.now) ≡ true }
 {
@@ -137,7 +136,6 @@ fn is_so_of(cause: Cause, labeled: &LabeledLine<'_>) -> bool
     }
 }
 
-/// Whether it is so of the line with this number.
 fn is_so_at(labels: &[LabeledLine<'_>], cause: Cause, number: usize) -> bool
     ensures { (warning : WarningValue) → warning.line ≡ Some number → warning.cause ≡ cause → result ≡ true
         → IsOfLine (map label_by_value labels.now) warning }
@@ -158,7 +156,7 @@ fn is_conflict(lines: &RuleLines, number: usize, detail: Option<Detail>) -> bool
     }
 }
 
-/// Whether it is so of more than a line.
+/// Whether a cause that depends on several lines holds of the line with this number.
 fn is_found(known: &Known<'_, '_>, cause: Cause, number: usize, detail: Option<Detail>) -> bool
     requires { IsKnown known.now }
     ensures { (about : Option (List ℕ)) → result ≡ true → SaysSo known.now cause number about detail }
@@ -181,7 +179,6 @@ fn is_found(known: &Known<'_, '_>, cause: Cause, number: usize, detail: Option<D
     }
 }
 
-/// Whether the warning is about style, or so.
 fn is_so(known: &Known<'_, '_>, warning: &Warning<'_>) -> bool
     requires { IsKnown known.now }
     ensures { result ≡ true → IsSo known.now warning.now }

@@ -16,9 +16,9 @@ use texting_robots::parser::Line;
 #[derive(Clone, Copy, PartialEq, Eq)]
 pub enum Preceding {
     Other,
-    /// With no rule or delay after it.
+    /// A user-agent line with no rule or delay after it.
     Agent,
-    /// With delays but no rule after it.
+    /// A user-agent line with delays but no rule after it.
     Delay,
 }
 

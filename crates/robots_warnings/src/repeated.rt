@@ -42,7 +42,7 @@ pub(crate) fn add_rule<'a>(seen: &mut Seen<'a>, line: Line<'a>) -> Result<bool, 
     }
 }
 
-/// The same, but a user-agent line drops all rules.
+/// The result is whether the line repeats a rule. A user-agent line drops all rules.
 fn add_line<'a>(alloc: Global, seen: &mut Seen<'a>, line: Line<'a>) -> Result<bool, AllocError>
     ensures { IfOk result (λ is. AddsLine seen.old seen.new (by_value line.entry) is) }
 {

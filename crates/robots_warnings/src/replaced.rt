@@ -19,7 +19,6 @@ use texting_robots::site::{Site, SiteRule};
 
 type Patterns = HashSet<String>;
 
-/// How many Disallows there are.
 pub(crate) fn disallow_count(rules: &[SiteRule<'_>]) -> usize
     ensures { result ≡ count_by (λ placed. not placed.rule.1) rules.now }
 {
@@ -57,7 +56,7 @@ fn denied_patterns(alloc: Global, rules: &[SiteRule<'_>]) -> Result<Patterns, Al
     Ok(denied)
 }
 
-/// Or a rule for the whole site.
+/// Whether the rule is a Disallow that `*` has too, or one for the whole site.
 #[tactic(auto, using(crate::proofs::ClosedLemmas::whole_site_escaped))]
 fn is_kept(alloc: Global, denied: &Patterns, rule: &SiteRule<'_>) -> Result<bool, AllocError>
     ensures { IfOk result (λ is. is ≡ is_kept_in denied.now rule.now) }
@@ -80,7 +79,6 @@ fn lacks_all(alloc: Global, site: &Site, denied: &Patterns, agent: &str) -> Resu
     Ok(true)
 }
 
-/// The crawler has this name, and has none of the Disallows of `*`.
 fn lacks_as(
     alloc: Global,
     site: &Site,
@@ -95,7 +93,6 @@ fn lacks_as(
     Ok(agent.as_bytes().eq_ignore_ascii_case(name) && lacks_all(alloc, site, denied, agent)?)
 }
 
-/// One of the crawlers does.
 fn is_lacking(
     alloc: Global,
     site: &Site,

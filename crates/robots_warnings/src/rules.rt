@@ -166,7 +166,7 @@ fn begins_dot_segment(text: &[u8]) -> bool {
             || text == b"/..$".as_slice())
 }
 
-/// In the path.
+/// Whether the path has a segment `.` or `..`.
 pub(crate) fn has_dot_segment(value: &[u8]) -> bool {
     somewhere(before_byte(b'?', value), begins_dot_segment)
 }

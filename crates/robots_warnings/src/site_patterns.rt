@@ -104,7 +104,7 @@ pub fn is_whole_site(value: &[u8]) -> bool
     are_signs(value) && (is_anything(value) || is_root(without_stars(value)))
 }
 
-/// It matches the path `/`: `/$` does, and so does every pattern of the whole site.
+/// Whether a rule's value matches the path `/`: `/$` does, and so does every pattern of the whole site.
 pub(crate) fn is_home(value: &[u8]) -> bool {
     match without_stars(value) {
         [b'/', rest @ ..] => are_stars_or_dollars(rest),

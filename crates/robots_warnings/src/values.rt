@@ -6,7 +6,7 @@ ghost use Rattle.std.specs.Cmp.Rules.{comparing, hashing};
 use std::collections::HashSet;
 use std::hash::{Hash, Hasher};
 
-/// It is hashed in one piece, and not byte by byte as a slice is.
+/// A rule's value, hashed in one piece, and not byte by byte as a slice is.
 #[derive(Clone, Copy)]
 pub(crate) struct Value<'a> {
     pub(crate) bytes: &'a [u8],

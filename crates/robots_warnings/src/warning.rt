@@ -23,7 +23,7 @@ pub enum Detail {
 
 #[derive(Drop)]
 pub struct Warning<'a> {
-    /// If the warning is about a line.
+    /// The line, if the warning is about one.
     pub line: Option<usize>,
     pub cause: Cause,
     /// The URL or the crawler's name that the message begins with, if it does.
@@ -57,7 +57,7 @@ impl<'a> Warning<'a> {
         }
     }
 
-    /// What it is about, if it isn't about a line alone.
+    /// What the warning is about, if it isn't about a line alone.
     pub fn kind(&self) -> &'static str {
         match self.cause {
             Cause::ClosesSite
@@ -93,7 +93,7 @@ impl fmt::Display for Detail {
     }
 }
 
-/// Its message.
+/// The message of the warning.
 impl<'a> fmt::Display for Warning<'a> {
     fn fmt<W: fmt::Write>(&self, f: &mut fmt::Formatter<W>) -> fmt::Result {
         if let Some(name) = self.about {

@@ -9,7 +9,7 @@ use Rattle.std.specs.{Str.bytes_eq}
 use Rattle.safe_output.specs.Html.{is_among, is_letter, is_name_byte, is_style, is_title, other_names}
 use Rattle.safe_output.specs.Html.{void_names}
 
--- its name, and the names of its attributes
+-- a tag's name, and the names of its attributes
 pub record Tag : Type 0 where
   pub name : List ℕ
   pub labels : List (List ℕ)

@@ -31,7 +31,7 @@ is_printable_byte has_lines byte = nat_lt byte 0x80 && is_printable has_lines by
 abbrev pub begins_command : List ℕ → Bool
 begins_command text = starts_with nat_eq text (codes "##[")
 
--- such a command works anywhere in a line
+-- a command with `##[` works anywhere in a line
 abbrev pub has_command : List ℕ → Bool
 has_command text = somewhere begins_command text
 
@@ -65,7 +65,7 @@ safe_in has_lines bytes = safe_chunks has_lines (pieces bytes) bytes
 abbrev pub sanitized_in : Bool → List ℕ → List ℕ
 sanitized_in has_lines bytes = without_commands (safe_in has_lines bytes)
 
--- it contains no LF, so it can't forge a line
+-- sanitized text of one line: it contains no LF, so it can't forge a line
 abbrev pub sanitized : List ℕ → List ℕ
 sanitized = sanitized_in false
 

@@ -66,7 +66,7 @@ pub fn somewhere<F: Fn(&[u8]) -> bool>(text: &[u8], test: F) -> bool
     !from_first(text, test).is_empty()
 }
 
-/// At most so many bytes from the start.
+/// The first bytes of the text, at most so many.
 #[tactic(auto, using(std::proofs::lemmas::List::take_min))]
 pub fn first(count: usize, text: &[u8]) -> &[u8]
     ensures { result.now ≡ take count text.now }
@@ -74,7 +74,7 @@ pub fn first(count: usize, text: &[u8]) -> &[u8]
     &text[..count.min(text.len())]
 }
 
-/// Without spaces and tabs at the start.
+/// The text without spaces and tabs at its start.
 pub fn trim_blanks_start(text: &[u8]) -> &[u8]
     ensures { result.now ≡ trim_blanks_start text.now }
 {
@@ -85,7 +85,7 @@ pub fn trim_blanks_start(text: &[u8]) -> &[u8]
     rest
 }
 
-/// Without spaces and tabs at both ends.
+/// The text without spaces and tabs at both ends.
 pub fn trim_blanks(text: &[u8]) -> &[u8]
     ensures { result.now ≡ trim_blanks text.now }
 {
@@ -107,7 +107,6 @@ pub fn as_text(value: &[u8]) -> Option<&str>
     }
 }
 
-/// Whether it is UTF-8.
 pub fn is_utf8(value: &[u8]) -> bool
     ensures { result ≡ is_utf8 value.now }
 {

@@ -37,7 +37,7 @@ impl Model for Html {
     ghost invariant = { λ html. IsOpen html.opened.items html.bytes.items };
 }
 
-/// Whether it is printable ASCII that is written as it is.
+/// Whether the byte is printable ASCII that is written as it is.
 fn is_plain(byte: u8) -> bool
     ensures { result ≡ is_plain byte }
 {

@@ -23,7 +23,7 @@ impl Level {
         }
     }
 
-    /// Whether it is `least` or more serious.
+    /// Whether the level is `least` or more serious.
     pub fn reaches(self, least: Level) -> bool
         ensures { result ≡ reaches self least }
     {
@@ -35,7 +35,7 @@ impl Level {
     }
 }
 
-/// In its color if there are colors: bold red, yellow or cyan.
+/// The level's word, in its color if there are colors: bold red, yellow or cyan.
 pub fn shown_word(has_colors: bool, level: Level) -> &'static str
     ensures { result.now ≡ shown_word has_colors level }
 {

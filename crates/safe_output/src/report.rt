@@ -92,7 +92,7 @@ fn without_utf8_bom<'a>(line: &'a [u8]) -> &'a [u8]
     line.strip_prefix(b"\xEF\xBB\xBF").unwrap_or(line)
 }
 
-/// Whether it isn't a command with `::`, after a byte order mark and white space.
+/// Whether the line isn't a command with `::`, after a byte order mark and white space.
 fn begins_plainly(line: &[u8]) -> bool
     ensures { result ≡ begins_plainly line.now }
 {
@@ -132,9 +132,9 @@ fn push_ended(text: &mut String, line: &str) -> fmt::Result
 /// Lines, none of which is a command. If an allocation fails, some or all are missing.
 #[derive(Drop)]
 pub struct Report {
-    /// Those that have ended.
+    /// The lines that have ended.
     text: String,
-    /// The start of the next one.
+    /// The start of the next line.
     line: Line,
     /// Where words for levels begin.
     levels: Vec<(usize, Level)>,
@@ -187,7 +187,7 @@ impl Report {
         }
     }
 
-    /// After an error the report is empty.
+    /// Ends the line. After an error the report is empty.
     #[tactic(auto, using(crate::proofs::ReportLemmas::cleared_report))]
     pub fn end_line(&mut self) -> fmt::Result {
         let ended = push_ended(&mut self.text, self.line.as_str());

@@ -11,14 +11,14 @@ use std::alloc::AllocError;
 use std::str::from_utf8;
 use texting_robots::push_escaped_bytes;
 
-/// Whether it may change the direction of a text.
+/// Whether the character may change the direction of a text.
 fn turns_text(char: char) -> bool
     ensures { result ≡ turns_text char }
 {
     matches!(char, '\u{61C}' | '\u{200E}'..='\u{200F}' | '\u{202A}'..='\u{202E}' | '\u{2066}'..='\u{2069}')
 }
 
-/// Whether it is safe to display, as is LF if the text may have several lines.
+/// Whether the character is safe to display, as is LF if the text may have several lines.
 fn is_printable(char: char, has_lines: bool) -> bool
     ensures { result ≡ is_printable has_lines char }
 {
@@ -35,7 +35,7 @@ fn is_printable_byte(byte: u8, has_lines: bool) -> bool
     ((byte >= b' ') & (byte <= b'~')) | (has_lines & (byte == b'\n'))
 }
 
-/// The loop doesn't stop at the first that isn't, since usually all are.
+/// The loop doesn't stop at the first unprintable byte, since usually there is none.
 pub(crate) fn are_printable_bytes(bytes: &[u8], has_lines: bool) -> bool
     ensures { result ≡ list_all (is_printable_byte has_lines) bytes.now }
 {
@@ -46,7 +46,7 @@ pub(crate) fn are_printable_bytes(bytes: &[u8], has_lines: bool) -> bool
     all
 }
 
-/// Unchanged if it is printable, else escaped; `None` is for bytes that aren't valid UTF-8.
+/// Appends a chunk, escaped unless it is printable; `None` is for bytes that aren't valid UTF-8.
 fn push_chunk(
     text: &mut String,
     char: Option<char>,

@@ -24,7 +24,7 @@ pub enum ReadError {
 /// Why an output couldn't be written.
 #[derive(Debug, PartialEq, Eq, Drop)]
 pub enum WriteError {
-    /// Its reader has closed it.
+    /// The reader of the output has closed it.
     Closed,
     /// A write or a flush failed in another way, or a write accepted no bytes.
     Write,

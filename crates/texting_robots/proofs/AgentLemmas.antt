@@ -9,7 +9,7 @@ use Rattle.texting_robots.specs.Internal.Agents.{NoneBegins, is_named_later, may
 use Rattle.texting_robots.specs.Internal.Cut.{before_byte, body_len, end_len, read_as, read_byte}
 use Rattle.texting_robots.specs.Internal.Statement.{kind_by, kind_with, skip_blanks, space, tab}
 use Rattle.texting_robots.proofs.CutLemmas.{byte_cases, cut_cons, pair_of}
-use Rattle.texting_robots.proofs.CutFromFront.{bodies_nil, first_line, next_body}
+use Rattle.texting_robots.proofs.CutFromFront.{bodies_nil, cut_first_line, next_body}
 use Rattle.texting_robots.proofs.LineLemmas.{agent_or_other, kind_is}
 use Rattle.texting_robots.specs.declared.parser.statement.Kind.TheVariants as kind
 
@@ -76,7 +76,7 @@ one_more : (name : List ℕ) (n : Bool) (b c : ℕ) (text : List ℕ)
 one_more name n b c text apart =
     let next = read_byte n c in
     let read = read_as n text in
-    rw (cut_cons (read_byte n b) (next ∷ read), first_line next read)
+    rw (cut_cons (read_byte n b) (next ∷ read), cut_first_line next read)
     (sym (after_byte name _ _ _ (read_byte n b)
     (λ end. front_other _ next read (read_other n c (apart (ends_read n b end))))))
 
@@ -113,10 +113,10 @@ other_first name n (b ∷ text) some other =
       names_none name _ (front_other (body_len (read_as n (b ∷ text))) b text other),
     )
 
-pub advances : (n : Bool) (rest : List ℕ) → 0 < length rest
+pub line_advances : (n : Bool) (rest : List ℕ) → 0 < length rest
     → (let k = body_len (read_as n rest) in 0 < k + end_len (read_as n (drop k rest)))
-advances n [] some = absurd (omega (arith, some))
-advances n (b ∷ rest) some = grind (arith, byte_cases, ne_eqb)
+line_advances n [] some = absurd (omega (arith, some))
+line_advances n (b ∷ rest) some = grind (arith, byte_cases, ne_eqb)
 
 pub none_named : (name : List ℕ) → list_any (is_agent_named name) (lines_of []) ≡ false
 none_named name = grind (arith, bodies_nil)

@@ -10,7 +10,7 @@ use Rattle.std.proofs.lemmas.List.{get_or-map, length-map, Elements.All-cons, El
 use Rattle.texting_robots.specs.Decision.{IsBetter, IsDecidingRule, IsDecidingLine}
 use Rattle.texting_robots.specs.Pattern.{IsSuffix, Matches, MatchesWith, dollar, star}
 use Rattle.texting_robots.specs.Rules.{PlacedRule, Rule, unplaced}
-use Rattle.texting_robots.{specs.Internal.Segments.rank, proofs.SegmentLemmas.none_left}
+use Rattle.texting_robots.{specs.Internal.Segments.rank, proofs.SegmentLemmas.suffix_of_nil}
 use Rattle.texting_robots.specs.Verdict.{IsVerdict, robots_file}
 
 abbrev pub Either : Type 0 → Type 0
@@ -38,7 +38,7 @@ matches anchors (b ∷ q) t =
 module _ (P : List ℕ → Type 0) (test : List ℕ → Bool)
     (each : (t : List ℕ) → Decides (test t) (P t)) where
   some_end_decides : (t : List ℕ) → Decides (some_end test t) ((s : List ℕ) × IsSuffix s t × P s)
-  some_end_decides [] = grind (arith, none_left)
+  some_end_decides [] = grind (arith, suffix_of_nil)
   some_end_decides (x ∷ t) =
       Decides-like _ there back (Decides-or _ _ (each (x ∷ t)) (some_end_decides t))
     where
@@ -108,12 +108,12 @@ preferred_trans first second third one two = grind arith
 no_longer : (m n : ℕ) (a b : Bool) → rank n b ≤ rank m a → n ≤ m
 no_longer m n a b h = grind (arith, nat_tests)
 
-pub longer : (first second : PlacedRule) → IsPreferred first second
+pub preferred_longer : (first second : PlacedRule) → IsPreferred first second
     → length second.rule.0 ≤ length first.rule.0
-longer first second is = grind (arith, no_longer)
+preferred_longer first second is = grind (arith, no_longer)
 
-better_isnt_after : (first second : PlacedRule) → IsPreferred first second → ¬ IsBetter second first
-better_isnt_after first second is = grind (arith, longer)
+preferred_not_after : (first second : PlacedRule) → IsPreferred first second → ¬ IsBetter second first
+preferred_not_after first second is = grind (arith, preferred_longer)
 
 abbrev pub IsAbove : List ℕ → PlacedRule → PlacedRule → Type 0
 IsAbove text placed other = Matches other.rule.0 text → IsPreferred placed other
@@ -125,22 +125,22 @@ pub record IsBest (rules : List PlacedRule) (text : List ℕ) (placed : PlacedRu
 
 pub best_decides : (rules : List PlacedRule) (text : List ℕ) (placed : PlacedRule)
     → IsBest rules text placed → IsDecidingRule rules text placed
-best_decides rules text placed is = grind (arith, better_isnt_after)
+best_decides rules text placed is = grind (arith, preferred_not_after)
 
 pub deciding_longest : (rules : List PlacedRule) (text : List ℕ) (placed other : PlacedRule)
     → IsDecidingRule rules text placed → Contains rules other → Matches other.rule.0 text
     → length other.rule.0 ≤ length placed.rule.0
 deciding_longest rules text placed other decides listed matches = grind (arith, cases_lt)
 
-pub verdict_by : (rules : List PlacedRule) (text : List ℕ) (placed : PlacedRule) (answer : Bool)
+pub verdict_by_rule : (rules : List PlacedRule) (text : List ℕ) (placed : PlacedRule) (answer : Bool)
     → IsDecidingRule rules text placed → placed.rule.1 ≡ answer → text ≢ robots_file
     → IsVerdict (unplaced rules) text answer
-verdict_by rules text placed true decides allow other = λ (_, p, splits, matches, longest).
+verdict_by_rule rules text placed true decides allow other = λ (_, p, splits, matches, longest).
     let (found, listed, rule) = placed_of rules (p, false) splits in
     let less =
     longest placed.rule.0 (rw (sym allow) (unplaced_of rules placed decides.listed)) decides.matches in
     decides.best found listed (rw rule matches) (inl (rw rule less))
-verdict_by rules text placed false decides deny other = (
+verdict_by_rule rules text placed false decides deny other = (
   other,
   placed.rule.0,
   rw (sym deny) (unplaced_of rules placed decides.listed),
@@ -154,9 +154,9 @@ verdict_by rules text placed false decides deny other = (
 abbrev pub NoMatch : List PlacedRule → List ℕ → Type 0
 NoMatch rules text = (placed : PlacedRule) → Contains rules placed → ¬ Matches placed.rule.0 text
 
-pub none_denies : (rules : List PlacedRule) (text : List ℕ) → NoMatch rules text
+pub allowed_if_none : (rules : List PlacedRule) (text : List ℕ) → NoMatch rules text
     → IsVerdict (unplaced rules) text true
-none_denies rules text none (other, p, splits, matches, longest) =
+allowed_if_none rules text none (other, p, splits, matches, longest) =
     let (found, listed, rule) = placed_of rules (p, false) splits in
     none found listed (rw rule matches)
 
@@ -227,19 +227,21 @@ abbrev pub IsAnsweredBy : Option PlacedRule → List PlacedRule → List ℕ →
 IsAnsweredBy found rules text =
     IsVerdict (unplaced rules) text (allowed_by found) × IsDecidingLine rules text (line_by found)
 
-pub answered : (rules : List PlacedRule) (text : List ℕ)
+pub rule_answers : (rules : List PlacedRule) (text : List ℕ)
     → IsAnsweredBy (deciding_rule rules text) rules text
-answered rules text = grind (arith, best_is, bytes_eq-Decides, cases_Bool, not_from_Decides, by_best)
+rule_answers rules text = grind (arith, best_is, bytes_eq-Decides, cases_Bool, not_from_Decides, by_best)
   where
     by_best : text ≢ robots_file → (best : Option PlacedRule) → IsFound rules text best
         → IsAnsweredBy best rules text
     by_best differs None none =
         let nowhere = λ (placed : PlacedRule) (listed : Contains rules placed).
         All-contains (λ placed. ¬ Matches placed.rule.0 text) rules placed none listed in
-        (none_denies rules text nowhere, inr nowhere)
+        (allowed_if_none rules text nowhere, inr nowhere)
     by_best differs (Some placed) is =
-        let decides = best_decides rules text placed is in
-        (verdict_by rules text placed placed.rule.1 decides refl differs, (differs, placed, decides, refl))
+        let decides = best_decides rules text placed is in (
+          verdict_by_rule rules text placed placed.rule.1 decides refl differs,
+          (differs, placed, decides, refl),
+        )
 
 pub record Answered (rules : List PlacedRule) (text : List ℕ) : Type 0 where
   pub allowed : Bool
@@ -249,5 +251,5 @@ pub record Answered (rules : List PlacedRule) (text : List ℕ) : Type 0 where
 
 pub each_text_answered : (rules : List PlacedRule) (text : List ℕ) → Answered rules text
 each_text_answered rules text =
-    let is = answered rules text in
+    let is = rule_answers rules text in
     grind arith

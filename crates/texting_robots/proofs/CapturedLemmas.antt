@@ -35,8 +35,8 @@ below_decides : (test : ℕ → Bool) (P : ℕ → Type 0) → ((k : ℕ) → De
     → (n : ℕ) → Decides (some_below test n) ((k : ℕ) × (k < n) × P k)
 below_decides test P each n = Decides-below_or test P (some_below test) each refl (λ _. refl) n
 
-pub itself : (b : Bool) → Decides b (b ≡ true)
-itself b = (λ h. h, λ h. h)
+pub bool_decides : (b : Bool) → Decides b (b ≡ true)
+bool_decides b = (λ h. h, λ h. h)
 
 pub within : (test : LineValue → Bool) (lines : List LineValue) (k : ℕ)
     → passes_at test lines k ≡ true → k < length lines
@@ -55,7 +55,7 @@ pub taken_decides : (test : LineValue → Bool) (lines : List LineValue) (n : �
     → Decides (list_any test (take n lines)) ((j : ℕ) × (j < n) × (passes_at test lines j ≡ true))
 taken_decides test lines n =
     Decides-below_or (passes_at test lines) (λ j. passes_at test lines j ≡ true)
-    (λ n. list_any test (take n lines)) (λ j. itself _) refl (any_next test lines) n
+    (λ n. list_any test (take n lines)) (λ j. bool_decides _) refl (any_next test lines) n
 
 pub some_passes : (test : LineValue → Bool) (lines : List LineValue)
     → Decides (list_any test lines) ((k : ℕ) × (passes_at test lines k ≡ true))
@@ -75,18 +75,18 @@ Broken A G j i = (l : ℕ) × (l < i) × ((A l ≡ true) × Crossed G j l)
 
 crossed_decides : (G : ℕ → Bool) (j i : ℕ) → Decides (crossed G j i) (Crossed G j i)
 crossed_decides G j i =
-    below_decides _ (λ k. (j < k) × (G k ≡ true)) (λ k. Decides-and _ _ (Decides-ltb j k) (itself _)) i
+    below_decides _ (λ k. (j < k) × (G k ≡ true)) (λ k. Decides-and _ _ (Decides-ltb j k) (bool_decides _)) i
 
 broken_decides : (A G : ℕ → Bool) (j i : ℕ) → Decides (broken A G j i) (Broken A G j i)
 broken_decides A G j i =
     below_decides _ (λ l. (A l ≡ true) × Crossed G j l)
-    (λ l. Decides-and _ _ (itself _) (crossed_decides G j l)) i
+    (λ l. Decides-and _ _ (bool_decides _) (crossed_decides G j l)) i
 
 named_decides : (A G N : ℕ → Bool) (i : ℕ)
     → Decides (named_at A G N i) ((j : ℕ) × (j < i) × ((N j ≡ true) × ¬ (Broken A G j i)))
 named_decides A G N i =
     below_decides _ (λ j. (N j ≡ true) × ¬ (Broken A G j i))
-    (λ j. Decides-and _ _ (itself _) (Decides-not _ (broken_decides A G j i))) i
+    (λ j. Decides-and _ _ (bool_decides _) (Decides-not _ (broken_decides A G j i))) i
 
 pub is_captured_decides : (name : List ℕ) (lines : List LineValue) (i : ℕ)
     → Decides (is_captured name lines i) (IsCaptured name lines i)
@@ -164,8 +164,8 @@ pub record IsWalkAt (name : List ℕ) (lines : List LineValue) (i : ℕ) (tracke
   pub captured : is_captured name lines i ≡ tracker.captured
   pub named : open_in name lines i ≡ tracker.named
 
-pub occurs_first : (name : List ℕ) (lines : List LineValue) → IsWalkAt name lines 0 (start_of lines)
-occurs_first name lines = record { captured = or-false _; named = refl }
+pub walk_first : (name : List ℕ) (lines : List LineValue) → IsWalkAt name lines 0 (start_of lines)
+walk_first name lines = record { captured = or-false _; named = refl }
 
 named_on : (name : List ℕ) (lines : List LineValue) (i : ℕ) (line : LineValue)
     → slice_get lines i ≡ Some line
@@ -187,36 +187,36 @@ open_on name lines i line at =
     ∙ open_next (passes_at is_member lines) (passes_at (is_agent_named name) lines) i
     ∙ rw at refl
 
-pub only_agents : (name : List ℕ) (line : LineValue) → is_agent line ≡ false
+pub named_is_agent : (name : List ℕ) (line : LineValue) → is_agent line ≡ false
     → is_agent_named name line ≡ false
-only_agents name line h = grind arith
+named_is_agent name line h = grind arith
 
-pub occurs_next : (name : List ℕ) (lines : List LineValue) (i : ℕ) (tracker : GroupTracker) (line : LineValue)
+pub walk_next : (name : List ℕ) (lines : List LineValue) (i : ℕ) (tracker : GroupTracker) (line : LineValue)
     → slice_get lines i ≡ Some line → IsWalkAt name lines i tracker
     → IsWalkAt name lines (i + 1) (step name tracker line)
-occurs_next name lines i tracker line at splits =
-    grind (arith, cases_Bool, named_on, only_agents, open_on, some_passes)
+walk_next name lines i tracker line at splits =
+    grind (arith, cases_Bool, named_on, named_is_agent, open_on, some_passes)
 
-pub at_front : (lines : List LineValue) (position : ℕ) (line : LineValue) (rest : List LineValue)
+pub drop_cons : (lines : List LineValue) (position : ℕ) (line : LineValue) (rest : List LineValue)
     → drop position lines ≡ line ∷ rest → (slice_get lines position ≡ Some line)
     × (drop (position + 1) lines ≡ rest)
-at_front [] zero line rest h = cc
-at_front [] (suc n) line rest h = cc
-at_front (x ∷ lines) zero line rest h = (cc, cc)
-at_front (x ∷ lines) (suc n) line rest h = grind (arith, at_front lines n line rest h)
+drop_cons [] zero line rest h = cc
+drop_cons [] (suc n) line rest h = cc
+drop_cons (x ∷ lines) zero line rest h = (cc, cc)
+drop_cons (x ∷ lines) (suc n) line rest h = grind (arith, drop_cons lines n line rest h)
 
 pub cond_same : {X : Type 0} (b : Bool) (x : X) → cond b x x ≡ x
 cond_same true x = refl
 cond_same false x = refl
 
-pub cond_given : {X : Type 0} (b : Bool) (o : Option X) (x : X)
+pub cond_some_iff : {X : Type 0} (b : Bool) (o : Option X) (x : X)
     → (cond b o None ≡ Some x) ↔ ((b ≡ true) × (o ≡ Some x))
-cond_given b o x = grind arith
+cond_some_iff b o x = grind arith
 
-pub kept_next : {X Y : Type 0} (keeps : Bool) (given : Y → Option X) (y : Y) (ys : List Y)
+pub filter_map_if : {X Y : Type 0} (keeps : Bool) (given : Y → Option X) (y : Y) (ys : List Y)
     → filter_map given (cond keeps (y ∷ ys) ys)
     ≡ cons_option (cond keeps (given y) None) (filter_map given ys)
-kept_next keeps given y ys = grind arith
+filter_map_if keeps given y ys = grind arith
 
 -- the state machine finds what the specification's captured lines give
 captured_left : {X : Type 0} (given : ℕ × LineValue → Option X) (name : List ℕ) (all : List LineValue)
@@ -226,17 +226,17 @@ captured_left : {X : Type 0} (given : ℕ × LineValue → Option X) (name : Lis
     ≡ from_captured given name tracker position lines
 captured_left given name all tracker position [] splits left = refl
 captured_left given name all tracker position (line ∷ lines) splits left =
-    let (at, next) = at_front all position line lines left in
+    let (at, next) = drop_cons all position line lines left in
     rw splits.captured (cc (
-      kept_next tracker.captured given (position, line) _,
+      filter_map_if tracker.captured given (position, line) _,
       captured_left given name all (step name tracker line) (position + 1) lines
-          (occurs_next name all position tracker line at splits) next,
+          (walk_next name all position tracker line at splits) next,
     ))
 
 pub captured_walked : {X : Type 0} (given : ℕ × LineValue → Option X) (name : List ℕ)
     (lines : List LineValue)
     → filter_map given (captured_lines name lines) ≡ from_captured given name (start_of lines) 0 lines
-captured_walked given name lines = grind (arith, captured_left, occurs_first)
+captured_walked given name lines = grind (arith, captured_left, walk_first)
 
 -- ---- What the captured lines give, without the lines' indices.
 
@@ -254,9 +254,9 @@ without_positions given name tracker position [] = refl
 without_positions given name tracker position (line ∷ lines) =
     grind (arith, without_positions given name (step name tracker line) (position + 1) lines)
 
-pub delays_are : (agent : List ℕ) (lines : List LineValue) → captured_delays agent lines
+pub delays_walked : (agent : List ℕ) (lines : List LineValue) → captured_delays agent lines
     ≡ given_captured delay_in (group_name agent lines) (start_of lines) lines
-delays_are agent lines =
+delays_walked agent lines =
     let name = group_name agent lines in
     captured_walked (λ p. delay_in p.1) name lines ∙ without_positions delay_in name (start_of lines) 0 lines
 
@@ -272,6 +272,6 @@ unplaced_left name tracker position [] = refl
 unplaced_left name tracker position (line ∷ lines) =
     grind (arith, unplaced_next, unplaced_left name (step name tracker line) (position + 1) lines)
 
-pub rules_are : (agent : List ℕ) (lines : List LineValue)
+pub rules_walked : (agent : List ℕ) (lines : List LineValue)
     → rules_for agent lines ≡ given_captured rule_in (group_name agent lines) (start_of lines) lines
-rules_are agent lines = grind (arith, captured_walked, unplaced_left)
+rules_walked agent lines = grind (arith, captured_walked, unplaced_left)

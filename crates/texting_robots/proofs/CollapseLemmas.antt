@@ -73,10 +73,10 @@ module _ (b : ℕ) (q : List ℕ) where
   unfolding collapsed
   length_last one = grind (arith, cases_Bool)
 
-pub length_within : (q : List ℕ) → length (collapsed q) ≤ length q
+pub collapsed_within : (q : List ℕ) → length (collapsed q) ≤ length q
 unfolding collapsed
-length_within [] = omega arith
-length_within (b ∷ q) = grind (arith, cases_Bool, length_within q)
+collapsed_within [] = omega arith
+collapsed_within (b ∷ q) = grind (arith, cases_Bool, collapsed_within q)
 
 pub star_starts : (q : List ℕ) → starts_with eqb q (star ∷ []) ≡ (get_or q 0 0 == star)
 star_starts q = grind (arith, and-true, nat_eq_equiv)

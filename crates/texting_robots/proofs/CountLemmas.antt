@@ -34,6 +34,6 @@ pub file_bodies_within : (text : List ℕ) → length (file_bodies text) ≤ len
 file_bodies_within text =
     omega (arith, bodies_within (map nul_as_lf text), length-map text nul_as_lf)
 
-pub lines_within : (text : List ℕ) → length (parsed text) ≤ length text
-lines_within text =
+pub parsed_within : (text : List ℕ) → length (parsed text) ≤ length text
+parsed_within text =
     omega (arith, length-map (bodies_of (without_bom text)) line_of, bodies_within text)

@@ -37,20 +37,20 @@ with_step : (b : ℕ) (pairs : List Pair)
     → bodies_in (before_byte b pairs) ≡ body_step b (bodies_in pairs)
 with_step b pairs = grind (arith, byte_cases, ne_eqb, with_byte, with_return)
 
-pub step : (b : ℕ) (text : List ℕ) → bodies_of (b ∷ text) ≡ body_step b (bodies_of text)
-step b text = ap bodies_in (cut_cons b text) ∙ with_step b (cut text)
+pub bodies_cons : (b : ℕ) (text : List ℕ) → bodies_of (b ∷ text) ≡ body_step b (bodies_of text)
+bodies_cons b text = ap bodies_in (cut_cons b text) ∙ with_step b (cut text)
 
 return_before_feed : (b : ℕ) (text : List ℕ) → b ≡ cr → slice_index text 0 ≡ lf
     → bodies_of (b ∷ text) ≡ bodies_of text
 return_before_feed b [] return feed = absurd (omega (arith, feed))
 return_before_feed b (c ∷ text) return feed = grind (arith, cut_cons)
 
-same_bodies : (text : List ℕ) → bodies_of (crlf_to_lf text) ≡ bodies_of text
-same_bodies [] = refl
-same_bodies (b ∷ text) = elim (cases_Bool (b == cr && slice_index text 0 == lf)) [
+bodies_of_crlf : (text : List ℕ) → bodies_of (crlf_to_lf text) ≡ bodies_of text
+bodies_of_crlf [] = refl
+bodies_of_crlf (b ∷ text) = elim (cases_Bool (b == cr && slice_index text 0 == lf)) [
   | inl pair ↦
-      grind (arith, and_parts, eqb-true, return_before_feed, same_bodies text)
-  | inr single ↦ grind (arith, step, same_bodies text)
+      grind (arith, and_parts, eqb-true, return_before_feed, bodies_of_crlf text)
+  | inr single ↦ grind (arith, bodies_cons, bodies_of_crlf text)
 ]
 
 feed_stays : (byte : ℕ) (text : List ℕ) → (lf == byte) ≡ false → slice_index text 0 ≡ lf
@@ -66,9 +66,9 @@ without_alone byte (b ∷ text) no_lf no_cr =
 front_alone : (text : List ℕ) → without_bom (crlf_to_lf text) ≡ crlf_to_lf (without_bom text)
 front_alone text = grind (arith, without_alone)
 
-same_parsed : (text : List ℕ) → parsed (crlf_to_lf text) ≡ parsed text
-same_parsed text = grind (arith, front_alone, same_bodies)
+parsed_of_crlf : (text : List ℕ) → parsed (crlf_to_lf text) ≡ parsed text
+parsed_of_crlf text = grind (arith, front_alone, bodies_of_crlf)
 
 pub cr_lf_is_lf : (text : List ℕ) (lines : List LineValue)
     → AreLinesOf lines (crlf_to_lf text) ↔ AreLinesOf lines text
-cr_lf_is_lf text lines = grind (arith, each_text_has_its_lines, same_parsed)
+cr_lf_is_lf text lines = grind (arith, each_text_has_its_lines, parsed_of_crlf)

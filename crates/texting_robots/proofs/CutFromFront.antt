@@ -10,7 +10,7 @@ use lib.Lanes.{mask_l, top}
 use Rattle.std.proofs.Math.Bool.{or_assoc, or_comm, or_self, or-false}
 use Rattle.memchr.specs.Find.{is_byte2, is_byte3, IsFirstByte}
 use Rattle.texting_robots.proofs.LaneLemmas.{first_labeled, first_seen}
-use Rattle.texting_robots.proofs.LabelLemmas.{position_is, end_is}
+use Rattle.texting_robots.proofs.LabelLemmas.{position_if_first, len_if_nowhere}
 use Rattle.texting_robots.specs.{Cut.Pair, Cut.cr, Cut.lf, Internal.Cut.empty_lines}
 use Rattle.texting_robots.specs.Internal.Cut.{bodies_of, cut, body_len, end_len, is_feed, read_as, read_byte}
 use Rattle.texting_robots.proofs.CutLemmas.{byte_cases, cut_cons, cut_nil, pair_of}
@@ -30,10 +30,10 @@ first_of text = pair_of (take (body_len text) text) (take (end_len (after_body t
 abbrev pub FirstLine : List ℕ → Type 0
 FirstLine text = cut text ≡ first_of text ∷ cut (rest_of text)
 
-pub first_line : (b : ℕ) (text : List ℕ) → FirstLine (b ∷ text)
-first_line b [] = grind (arith, byte_cases, cut_cons, cut_nil, ne_eqb)
-first_line b (c ∷ text) =
-    let next = first_line c text in
+pub cut_first_line : (b : ℕ) (text : List ℕ) → FirstLine (b ∷ text)
+cut_first_line b [] = grind (arith, byte_cases, cut_cons, cut_nil, ne_eqb)
+cut_first_line b (c ∷ text) =
+    let next = cut_first_line c text in
     elim (byte_cases b) [
       | inl feed ↦ rw (feed, cut_cons lf) refl
       | inr (inl return) ↦ rw (return, cut_cons cr, next) (elim (byte_cases c) [
@@ -47,7 +47,7 @@ first_line b (c ∷ text) =
 bodies_first : (text : List ℕ) → 0 < length text
     → bodies_of text ≡ take (body_len text) text ∷ bodies_of (rest_of text)
 bodies_first [] some = absurd (omega (arith, some))
-bodies_first (b ∷ text) some = grind (arith, first_line)
+bodies_first (b ∷ text) some = grind (arith, cut_first_line)
 
 pub bodies_nil : bodies_of [] ≡ []
 bodies_nil = ap (map (λ (p : Pair). p.body)) cut_nil
@@ -112,9 +112,9 @@ pub body_found : (n : Bool) (test : ℕ → Bool) (text : List ℕ) (found : Opt
     → IsFirstByte test text found
     → (let len = body_len (read_as n text) in
     MatchOption found (len ≡ length text) (λ end. (len ≡ end) × (end < length text)))
-body_found n test text None ends none = sym (body_by n test ends text) ∙ end_is test text none
+body_found n test text None ends none = sym (body_by n test ends text) ∙ len_if_nowhere test text none
 body_found n test text (Some k) ends first =
-    (sym (body_by n test ends text) ∙ position_is test text k first.0 first.1, first.0.high)
+    (sym (body_by n test ends text) ∙ position_if_first test text k first.0 first.1, first.0.high)
 
 -- searching only the first `k` bytes of a text: they contain the end of the line, or all belong to it
 pub front_seen : (n : Bool) (text : List ℕ) (k len : ℕ) → k ≤ length text

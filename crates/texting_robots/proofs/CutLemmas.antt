@@ -23,8 +23,8 @@ cut_cons b text = refl
 pub byte_cases : (b : ℕ) → (b ≡ lf) ⊎ ((b ≡ cr) ⊎ IsBodyByte b)
 byte_cases b = grind (arith, cases_eq)
 
-pub at_other : (b : ℕ) (pairs : List Pair) → IsBodyByte b → before_byte b pairs ≡ before_body b pairs
-at_other b pairs other = grind (arith, ne_eqb)
+pub before_body_byte : (b : ℕ) (pairs : List Pair) → IsBodyByte b → before_byte b pairs ≡ before_body b pairs
+before_body_byte b pairs other = grind (arith, ne_eqb)
 
 abbrev BeginWithBody : List Pair → Type 0
 BeginWithBody [] = Unit {0}
@@ -145,7 +145,7 @@ byte_adds : (b : ℕ) (pairs : List Pair) → ArePairs pairs → Adds b pairs (b
 byte_adds b pairs are = elim (byte_cases b) [
   | inl is ↦ rw is ((record { body = tt; ends = feed 0 }, are), refl)
   | inr (inl return) ↦ rw return (return_adds pairs are)
-  | inr (inr other) ↦ rw (at_other b pairs other) (body_adds b pairs other are)
+  | inr (inr other) ↦ rw (before_body_byte b pairs other) (body_adds b pairs other are)
 ]
 
 walked : (text : List ℕ) → ArePairs (cut text) × (joined (cut text) ≡ text)
@@ -172,12 +172,12 @@ feed_cut (suc k) text = cut_cons cr _ ∙ ap before_end (feed_cut k text)
 body_cut : {ending : List ℕ} {later : List Pair} (body text : List ℕ) → Each IsBodyByte body
     → cut text ≡ pair_of [] ending ∷ later → cut (body ++ text) ≡ pair_of body ending ∷ later
 body_cut [] text all e = e
-body_cut (b ∷ body) text all e = grind (arith, at_other, cut_cons, body_cut body text all.1 e)
+body_cut (b ∷ body) text all e = grind (arith, before_body_byte, cut_cons, body_cut body text all.1 e)
 
 last_cut : (b : ℕ) (body : List ℕ) → Each IsBodyByte (b ∷ body)
     → cut (b ∷ body) ≡ pair_of (b ∷ body) [] ∷ []
-last_cut b [] all = cut_cons b [] ∙ at_other b _ all.0 ∙ ap (before_body b) cut_nil
-last_cut b (c ∷ body) all = grind (arith, at_other, cut_cons, last_cut c body all.1)
+last_cut b [] all = cut_cons b [] ∙ before_body_byte b _ all.0 ∙ ap (before_body b) cut_nil
+last_cut b (c ∷ body) all = grind (arith, before_body_byte, cut_cons, last_cut c body all.1)
 
 pair_cut : {body ending : List ℕ} {later : List Pair} (text : List ℕ) → Each IsBodyByte body
     → EndsBy body ending later → joined later ≡ text → cut text ≡ later
@@ -191,9 +191,9 @@ joined_cut : (pairs : List Pair) → ArePairs pairs → cut (joined pairs) ≡ p
 joined_cut [] are = cut_nil
 joined_cut (pair ∷ later) are = grind (arith, append_assoc, pair_cut, joined_cut later are.1)
 
-pub only_cut : (text : List ℕ) (pairs : List Pair) → IsCut pairs text → pairs ≡ cut text
-only_cut text pairs is = grind (arith, cut_occurs, joined_cut)
+pub cut_unique : (text : List ℕ) (pairs : List Pair) → IsCut pairs text → pairs ≡ cut text
+cut_unique text pairs is = grind (arith, cut_occurs, joined_cut)
 
 pub each_text_has_one_cut : (text : List ℕ)
     → IsCut (cut text) text × ((pairs : List Pair) → IsCut pairs text → pairs ≡ cut text)
-each_text_has_one_cut text = (is_cut text, only_cut text)
+each_text_has_one_cut text = (is_cut text, cut_unique text)

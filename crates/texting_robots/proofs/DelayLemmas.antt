@@ -21,7 +21,7 @@ use Rattle.texting_robots.specs.Delay.{NamesSeconds, Rounds, Writes, negative_ex
 use Rattle.texting_robots.specs.Internal.Delay.{HasDigits, after_fraction, digits_in_front, fraction_in_front}
 use Rattle.texting_robots.specs.Internal.Delay.{after_digits, delay_after, delay_of, exponent_of, is_infinite}
 use Rattle.texting_robots.specs.Internal.Delay.{is_numeral, is_zero, zero_of, number_of, number_with, rounded}
-use Rattle.texting_robots.proofs.CapturedLemmas.{cond_given}
+use Rattle.texting_robots.proofs.CapturedLemmas.{cond_some_iff}
 
 digit_decides : (b : ℕ) → Decides (is_ascii_digit b) (IsAsciiDigit b)
 digit_decides b = grind (arith, le-leb, leb-true)
@@ -123,7 +123,7 @@ with_found : (whole fraction : List ℕ) (o : Option (List ℕ)) (n : Decimal)
     → number_with whole fraction o ≡ Some n
     → (0 < length (whole ++ fraction))
     × ((e : List ℕ) × (o ≡ Some e) × (n ≡ decimal whole fraction e))
-with_found whole fraction o n is = grind (arith, cond_given, ltb-true)
+with_found whole fraction o n is = grind (arith, cond_some_iff, ltb-true)
 
 number_found : (text : List ℕ) (n : Decimal) → number_of text ≡ Some n → Writes text n
 number_found text n e =
@@ -227,5 +227,5 @@ module _ (text : List ℕ) where
       none None e = refl
       none (Some delay) e = absurd (h delay (found minus unsigned delay e))
 
-pub one_delay : (text : List ℕ) (delay : Option ℕ) → IsDelay text delay ↔ delay ≡ delay_of text
-one_delay text delay = (is_delay_of text delay, λ same. rw same (delay_of_is text))
+pub delay_computed : (text : List ℕ) (delay : Option ℕ) → IsDelay text delay ↔ delay ≡ delay_of text
+delay_computed text delay = (is_delay_of text delay, λ same. rw same (delay_of_is text))

@@ -8,12 +8,12 @@ use Rattle.texting_robots.specs.Executable.{delay_for, file_lines, placed_rules}
 use Rattle.texting_robots.specs.Pattern.{IsOverlong, MatchesWith, collapsed, dollar, longest_with_dollar}
 use Rattle.texting_robots.specs.Rules.{AreRulesFor, IsDelayFor, PlacedRule, Rule}
 use Rattle.texting_robots.proofs.{BestLemmas.allowed_by, ExecutableLemmas.delay_is_computed}
-use Rattle.texting_robots.proofs.BestLemmas.{answered, deciding_rule, line_by, matches, matches_decides}
-use Rattle.texting_robots.proofs.MainTheoremLemmas.{computed_are, has_lines}
+use Rattle.texting_robots.proofs.BestLemmas.{rule_answers, deciding_rule, line_by, matches, matches_decides}
+use Rattle.texting_robots.proofs.MainTheoremLemmas.{placed_are_rules, has_lines}
 
-pub matching : (anchors : Bool) (pattern text : List ℕ) → matches anchors pattern text ≡ true
+pub matches_sound : (anchors : Bool) (pattern text : List ℕ) → matches anchors pattern text ≡ true
     → MatchesWith anchors pattern text
-matching anchors pattern text is = (matches_decides anchors pattern text).0 is
+matches_sound anchors pattern text is = (matches_decides anchors pattern text).0 is
 
 pub not_matching : (anchors : Bool) (pattern text : List ℕ) → matches anchors pattern text ≡ false
     → ¬ MatchesWith anchors pattern text
@@ -21,7 +21,7 @@ not_matching anchors pattern text isnt = not_from_Decides _ (matches_decides anc
 
 pub answers : (rules : List PlacedRule) (text : List ℕ)
     → Answers rules text (allowed_by (deciding_rule rules text)) (line_by (deciding_rule rules text))
-answers rules text = let is = answered rules text in record { verdict = is.0; deciding = is.1 }
+answers rules text = let is = rule_answers rules text in record { verdict = is.0; deciding = is.1 }
 
 any_decides : {X : Type 0} (P : X → Type 0) (test : X → Bool) → ((x : X) → Decides (test x) (P x))
     → (xs : List X) → Decides (list_any test xs) (Any P xs)
@@ -47,7 +47,7 @@ any_overlong_decides rules = any_decides _ _ (λ (rule : Rule). overlong_decides
 pub gives_rules : (agent file : List ℕ) → GivesRules agent file (placed_rules agent (file_lines file))
 gives_rules agent file =
     has_lines file (λ lines. AreRulesFor agent lines (placed_rules agent (file_lines file)))
-    (computed_are agent (file_lines file))
+    (placed_are_rules agent (file_lines file))
 
 pub gives_delay : (agent file : List ℕ) (delay : ℕ) → Some delay ≡ delay_for agent (file_lines file)
     → GivesDelay agent file delay

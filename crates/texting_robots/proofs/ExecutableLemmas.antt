@@ -12,8 +12,9 @@ use Rattle.texting_robots.specs.Line.{LineValue, CrawlDelay, delay_in, Allow, Di
 use Rattle.texting_robots.specs.Rules.{AreSitemapsOf, IsCapturedDelay, IsDelayFor, IsEarlyDelay, IsFirst}
 use Rattle.texting_robots.specs.Rules.{IsLast, ListsSitemap, Nowhere, HoldsRule, IsCapturedAt, PlacedRule}
 use Rattle.texting_robots.specs.{Internal.Captured.is_captured, Escape.escaped, Internal.Group.placed}
-use Rattle.texting_robots.proofs.CapturedLemmas.{cond_given, is_captured_decides, kept_next, some_passes}
-use Rattle.texting_robots.proofs.RulesLemmas.{before_agent, before_agents, last_more, option_or_none}
+use Rattle.texting_robots.proofs.CapturedLemmas.{cond_some_iff, is_captured_decides, filter_map_if}
+use Rattle.texting_robots.proofs.CapturedLemmas.{some_passes}
+use Rattle.texting_robots.proofs.RulesLemmas.{before_agent, before_agents, last_or_cons, option_or_none}
 
 -- ---- The computed delay and sitemaps of a crawler are those of the specification.
 
@@ -81,7 +82,7 @@ tested test n line = cond (test n) (delay_in line) None
 
 delay_step : (test : ℕ → Bool) (n : ℕ) (line : LineValue) (lines : List LineValue)
     → Step (DelayAt test n (line ∷ lines)) (DelayAt test (n + 1) lines) (tested test n line)
-delay_step test n line lines = grind (arith, a_delay, cond_given)
+delay_step test n line lines = grind (arith, a_delay, cond_some_iff)
 
 first_given : (o : Option ℕ) (rest : List ℕ)
     → slice_get (cons_option o rest) 0 ≡ option_or o (slice_get rest 0)
@@ -91,7 +92,7 @@ delays_from : (test : ℕ → Bool) (n : ℕ) (lines : List LineValue) → First
     (slice_get (filter_map (λ p. delay_in p.1) (filter (λ p. test p.0) (enumerate_from n lines))) 0)
 delays_from test n [] = grind (arith, slice_get_within)
 delays_from test n (line ∷ lines) =
-    rw (kept_next (test n) (λ (p : ℕ × LineValue). delay_in p.1) (n, line), first_given)
+    rw (filter_map_if (test n) (λ (p : ℕ × LineValue). delay_in p.1) (n, line), first_given)
     (first_next _ _ _ _ (delay_step test n line lines) (delays_from test (n + 1) lines))
 
 captured_first : (agent : List ℕ) (lines : List LineValue)
@@ -135,7 +136,7 @@ last_before : (lines : List LineValue)
 last_before [] = grind (arith, slice_get_within)
 last_before (line ∷ lines) = elim (cases_Bool (is_agent line)) [
   | inl agent ↦ rw agent (none agent)
-  | inr other ↦ rw (other, last_more, option_or_none, last_given)
+  | inr other ↦ rw (other, last_or_cons, option_or_none, last_given)
       (last_next _ _ _ _ (before_step line lines other) (last_before lines))
 ]
   where
@@ -267,7 +268,7 @@ given_come given test n (line ∷ lines) found =
     let later = given_come given test (n + 1) lines found in
     let here = cond (test n) (given (n, line)) None in
     let (to, from) = cons_has here (given_from given test (n + 1) lines) found in
-    rw (kept_next (test n) given (n, line)) (
+    rw (filter_map_if (test n) given (n, line)) (
       λ has. there given test n line lines found later (to has),
       λ gives. from (back given test n line lines found later gives),
     )
@@ -300,9 +301,9 @@ placed_held agent lines found =
     let test = is_captured (group_name agent lines) lines in
     let decides = is_captured_decides (group_name agent lines) lines in
     let (to, from) = given_come placed_in test 0 lines found in (
-      grind (arith, cond_given, to, test, decides),
+      grind (arith, cond_some_iff, to, test, decides),
       λ (position, number, holds).
           let given = held_given agent lines position found holds number in
           let passes = (decides position).1 holds.line.1 in
-          grind (arith, cond_given, test, from),
+          grind (arith, cond_some_iff, test, from),
     )

@@ -23,8 +23,8 @@ use Rattle.std.proofs.lemmas.Bool.{cond_both, eqb-false, leb-true, cases_lt, cas
 use Rattle.texting_robots.specs.declared.rules.{RuleEntry.RuleEntry, RuleTable.RuleTable}
 use Rattle.std.proofs.Math.Nat.{mul-le-mul_left}
 use Rattle.texting_robots.specs.Decision.{IsDecidingRule, IsLongestMatch, LooksForRules, as_long_as}
-use Rattle.texting_robots.proofs.BestLemmas.{IsAbove, IsBest, IsPreferred, NoMatch, best_decides, longer}
-use Rattle.texting_robots.proofs.BestLemmas.{deciding_longest, rank_of, verdict_by}
+use Rattle.texting_robots.proofs.BestLemmas.{IsAbove, IsBest, IsPreferred, NoMatch, best_decides}
+use Rattle.texting_robots.proofs.BestLemmas.{preferred_longer, deciding_longest, rank_of, verdict_by_rule}
 
 -- ---- A matched text begins as the first segment does, and has the bigrams of the others.
 
@@ -44,19 +44,19 @@ beginning_fits : (segment rest : List ℕ) (head : Head) → IsHeadOf segment he
     → Fits head (first_eight (segment ++ rest))
 beginning_fits segment rest head is = grind (arith, same_masked)
 
-pub or_assoc : (a b c : ℕ) → bit_or (bit_or a b) c ≡ bit_or a (bit_or b c)
-or_assoc a b c =
+pub bit_or_assoc : (a b c : ℕ) → bit_or (bit_or a b) c ≡ bit_or a (bit_or b c)
+bit_or_assoc a b c =
     same_from_bits _ _ (grind (arith, bit_at_or, b))
 
 within_later : (few more many : ℕ) → AreWithin few many → AreWithin few (bit_or more many)
-within_later few more many h = grind (arith, or_assoc, or_comm)
+within_later few more many h = grind (arith, bit_or_assoc, or_comm)
 
 pub within_both : (one other many : ℕ) → AreWithin one many → AreWithin other many
     → AreWithin (bit_or one other) many
-within_both one other many h k = rw (or_assoc, k) h
+within_both one other many h k = rw (bit_or_assoc, k) h
 
 pub within_through : (few some many : ℕ) → AreWithin few some → AreWithin some many → AreWithin few many
-within_through few some many h k = grind (arith, or_assoc)
+within_through few some many h k = grind (arith, bit_or_assoc)
 
 front_within : (front rest : List ℕ) → AreWithin (pair_set front) (pair_set (front ++ rest))
 unfolding pair_set
@@ -65,7 +65,7 @@ front_within (b ∷ []) rest = or_zero_l (pair_set (b ∷ rest))
 front_within (b ∷ c ∷ front) rest =
     let bit = pair_bit b c in
     let more = pair_set (c ∷ (front ++ rest)) in
-    let first = sym (or_assoc bit bit more) ∙ ap (λ x. bit_or x more) (or_self bit) in
+    let first = sym (bit_or_assoc bit bit more) ∙ ap (λ x. bit_or x more) (or_self bit) in
     grind (arith, within_both, within_later, front_within (c ∷ front) rest)
 
 end_within : (front rest : List ℕ) → AreWithin (pair_set rest) (pair_set (front ++ rest))
@@ -80,8 +80,8 @@ within_moved bits few some left all h k =
     let more : AreWithin (bit_or (bit_or bits few) left) (bit_or bits (bit_or some left)) =
     within_both (bit_or bits few) left (bit_or bits (bit_or some left))
     (within_both bits few (bit_or bits (bit_or some left))
-    (cc (or_assoc bits bits _, or_self bits))
-    (grind (arith, or_assoc, within_later, some)))
+    (cc (bit_or_assoc bits bits _, or_self bits))
+    (grind (arith, bit_or_assoc, within_later, some)))
     (within_later left bits _ (within_later left some left (or_self left))) in
     within_through _ _ all more k
 
@@ -89,7 +89,7 @@ pub pairs_step : (bits bit whole : ℕ) (rest : List ℕ) → 2 ≤ length rest
     → bit ≡ pair_bit (get_or rest 0 0) (get_or rest 1 0) → bit_or bits (pair_set rest) ≡ whole
     → bit_or (bit_or bits bit) (pair_set (drop 1 rest)) ≡ whole
 unfolding pair_set
-pairs_step bits bit whole rest long is h3 = grind (arith, or_assoc)
+pairs_step bits bit whole rest long is h3 = grind (arith, bit_or_assoc)
 
 pub two_pairs : (bits one two whole : ℕ) (rest : List ℕ) → 3 ≤ length rest
     → one ≡ pair_bit (get_or rest 0 0) (get_or rest 1 0)
@@ -225,10 +225,10 @@ pub mask_within : (all : RuleTable) (entry : RuleEntry) → IsEntryOf all entry 
 mask_within all entry is text matches = grind (arith, beginning_within, within_both)
 
 -- rules whose masks exclude the text don't match it
-pub none_apart : (all : RuleTable) (text : List ℕ) (from to : ℕ) → AreEntries all
+pub none_matches : (all : RuleTable) (text : List ℕ) (from to : ℕ) → AreEntries all
     → HaveMasks (string_bytes all.text) all.entries.items all.masks.items
     → AreApart all.masks.items (pair_set text) from to → NoneBetween all text from to
-none_apart all text from to are masked apart = λ k above below matches.
+none_matches all text from to are masked apart = λ k above below matches.
     let (here, differs) = apart k above below in
     grind (arith, mask_within, are.known, differs)
 
@@ -295,7 +295,7 @@ module _ (all : RuleTable) (known : All (IsEntryOf all) all.entries.items) where
 
       pub first_decides : text ≢ robots_file
           → IsVerdict (unplaced (rules_in all)) text (entry_at at).is_allow
-      first_decides = verdict_by (rules_in all) text (placed at) (entry_at at).is_allow first_line refl
+      first_decides = verdict_by_rule (rules_in all) text (placed at) (entry_at at).is_allow first_line refl
 
       -- each rule up to the first that matches is at least as long as the longest one that matches
       first_tried : (rule : PlacedRule) → IsLongestMatch (rules_in all) text rule
@@ -308,7 +308,7 @@ module _ (all : RuleTable) (known : All (IsEntryOf all) all.entries.items) where
           (at + 1) (rw length-map (omega arith)) (λ k d below. rw (rule_is k d (omega arith))
           (le-leb (length rule.rule.0) (length (placed k).rule.0) (elim (cases_lt k at) [
             | inl early ↦
-                let more = longer (placed k) (placed at) (preferred k at early within) in
+                let more = preferred_longer (placed k) (placed at) (preferred k at early within) in
                 omega arith
             | inr late ↦ let same : k ≡ at = omega arith in rw same best
           ]))))

@@ -25,38 +25,38 @@ use Rattle.texting_robots.specs.declared.labels.Membership.TheVariants.{Own, Oth
 use Rattle.texting_robots.specs.Executable.{placed_in, placed_rules, rule_in}
 use Rattle.texting_robots.specs.Internal.Group.{captured_ahead, from_captured, if_captured, labels_from, step}
 use Rattle.texting_robots.specs.Internal.Group.{own_rule_at, placed, membership_by, start_of}
-use Rattle.texting_robots.proofs.CapturedLemmas.{IsWalkAt, any_next, at_front, captured_walked, cond_same}
-use Rattle.texting_robots.proofs.CapturedLemmas.{occurs_first, occurs_next, is_captured_decides, itself}
+use Rattle.texting_robots.proofs.CapturedLemmas.{IsWalkAt, any_next, drop_cons, captured_walked, cond_same}
+use Rattle.texting_robots.proofs.CapturedLemmas.{walk_first, walk_next, is_captured_decides, bool_decides}
 use Rattle.texting_robots.proofs.CapturedLemmas.{taken_decides, within}
 
 -- ---- The first byte that passes a test, as `memchr` finds it.
 
-pub position_is : (test : ℕ → Bool) (hay : List ℕ) (k : ℕ)
+pub position_if_first : (test : ℕ → Bool) (hay : List ℕ) (k : ℕ)
     → NoneBefore (Passes test hay) 0 (length hay) k → Passes test hay k → position_or_len test hay ≡ k
-position_is test hay k none is = grind (arith, false_from_ne_true, position_or_len_is)
+position_if_first test hay k none is = grind (arith, false_from_ne_true, position_or_len_is)
 
-pub end_is : (test : ℕ → Bool) (hay : List ℕ) → Nowhere (Passes test hay) 0 (length hay)
+pub len_if_nowhere : (test : ℕ → Bool) (hay : List ℕ) → Nowhere (Passes test hay) 0 (length hay)
     → position_or_len test hay ≡ length hay
-end_is test hay none = position_or_len_is test hay (length hay) 0 (omega arith)
+len_if_nowhere test hay none = position_or_len_is test hay (length hay) 0 (omega arith)
     (λ i l. false_from_ne_true (test (get_or hay i 0)) (none i (omega arith) l))
     (λ l. absurd (omega (arith, l)))
 
-pub first_is : (test : ℕ → Bool) (hay : List ℕ) (k : ℕ)
+pub take_if_first : (test : ℕ → Bool) (hay : List ℕ) (k : ℕ)
     → NoneBefore (Passes test hay) 0 (length hay) k → Passes test hay k
     → take k hay ≡ before_first test hay
-first_is test hay k none is = grind (arith, position_is)
+take_if_first test hay k none is = grind (arith, position_if_first)
 
-pub none_is : (test : ℕ → Bool) (hay : List ℕ) → Nowhere (Passes test hay) 0 (length hay)
+pub all_if_nowhere : (test : ℕ → Bool) (hay : List ℕ) → Nowhere (Passes test hay) 0 (length hay)
     → hay ≡ before_first test hay
-none_is test hay none = grind (arith, end_is, take_all)
+all_if_nowhere test hay none = grind (arith, len_if_nowhere, take_all)
 
 nowhere : (test : ℕ → Bool) (hay : List ℕ) → list_any test hay ≡ false
     → Nowhere (Passes test hay) 0 (length hay)
 nowhere test hay none k low high is = grind (arith, list_any_at)
 
-pub plain_is : (test : ℕ → Bool) (hay : List ℕ) → list_any test hay ≡ false
+pub all_if_none : (test : ℕ → Bool) (hay : List ℕ) → list_any test hay ≡ false
     → hay ≡ before_first test hay
-plain_is test hay none = none_is test hay (nowhere test hay none)
+all_if_none test hay none = all_if_nowhere test hay (nowhere test hay none)
 
 pub some_found : (test : ℕ → Bool) (hay : List ℕ) (found : Option ℕ) → IsFirstByte test hay found
     → is_some found ≡ list_any test hay
@@ -65,14 +65,14 @@ some_found test hay None none =
     (λ k d l. false_from_ne_true _ (λ is. none k (omega arith) l (rw (get_or_default hay k 0 d l) is))))
 some_found test hay (Some k) first = grind (arith, list_any_at)
 
-pub front_tells : (test : ℕ → Bool) (text : List ℕ) (k : ℕ) → list_any test (take k text) ≡ true
+pub any_of_front : (test : ℕ → Bool) (text : List ℕ) (k : ℕ) → list_any test (take k text) ≡ true
     → list_any test text ≡ true
-front_tells test text k some =
+any_of_front test text k some =
     cc (take-append-drop k text, list_any-append test (take k text) (drop k text))
 
-pub skips_front : (test : ℕ → Bool) (text : List ℕ) (k : ℕ) → list_any test (take k text) ≡ false
+pub any_of_rest : (test : ℕ → Bool) (text : List ℕ) (k : ℕ) → list_any test (take k text) ≡ false
     → list_any test (drop k text) ≡ list_any test text
-skips_front test text k none =
+any_of_rest test text k none =
     cc (list_any-append test (take k text) (drop k text), take-append-drop k text)
 
 pub either_end : (test : ℕ → Bool) (text : List ℕ) (k : ℕ)
@@ -99,11 +99,11 @@ ahead_is name all tracker position [] splits left = rw add-zero (sym splits.capt
 ahead_is name all tracker position (line ∷ lines) splits left = elim (cases_Bool (is_member line)) [
   | inl is ↦ rw (is, add-zero) (sym splits.captured)
   | inr isnt ↦
-      let (at, next) = at_front all position line lines left in
+      let (at, next) = drop_cons all position line lines left in
       let further = position_or_len is_member lines in
       let there : position + (1 + further) ≡ (position + 1) + further = omega arith in
       let ahead = ahead_is name all (step name tracker line) (position + 1) lines
-      (occurs_next name all position tracker line at splits) next in
+      (walk_next name all position tracker line at splits) next in
       rw (isnt, there) (rw isnt at ahead)
 ]
 
@@ -127,17 +127,17 @@ labels_left : (name : List ℕ) (all : List LineValue) (tracker : GroupTracker) 
 labels_left name all tracker position [] splits left = refl
 labels_left name all tracker position (body ∷ bodies) splits left =
     let line = line_of body in
-    let (at, next) = at_front all position line (map line_of bodies) left in
+    let (at, next) = drop_cons all position line (map line_of bodies) left in
     let captured = ahead_is name all tracker position (map line_of (body ∷ bodies)) splits left in
     let later = labels_left name all (step name tracker line) (position + 1) bodies
-    (occurs_next name all position tracker line at splits) next in
+    (walk_next name all position tracker line at splits) next in
     rw (later, left, begun_next all position line at, captured) refl
 
-pub labels_are : (name : List ℕ) (bodies : List (List ℕ))
+pub labels_walked : (name : List ℕ) (bodies : List (List ℕ))
     → labels_of name bodies ≡ labels_from name (start_of (map line_of bodies)) false 0 bodies
-labels_are name bodies =
+labels_walked name bodies =
     let lines = map line_of bodies in
-    labels_left name lines (start_of lines) 0 bodies (occurs_first name lines) refl
+    labels_left name lines (start_of lines) 0 bodies (walk_first name lines) refl
 
 own_if : (number : ℕ) (captured begun : Bool) (found : Option Rule)
     → cond captured (placed number found) None
@@ -164,7 +164,7 @@ own_left name tracker before position (body ∷ bodies) =
 
 pub own_rules : (agent : List ℕ) (bodies : List (List ℕ)) → (let lines = map line_of bodies in
     placed_rules agent lines ≡ filter_map own_rule_at (labels_of (group_name agent lines) bodies))
-own_rules agent bodies = grind (arith, captured_walked, labels_are, own_left)
+own_rules agent bodies = grind (arith, captured_walked, labels_walked, own_left)
 
 -- ---- Each line has the membership that the specification states by indices of lines.
 
@@ -267,17 +267,17 @@ module _ (name : List ℕ) (lines : List LineValue) (position : ℕ) (line : Lin
       ≡ ((passes_at is_member lines position && test) || (passes_at is_agent lines position && test))
       = grind (arith, and-or_distrib_right, or_comm) in
       Decides-at _ _ same (Decides-or _ _
-      (grind (arith, and_given, itself, is))
+      (grind (arith, and_given, bool_decides, is))
       (Decides-like _ (grind arith)
       (grind arith)
-      (and_given _ _ (itself (passes_at is_agent lines position)) (λ agent.
+      (and_given _ _ (bool_decides (passes_at is_agent lines position)) (λ agent.
       Decides-like _ (group_named name lines position next is agent)
       (named_captures name lines position next is agent) captured))))
 
   in_group_decides : Decides ((is_agent line || is_member line) && list_any is_agent
       (take (position + 1) lines))
       (IsInGroup lines position)
-  in_group_decides = grind (arith, any_next, itself, or-and_distrib_left, taken_decides)
+  in_group_decides = grind (arith, any_next, bool_decides, or-and_distrib_left, taken_decides)
 
   occurs_by : (own some : Bool) → Decides own (IsInOwnGroup name lines position)
       → Decides some (IsInGroup lines position)
@@ -322,10 +322,10 @@ module _ (name : List ℕ) (all : List LineValue) where
   left_each position [] left k label at = cc
   left_each position (body ∷ bodies) left zero label at =
       let same : label_at name all (position, body) ≡ label = cc in
-      let (splits, next) = at_front all position (line_of body) (map line_of bodies) left in
+      let (splits, next) = drop_cons all position (line_of body) (map line_of bodies) left in
       rw (add-zero, sym same) (refl, occurs_so name all position (line_of body) splits)
   left_each position (body ∷ bodies) left (suc k) label at =
-      let (splits, next) = at_front all position (line_of body) (map line_of bodies) left in
+      let (splits, next) = drop_cons all position (line_of body) (map line_of bodies) left in
       let further : position + suc k ≡ (position + 1) + k = omega arith in
       rw further (left_each (position + 1) bodies next k label at)
 
@@ -338,7 +338,7 @@ module _ (name : List ℕ) (all : List LineValue) where
   left_only position [] (label ∷ labels) left are same each = cc
   left_only position (body ∷ bodies) [] left are same each = cc
   left_only position (body ∷ bodies) (label ∷ labels) left are same each =
-      let (splits, next) = at_front all position (line_of body) (map line_of bodies) left in
+      let (splits, next) = drop_cons all position (line_of body) (map line_of bodies) left in
       let here = rw add-zero at (each 0 label refl) in
       let belongs = occurs_only name all position (line_of body) splits label.membership here.1 in
       let later = left_only (position + 1) bodies labels next (cc) (cc) (λ k other at.

@@ -16,7 +16,7 @@ use Rattle.std.specs.{Option.unwrap_or}
 use Rattle.memchr.specs.{Find.IsFirstByte}
 use Rattle.texting_robots.specs.{Escape.is_escaped, Internal.Segments.is_wildcard}
 use Rattle.texting_robots.specs.Pattern.{dollar, star}
-use Rattle.texting_robots.proofs.LabelLemmas.{position_is, end_is}
+use Rattle.texting_robots.proofs.LabelLemmas.{position_if_first, len_if_nowhere}
 
 -- the first flagged lane is the first byte that passes
 pub first_labeled : (f : ℕ → ℕ) (width : ℕ) (v lanes : List ℕ) → width ≤ 64
@@ -68,13 +68,13 @@ module _ (test : ℕ → Bool) (text : List ℕ) where
 
   pub found_or_end : (found : Option ℕ) → IsFirstByte test text found
       → unwrap_or found (length text) ≡ position_or_len test text
-  found_or_end found none = grind (arith, end_is, position_is)
+  found_or_end found none = grind (arith, len_if_nowhere, position_if_first)
 
-pub all_seen : (test : ℕ → Bool) (k : ℕ) (text : List ℕ) → k ≤ length text
+pub prefix_len_add : (test : ℕ → Bool) (k : ℕ) (text : List ℕ) → k ≤ length text
     → list_all test (take k text) ≡ true → prefix_len test text ≡ k + prefix_len test (drop k text)
-all_seen test zero text within all = omega arith
-all_seen test (suc k) [] within all = absurd (omega (arith, within))
-all_seen test (suc k) (b ∷ text) within all = grind (arith, cases_Bool, all_seen test k text)
+prefix_len_add test zero text within all = omega arith
+prefix_len_add test (suc k) [] within all = absurd (omega (arith, within))
+prefix_len_add test (suc k) (b ∷ text) within all = grind (arith, cases_Bool, prefix_len_add test k text)
 
 abbrev flag : ℕ → ℕ
 flag b = bit_or (cond (b == star) 255 0) (cond (b == dollar) 255 0)

@@ -6,9 +6,8 @@ use Rattle.std.specs.{List.AllZip, Str.str_to_ascii_lowercase}
 use Rattle.std.proofs.lemmas.Bool.{cases_Bool, cond-true, cond-false, ne_eqb, Decides.eqb_tells}
 use Rattle.texting_robots.specs.{declared.parser.statement.Kind.Kind, Cut.lf, Delay.IsDelay}
 use Rattle.texting_robots.specs.Group.{is_agent, is_agent_named}
-use Rattle.texting_robots.specs.Internal.{Delay.delay_of, Cut.bodies_of, Cut.cut}
+use Rattle.texting_robots.specs.Internal.{Delay.delay_of, Cut.bodies_of, Cut.cut, Statement.value_of}
 use Rattle.texting_robots.specs.Internal.Statement.{colon, kind_by, skip_blanks, statement_of, tail_as}
-use Rattle.texting_robots.specs.Internal.Statement.{value_of}
 use Rattle.texting_robots.specs.Executable.{file_bodies, file_lines, parsed}
 use Rattle.texting_robots.specs.Statement.{IsAfterBlanks, IsAfterColon, IsStatement}
 use Rattle.texting_robots.specs.Line.{AreFileBodiesOf, AreLinesOf, HoldRangesOf, HoldsRangeOf, IsLineOf, Raw}
@@ -16,8 +15,8 @@ use Rattle.texting_robots.specs.Line.{IsLineWith, IsRangeOf, LineValue, CrawlDel
 use Rattle.texting_robots.specs.Line.{delay_in, is_raw, is_sitemap, nul_as_lf, without, without_bom}
 use Rattle.texting_robots.specs.Internal.Line.{delay_or_raw, line_of, line_with}
 use Rattle.texting_robots.proofs.DelayLemmas.{delay_of_is, is_delay_of}
-use Rattle.texting_robots.proofs.CutLemmas.{is_cut, only_cut}
-use Rattle.texting_robots.proofs.StatementLemmas.{statement_found, found_statement, unstated}
+use Rattle.texting_robots.proofs.CutLemmas.{is_cut, cut_unique}
+use Rattle.texting_robots.proofs.StatementLemmas.{statement_complete, statement_sound, no_statement}
 use Rattle.texting_robots.specs.declared.parser.statement.Kind.TheVariants as kind
 
 pub line_stated : (body : List ℕ) (kind : Kind) (value : List ℕ)
@@ -47,11 +46,11 @@ only_line_with _ value body line is = is
 
 is_line : (body : List ℕ) (found : Option (Kind × List ℕ)) → statement_of body ≡ found
     → IsLineOf (line_of body) body
-is_line body None none = inr (unstated body none, line_raw body none)
+is_line body None none = inr (no_statement body none, line_raw body none)
 is_line body (Some (kind, value)) found = inl (
   kind,
   value,
-  found_statement kind value body found,
+  statement_sound kind value body found,
   subst (IsLineWith kind value body) (sym (line_stated body kind value found))
       (is_line_with kind value body),
 )
@@ -59,10 +58,10 @@ is_line body (Some (kind, value)) found = inl (
 only_line : (line : LineValue) (body : List ℕ) (found : Option (Kind × List ℕ))
     → statement_of body ≡ found → IsLineOf line body → line ≡ line_of body
 only_line line body found reads (inl (kind, value, is, line_is)) = only_line_with kind value body line line_is
-    ∙ sym (line_stated body kind value (statement_found kind value body is))
+    ∙ sym (line_stated body kind value (statement_complete kind value body is))
 only_line line body None none (inr (not_one, line_is)) = line_is ∙ sym (line_raw body none)
 only_line line body (Some (kind, value)) found (inr (not_one, line_is)) =
-    absurd (not_one kind value (found_statement kind value body found))
+    absurd (not_one kind value (statement_sound kind value body found))
 
 are_lines : (bodies : List (List ℕ)) → AllZip IsLineOf (map line_of bodies) bodies
 are_lines [] = tt
@@ -86,7 +85,7 @@ parsed_are_lines text =
 
 pub each_text_has_its_lines : (text : List ℕ) (lines : List LineValue)
     → AreLinesOf lines text ↔ lines ≡ parsed text
-each_text_has_its_lines text lines = grind (arith, only_cut, only_lines, parsed_are_lines)
+each_text_has_its_lines text lines = grind (arith, cut_unique, only_lines, parsed_are_lines)
 
 pub file_bodies_are : (text : List ℕ) (bodies : List (List ℕ)) → bodies ≡ file_bodies text
     → AreFileBodiesOf bodies text
@@ -166,9 +165,9 @@ pub agent_or_other : (found : Option Kind) (line : LineValue) → IsKindOf found
     → (found ≡ Some kind.UserAgent) ⊎ (is_agent line ≡ false)
 agent_or_other found line is = grind arith
 
-pub other_line : (body : List ℕ) → ¬ (kind_by (skip_blanks body) ≡ Some kind.UserAgent)
+pub no_agent_kind : (body : List ℕ) → ¬ (kind_by (skip_blanks body) ≡ Some kind.UserAgent)
     → is_agent (line_of body) ≡ false
-other_line body other =
+no_agent_kind body other =
     elim (agent_or_other _ _ (kind_is body)) [ inl is ↦ absurd (other is) | inr none ↦ none ]
 
 pub delay_or_other : (found : Option Kind) (line : LineValue) → IsKindOf found line
@@ -233,11 +232,11 @@ without_read : (byte : ℕ) (text : List ℕ) → byte ≢ 0 → byte ≢ lf
     → map nul_as_lf (without byte text) ≡ without byte (map nul_as_lf text)
 without_read byte text some other = grind (arith, read_other)
 
-pub front_read : (text : List ℕ) → map nul_as_lf (without_bom text) ≡ without_bom (map nul_as_lf text)
-front_read text = grind (arith, without_read)
+pub without_bom_map : (text : List ℕ) → map nul_as_lf (without_bom text) ≡ without_bom (map nul_as_lf text)
+without_bom_map text = grind (arith, without_read)
 
-pub front_is_end : (text : List ℕ) → (taken : List ℕ) × (text ≡ taken ++ without_bom text)
-front_is_end text =
+pub without_bom_suffix : (text : List ℕ) → (taken : List ℕ) × (text ≡ taken ++ without_bom text)
+without_bom_suffix text =
     let one = taken_off 0xEF text in
     let two = taken_off 0xBB (without 0xEF text) in
     let three = taken_off 0xBF (without 0xBB (without 0xEF text)) in (
@@ -247,7 +246,7 @@ front_is_end text =
 
 parsed_ranges : (text : List ℕ) → HoldRangesOf (parsed text) text
 parsed_ranges text =
-    let end = front_is_end text in
+    let end = without_bom_suffix text in
     record {
       pairs = cut (without_bom text);
       is_cut = is_cut (without_bom text);

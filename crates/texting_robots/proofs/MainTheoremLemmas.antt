@@ -19,13 +19,13 @@ use Rattle.texting_robots.specs.{Group.group_name, Pattern.IsOverlong, Verdict.I
 use Rattle.texting_robots.specs.{Internal.Captured.is_captured, Internal.Group.placed, View.ViewValue}
 use Rattle.texting_robots.specs.{Internal.Robot.IsComputedRobot, declared.error.Error.Error}
 use Rattle.texting_robots.specs.Robot.{IsRobotOfFile, AnswerAlike, IsRobotOf, RobotValue, file_limit}
-use Rattle.texting_robots.proofs.CapturedLemmas.{cond_given, kept_next}
+use Rattle.texting_robots.proofs.CapturedLemmas.{cond_some_iff, filter_map_if}
 use Rattle.texting_robots.proofs.ExecutableLemmas.{given_come, given_from, placed_held, sitemaps_are_computed}
 use Rattle.texting_robots.proofs.{ExecutableLemmas.delay_is_computed, LineLemmas.each_text_has_its_lines}
 use Rattle.texting_robots.proofs.RulesLemmas.{any_unplaced, rejected_wider, some_overlong}
-use Rattle.texting_robots.proofs.BestLemmas.{placed_of, none_denies, verdict_by}
-use Rattle.texting_robots.proofs.VerdictLemmas.{after_first, same_elements, longest_permuted, same_lines}
-use Rattle.texting_robots.proofs.VerdictLemmas.{same_verdicts}
+use Rattle.texting_robots.proofs.BestLemmas.{placed_of, allowed_if_none, verdict_by_rule}
+use Rattle.texting_robots.proofs.VerdictLemmas.{contains_rest, same_elements, longest_permuted}
+use Rattle.texting_robots.proofs.VerdictLemmas.{permuted_lines, permuted_verdicts}
 use Rattle.texting_robots.specs.Decision.{IsDecidingLine, IsDecidingRule, LooksForRules}
 
 -- ---- The rules that lines hold are the computed ones, in any order.
@@ -82,7 +82,7 @@ following first rules apart placed = (
     (suc k, omega arith, at),
     grind (arith, apart_first),
   ),
-  λ (has, other). after_first first rules placed other has,
+  λ (has, other). contains_rest first rules placed other has,
 )
 
 pub same_members : (rules others : List PlacedRule) → AreApart rules → AreApart others
@@ -110,7 +110,7 @@ same_members (first ∷ rules) others one two same =
 
 given_number : (passes : Bool) (position : ℕ) (line : LineValue) (found : PlacedRule)
     → cond passes (placed_in (position, line)) None ≡ Some found → found.line ≡ position + 1
-given_number passes position line found is = grind (arith, cond_given)
+given_number passes position line found is = grind (arith, cond_some_iff)
 
 apart_with : (first : Option PlacedRule) (rules : List PlacedRule)
     → ((found : PlacedRule) → first ≡ Some found
@@ -126,7 +126,7 @@ rules_apart : (test : ℕ → Bool) (n : ℕ) (lines : List LineValue)
 rules_apart test n [] = grind arith
 rules_apart test n (line ∷ lines) =
     let rules = given_from placed_in test (n + 1) lines in
-    rw (kept_next (test n) placed_in (n, line)) (apart_with _ rules (λ found is k d below same.
+    rw (filter_map_if (test n) placed_in (n, line)) (apart_with _ rules (λ found is k d below same.
     let other = get_or rules k d in
     let (far, position, following, ahead, at, gives) =
     (given_come placed_in test (n + 1) lines other).0 (Contains-get_or rules k d below) in
@@ -134,16 +134,16 @@ rules_apart test n (line ∷ lines) =
     grind (arith, given_number))
     (rules_apart test (n + 1) lines))
 
-pub computed_are : (agent : List ℕ) (lines : List LineValue)
+pub placed_are_rules : (agent : List ℕ) (lines : List LineValue)
     → AreRulesFor agent lines (placed_rules agent lines)
-computed_are agent lines = record {
+placed_are_rules agent lines = record {
   held = placed_held agent lines;
   once = rules_apart (is_captured (group_name agent lines) lines) 0 lines;
 }
 
-pub one_list : (agent : List ℕ) (lines : List LineValue) (rules others : List PlacedRule)
+pub rules_permuted : (agent : List ℕ) (lines : List LineValue) (rules others : List PlacedRule)
     → AreRulesFor agent lines rules → AreRulesFor agent lines others → IsPermutation rules others
-one_list agent lines rules others one two = same_members rules others one.once two.once (λ placed. (
+rules_permuted agent lines rules others one two = same_members rules others one.once two.once (λ placed. (
   λ has. (two.held placed).1 ((one.held placed).0 has),
   λ has. (one.held placed).1 ((two.held placed).0 has),
 ))
@@ -158,7 +158,7 @@ permuted_are agent lines rules others moved are = record {
 
 pub rules_are_computed : (agent : List ℕ) (lines : List LineValue) (rules : List PlacedRule)
     → AreRulesFor agent lines rules ↔ IsPermutation (placed_rules agent lines) rules
-rules_are_computed agent lines rules = search (rules, computed_are, one_list, permuted_are)
+rules_are_computed agent lines rules = search (rules, placed_are_rules, rules_permuted, permuted_are)
 
 pub rejection_is_computed : (agent : List ℕ) (lines : List LineValue)
     → IsRejected agent lines ↔ Any (λ (rule : Rule). IsOverlong rule.0) (rules_for agent lines)
@@ -190,8 +190,8 @@ pub permuted_alike : (rules others : List PlacedRule) → IsPermutation rules ot
 permuted_alike rules others moved =
     let back = IsPermutation-sym rules others moved in
     record {
-      verdicts = same_verdicts others rules back;
-      deciding = same_lines others rules back;
+      verdicts = permuted_verdicts others rules back;
+      deciding = permuted_lines others rules back;
       looks = λ old new. (
         looks_permuted rules others old new moved,
         looks_permuted others rules old new back,
@@ -201,19 +201,19 @@ permuted_alike rules others moved =
 
 pub answer_alike : (agent : List ℕ) (lines : List LineValue) (rules others : List PlacedRule)
     → AreRulesFor agent lines rules → AreRulesFor agent lines others → AnswerAlike rules others
-answer_alike agent lines rules others are have = search (rules, one_list, permuted_alike)
+answer_alike agent lines rules others are have = search (rules, rules_permuted, permuted_alike)
 
-pub answers_computed : (agent : List ℕ) (lines : List LineValue) (rules : List PlacedRule)
+pub answer_as_placed : (agent : List ℕ) (lines : List LineValue) (rules : List PlacedRule)
     → AreRulesFor agent lines rules → AnswerAlike rules (placed_rules agent lines)
-answers_computed agent lines rules are = search (rules, answer_alike, computed_are)
+answer_as_placed agent lines rules are = search (rules, answer_alike, placed_are_rules)
 
 pub lines_are_read : (file : List ℕ) → AreFileLinesOf (lines_read file) (take file_limit file)
 lines_are_read file = (each_text_has_its_lines (map nul_as_lf (take file_limit file)) _).1 refl
 
 -- the lines of a file are unique, so a property of them holds for these
-pub of_lines : (file : List ℕ) (P : List LineValue → Type 0) → HasLines file P
+pub lines_satisfy : (file : List ℕ) (P : List LineValue → Type 0) → HasLines file P
     → (lines : List LineValue) → AreFileLinesOf lines file → P lines
-of_lines file P (all, have, is) lines are =
+lines_satisfy file P (all, have, is) lines are =
     let each = each_text_has_its_lines (map nul_as_lf file) in
     subst P ((each all).0 have ∙ sym ((each lines).0 are)) is
 
@@ -221,11 +221,11 @@ pub read_robot : (agent file : List ℕ) (robot : RobotValue)
     → IsRobotOfFile agent (take file_limit file) robot
     → IsRobotOf agent (lines_read file) robot
 read_robot agent file robot is =
-    of_lines _ (λ lines. IsRobotOf agent lines robot) is (lines_read file) (lines_are_read file)
+    lines_satisfy _ (λ lines. IsRobotOf agent lines robot) is (lines_read file) (lines_are_read file)
 
 pub read_rejected : (agent file : List ℕ) → IsFileRejected agent (take file_limit file)
     → IsRejected agent (lines_read file)
-read_rejected agent file is = of_lines _ (IsRejected agent) is (lines_read file) (lines_are_read file)
+read_rejected agent file is = lines_satisfy _ (IsRejected agent) is (lines_read file) (lines_are_read file)
 
 pub read_delay : (agent file : List ℕ) (delay : Option ℕ)
     → HasLines file (λ lines. IsDelayFor agent lines delay) → delay ≡ delay_for agent (file_lines file)
@@ -236,9 +236,9 @@ read_delay agent file delay (lines, are, is) =
 pub has_lines : (file : List ℕ) (P : List LineValue → Type 0) → P (file_lines file) → HasLines file P
 has_lines file P is = grind (arith, each_text_has_its_lines)
 
-pub robot_of : (agent file : List ℕ) (robot : RobotValue) → IsComputedRobot agent (file_lines file) robot
-    → IsRobotOfFile agent file robot
-robot_of agent file robot is =
+pub computed_robot : (agent file : List ℕ) (robot : RobotValue)
+    → IsComputedRobot agent (file_lines file) robot → IsRobotOfFile agent file robot
+computed_robot agent file robot is =
     let lines = file_lines file in
     has_lines file (λ l. IsRobotOf agent l robot) (record {
       delay = (delay_is_computed agent lines robot.delay).1 is.delay;
@@ -250,11 +250,11 @@ robot_of agent file robot is =
 pub not_rejected : (agent file : List ℕ) (robot : RobotValue) → IsRobotOfFile agent file robot
     → ¬ IsFileRejected agent file
 not_rejected agent file robot (lines, are, is) rejected =
-    is.accepted (of_lines file (IsRejected agent) rejected lines are)
+    is.accepted (lines_satisfy file (IsRejected agent) rejected lines are)
 
-pub rejected_of : (agent file : List ℕ) (number : ℕ)
+pub overlong_rejected : (agent file : List ℕ) (number : ℕ)
     → IsFirstOverlong (placed_rules agent (file_lines file)) number → IsFileRejected agent file
-rejected_of agent file number is =
+overlong_rejected agent file number is =
     has_lines file (IsRejected agent)
     ((rejection_is_computed agent (file_lines file)).1 (some_overlong _ number is))
 
@@ -265,25 +265,25 @@ no_rules_of agent file (lines, are, rules) =
     let none = nil_from_length (placed_rules agent lines) (sym (length_permutation _ _ moved)) in
     rw ((each_text_has_its_lines (map nul_as_lf file) lines).0 are) at none
 
-pub sitemaps_of : (file : List ℕ) (sitemaps : List (List ℕ))
+pub read_sitemaps : (file : List ℕ) (sitemaps : List (List ℕ))
     → HasLines file (λ lines. AreSitemapsOf lines sitemaps) → sitemaps ≡ sitemaps_in (file_lines file)
-sitemaps_of file sitemaps (lines, are, is) =
+read_sitemaps file sitemaps (lines, are, is) =
     rw ((each_text_has_its_lines (map nul_as_lf file) lines).0 are) at
     ((sitemaps_are_computed lines sitemaps).0 is)
 
-pub nothing_of : (agent file : List ℕ) → HasLines file (HasNoRulesOrSitemaps agent)
+pub read_nothing : (agent file : List ℕ) → HasLines file (HasNoRulesOrSitemaps agent)
     → (placed_rules agent (file_lines file) ≡ []) × (sitemaps_in (file_lines file) ≡ [])
-nothing_of agent file (lines, are, (rules, sitemaps)) =
-    (no_rules_of agent file (lines, are, rules), sym (sitemaps_of file [] (lines, are, sitemaps)))
+read_nothing agent file (lines, are, (rules, sitemaps)) =
+    (no_rules_of agent file (lines, are, rules), sym (read_sitemaps file [] (lines, are, sitemaps)))
 
 no_looks : (view : ViewValue) (n : ℕ) → LooksAtMost view view n
 no_looks view n = grind arith
 
-pub answered : (agent : List ℕ) (lines : List LineValue) (rules : List PlacedRule) (robot : RobotValue)
+pub robot_answers : (agent : List ℕ) (lines : List LineValue) (rules : List PlacedRule) (robot : RobotValue)
     (old new : ViewValue) (answer : Bool) → IsRobotOf agent lines robot → AreRulesFor agent lines rules
     → IsVerdict (unplaced robot.rules) old.text answer → LooksForRules robot.rules old new
     → IsAnswerOf agent lines rules old new (Ok answer)
-answered agent lines rules robot old new answer is are verdict looks =
+robot_answers agent lines rules robot old new answer is are verdict looks =
     let alike = answer_alike agent lines robot.rules rules is.rules are in
     record {
       rejected = tt;
@@ -303,7 +303,8 @@ pub unanswered : (agent file : List ℕ) (lines : List LineValue) (rules : List 
     → IsMemoryErrorOr (IsFileRejected agent file) e → IsAnswerOf agent lines rules view view answer
 unanswered agent file lines rules view (Ok answer) e are same rejected = absurd same
 unanswered agent file lines rules view (Err x) e are same rejected = record {
-  rejected = rejected_wider _ _ x (λ has. of_lines file (IsRejected agent) has lines are) (rw same rejected);
+  rejected =
+      rejected_wider _ _ x (λ has. lines_satisfy file (IsRejected agent) has lines are) (rw same rejected);
   accepted = tt;
   verdict = tt;
   looks = grind (arith, no_looks);
@@ -330,8 +331,8 @@ line_gives_verdict agent lines rules text position rule are (differs, found, dec
     let (here, is, own) = (are.held found).0 decides.listed in
     let same : here ≡ position = omega arith in
     let kind = one_kind agent lines position found.rule rule (rw same at own) holds in
-    verdict_by rules text found rule.1 decides kind differs
+    verdict_by_rule rules text found rule.1 decides kind differs
 
 pub no_line_allows : (rules : List PlacedRule) (text : List ℕ) → IsDecidingLine rules text None
     → IsVerdict (unplaced rules) text true
-no_line_allows rules text h = grind (arith, none_denies)
+no_line_allows rules text h = grind (arith, allowed_if_none)

@@ -44,15 +44,15 @@ same_byte : (b : ℕ) → encode_byte ESCAPED b ≡ escape_byte b
 unfolding percent_encode_byte
 same_byte b = rw (same_test b) refl
 
-pub same_escape : (bytes : List ℕ) → percent_encode ESCAPED bytes ≡ escaped bytes
+pub encode_is_escaped : (bytes : List ℕ) → percent_encode ESCAPED bytes ≡ escaped bytes
 unfolding percent_encode
-same_escape [] = refl
-same_escape (b ∷ bytes) = grind (arith, same_byte, same_escape bytes)
+encode_is_escaped [] = refl
+encode_is_escaped (b ∷ bytes) = grind (arith, same_byte, encode_is_escaped bytes)
 
-pub plain_stays : (bytes : List ℕ) → list_any is_escaped bytes ≡ false
+pub escaped_plain : (bytes : List ℕ) → list_any is_escaped bytes ≡ false
     → escaped bytes ≡ bytes
-plain_stays [] plain = refl
-plain_stays (b ∷ bytes) plain = grind (arith, cases_Bool, plain_stays bytes)
+escaped_plain [] plain = refl
+escaped_plain (b ∷ bytes) plain = grind (arith, cases_Bool, escaped_plain bytes)
 
 plain_low : (b : ℕ) → is_escaped b ≡ false → b < 128
 plain_low b stays = grind (arith, cases_lt, le-ltb, lt-ltb, or-true)

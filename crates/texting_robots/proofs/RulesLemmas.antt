@@ -41,29 +41,29 @@ abbrev pub delay_from : Option ℕ → List LineValue → Option ℕ
 delay_from last lines =
     cond (list_any is_agent lines) (last_or last (filter_map delay_in (before_agent lines))) None
 
-pub last_more : {X : Type 0} (last o : Option X) (xs : List X)
+pub last_or_cons : {X : Type 0} (last o : Option X) (xs : List X)
     → last_or last (cons_option o xs) ≡ last_or (option_or o last) xs
-last_more last o xs = grind arith
+last_or_cons last o xs = grind arith
 
 cons_is : {X : Type 0} (o : Option X) (xs : List X) → cons_option o xs ≡ option_to_list o ++ xs
 cons_is None xs = refl
 cons_is (Some x) xs = refl
 
 -- loop step: the result of one more item was appended, and the later ones give `xs`
-pub given_more : {X : Type 0} (o : Option X) (xs old new : List X) → new ≡ old ++ option_to_list o
+pub append_option : {X : Type 0} (o : Option X) (xs old new : List X) → new ≡ old ++ option_to_list o
     → new ++ xs ≡ old ++ cons_option o xs
-given_more o xs old new added = rw (added, append_assoc, cons_is o xs) refl
+append_option o xs old new added = rw (added, append_assoc, cons_is o xs) refl
 
 -- loop step for the first result
-pub first_more : {X : Type 0} (o old new : Option X) (xs : List X) → new ≡ option_or old o
+pub first_or_cons : {X : Type 0} (o old new : Option X) (xs : List X) → new ≡ option_or old o
     → option_or new (slice_get xs 0) ≡ option_or old (slice_get (cons_option o xs) 0)
-first_more o old new xs added = grind arith
+first_or_cons o old new xs added = grind arith
 
-pub given_none : {X : Type 0} (o : Option X) (xs old : List X) → old ++ cons_option o xs ≡ []
+pub none_if_empty : {X : Type 0} (o : Option X) (xs old : List X) → old ++ cons_option o xs ≡ []
     → o ≡ None
-given_none None xs old none = refl
-given_none (Some x) xs [] none = cc
-given_none (Some x) xs (z ∷ old) none = cc
+none_if_empty None xs old none = refl
+none_if_empty (Some x) xs [] none = cc
+none_if_empty (Some x) xs (z ∷ old) none = cc
 
 pub all_added : {X : Type 0} (P : X → Type 0) (old new : List X) (o : Option X)
     → new ≡ old ++ option_to_list o → IfSome o P → All P old → All P new

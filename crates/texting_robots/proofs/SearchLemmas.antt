@@ -15,7 +15,7 @@ use Rattle.memchr.specs.Find.{FindsNeedle, Nowhere, OccursAt}
 use Rattle.std.proofs.lemmas.List.Prefix.{at_from_reads, at_reads, front_rest}
 use Rattle.texting_robots.specs.Pattern.{IsSuffix, MatchesStars, star}
 use Rattle.std.specs.{Borrow.Bor}
-use Rattle.texting_robots.proofs.SegmentLemmas.{end_matches, in_front, plain_stars, somewhere, star_grows}
+use Rattle.texting_robots.proofs.SegmentLemmas.{nil_matches, in_front, plain_stars, somewhere, star_grows}
 
 -- ---- What is in shared vectors stays there when more is added.
 
@@ -320,7 +320,7 @@ module _ (t : List ℕ) where
 
 left_grows : (left : Option (Bor (List ℕ))) (s t : List ℕ) → IsSuffix s t
     → MatchesStars (from_star left) s → MatchesStars (from_star left) t
-left_grows left s t h h2 = grind (arith, end_matches, star_grows)
+left_grows left s t h h2 = grind (arith, nil_matches, star_grows)
 
 module _ {p segment : List ℕ} {left : Option (Bor (List ℕ))} (t : List ℕ)
     (cut : IsCutAtStar p segment left) where

@@ -25,9 +25,9 @@ IsPlain anchors b = ((b == star) ≡ false) × ((anchors && (b == dollar)) ≡ f
 pub plain_stars : (segment : List ℕ) → All (λ b. b ≢ star) segment → All (IsPlain false) segment
 plain_stars = grind (arith, ne_eqb)
 
-pub plain_wildcards : (segment : List ℕ) → All (λ b. is_wildcard b ≡ false) segment
+pub plain_segment : (segment : List ℕ) → All (λ b. is_wildcard b ≡ false) segment
     → All (IsPlain true) segment
-plain_wildcards = grind (arith, or_parts)
+plain_segment = grind (arith, or_parts)
 
 under : {R : List ℕ → Type 0} (P Q : List ℕ → Type 0) → ((t : List ℕ) → P t ↔ Q t)
     → ((t : List ℕ) × R t × P t) ↔ ((t : List ℕ) × R t × Q t)
@@ -85,18 +85,18 @@ module _ (anchors : Bool) where
   unfolding MatchesWith
   after_byte b p q same t = grind (arith, cases_Bool, under)
 
-pub end_matches : (anchors : Bool) (t : List ℕ) → MatchesWith anchors [] t
+pub nil_matches : (anchors : Bool) (t : List ℕ) → MatchesWith anchors [] t
 unfolding MatchesWith
-end_matches anchors t = tt
+nil_matches anchors t = tt
 
-pub none_left : (front s : List ℕ) → [] ≡ front ++ s → s ≡ []
-none_left [] s e = sym e
-none_left (b ∷ front) s e = cc
+pub suffix_of_nil : (front s : List ℕ) → [] ≡ front ++ s → s ≡ []
+suffix_of_nil [] s e = sym e
+suffix_of_nil (b ∷ front) s e = cc
 
 pub only_wildcards_match : (q : List ℕ) → (list_all is_wildcard q ≡ true) ↔ Matches q []
 unfolding MatchesWith
 only_wildcards_match [] = (λ _. tt, λ _. refl)
-only_wildcards_match (b ∷ q) = grind (arith, cases_Bool, none_left, only_wildcards_match q)
+only_wildcards_match (b ∷ q) = grind (arith, cases_Bool, suffix_of_nil, only_wildcards_match q)
 
 pub closes_decides : (q t : List ℕ) → Closes q → Matches q t ↔ (t ≡ [])
 unfolding MatchesWith
@@ -180,7 +180,7 @@ module _ {left next segment rest : List ℕ} (is : IsFromStar left next segment 
   star_decides : (t : List ℕ) → Matches left t ↔ Somewhere segment rest t
   star_decides t =
       let (to, from) = star_stars true is.following t in
-      let (parts, whole) = somewhere true segment rest t (plain_wildcards segment is.cut.plain) in
+      let (parts, whole) = somewhere true segment rest t (plain_segment segment is.cut.plain) in
       grind (arith, is.cut.parts, is.star_first, parts, from, to, whole)
 
   star_is_left : ¬ Closes rest → IsLeft left segment rest
@@ -240,7 +240,7 @@ cut_first p segment left segments borders cut =
           known = rest.known;
           ending = rest.is_ending;
           rest = left;
-          decides = λ t. rw (first, e) (in_front true segment left t (plain_wildcards segment cut.plain));
+          decides = λ t. rw (first, e) (in_front true segment left t (plain_segment segment cut.plain));
           left = rest.in_order;
         };
       };
@@ -264,7 +264,7 @@ module _ {p : List ℕ} {first_len : ℕ} {old_segments segments : List Segment}
       rw (← append-nil segments, ← append-nil borders) (upto.completes [] [] ending rest)
 
   pub cut_open : left ≡ [] → AddsWith Open
-  cut_open none = grind (arith, done, end_matches)
+  cut_open none = grind (arith, done, nil_matches)
 
   pub cut_closed : Closes left → AddsWith Closed
   cut_closed closes = grind (arith, closes_decides, done)

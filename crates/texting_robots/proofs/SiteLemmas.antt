@@ -15,9 +15,9 @@ use Rattle.texting_robots.specs.Internal.Group.{from_captured, start_of, step}
 use Rattle.texting_robots.specs.Internal.Site.{Named, Tagged, delay_of, has_name, is_of, is_group_of, named}
 use Rattle.texting_robots.specs.Internal.Site.{rule_of, count_after, named_from, own_tagged, tagged_from}
 use Rattle.texting_robots.specs.Internal.Site.{early_after}
-use Rattle.texting_robots.proofs.{RulesLemmas.delay_from, RulesLemmas.last_more, ExecutableLemmas.given_come}
-use Rattle.texting_robots.proofs.CapturedLemmas.{captured_walked, kept_next, cond_given, cond_same}
-use Rattle.texting_robots.proofs.CapturedLemmas.{is_captured_decides}
+use Rattle.texting_robots.proofs.{RulesLemmas.delay_from, RulesLemmas.last_or_cons}
+use Rattle.texting_robots.proofs.{ExecutableLemmas.given_come, CapturedLemmas.is_captured_decides}
+use Rattle.texting_robots.proofs.CapturedLemmas.{captured_walked, filter_map_if, cond_some_iff, cond_same}
 use Rattle.texting_robots.specs.Groups.{GroupValue, grouped_from, groups, is_for, lines_for, with_name}
 
 -- ---- What the `GroupTracker` captures for a name is what the groups with that name contain.
@@ -94,7 +94,7 @@ other_next : {X : Type 0} (is_member : Bool) (given : Tagged → Option X) (name
     → cons_option (cond captured here None) rest ≡ filter_map given
     (filter (λ t. is_group_of name names t.group) (cons_option (cond is_member (Some tag) None) tags))
 other_next is_member given name captured tag names tags rest here fits none same later =
-    grind (arith, kept_next, nothing_here)
+    grind (arith, filter_map_if, nothing_here)
 
 -- the group of a member gets no further name
 named_here : (name : List ℕ) (walk : GroupTracker) (group : ℕ) (joins joined : Bool) (position count : ℕ)
@@ -191,7 +191,7 @@ pub early_more : (begun : Bool) (early : Option ℕ) (line : LineValue) (left : 
     → cond (begun || is_agent line) (early_after begun early line) (delay_from
     (early_after begun early line) left)
     ≡ cond begun early (delay_from early (line ∷ left))
-early_more begun early line left = grind (arith, last_more)
+early_more begun early line left = grind (arith, last_or_cons)
 
 -- ---- What is captured for a name is what the groups with that name contain.
 
@@ -296,6 +296,6 @@ captured_in_groups name lines position line some at is =
     let (to, from) = given_come member_line test 0 lines (position, line) in
     let same = sym (kept_groups (captured_lines name lines)) ∙ captured_by_groups name lines some in
     rw (← same) (
-      grind (arith, cond_given, test, decides.1, from),
-      grind (arith, cond_given, same_place, to, test, decides.0),
+      grind (arith, cond_some_iff, test, decides.1, from),
+      grind (arith, cond_some_iff, same_place, to, test, decides.0),
     )

@@ -127,10 +127,10 @@ next_is : (names : List Named) (heads nexts : List ℕ) (position next : ℕ) (n
 next_is names heads nexts position next n linked at is =
     grind (arith, get_or_from_slice_get, slice_get_read, slice_get_within)
 
-pub further : (names : List Named) (heads nexts : List ℕ) (position next : ℕ) (n : Named)
+pub next_is_after : (names : List Named) (heads nexts : List ℕ) (position next : ℕ) (n : Named)
     → AreLinked 0 names heads nexts → slice_get names position ≡ Some n → next ≡ get_or nexts position next
     → position < next
-further names heads nexts position next n linked at is =
+next_is_after names heads nexts position next n linked at is =
     omega (arith, next_is names heads nexts position next n linked at is)
 
 pub walk_on : (name : List ℕ) (names : List Named) (heads nexts : List ℕ) (position next : ℕ) (n : Named)
@@ -144,17 +144,17 @@ walk_on name names heads nexts position next n linked at is first =
     next_in_bucket name position next (bucket_of N (str_to_ascii_lowercase n.name)) names
     (eqb-true _ _ inside) (next_is names heads nexts position next n linked at is)
 
-pub found : (name : List ℕ) (names : List Named) (position : ℕ) (n : Named) → slice_get names position
-    ≡ Some n
+pub first_named_zero : (name : List ℕ) (names : List Named) (position : ℕ) (n : Named)
+    → slice_get names position ≡ Some n
     → has_name name n ≡ true → first_named name (drop position names) ≡ 0
-found name names position n at is = grind (arith, drop_is, first_now)
+first_named_zero name names position n at is = grind (arith, drop_is, first_now)
 
-pub passed : (name : List ℕ) (names : List Named) (position : ℕ) (n : Named) → slice_get names position
-    ≡ Some n
+pub first_named_next : (name : List ℕ) (names : List Named) (position : ℕ) (n : Named)
+    → slice_get names position ≡ Some n
     → has_name name n ≡ false
     → position + 1 + first_named name (drop (position + 1) names)
     ≡ position + first_named name (drop position names)
-passed name names position n at isnt =
+first_named_next name names position n at isnt =
     omega (
       arith,
       ap (first_named name) (drop_is names position n at),

@@ -11,15 +11,14 @@ use Rattle.texting_robots.specs.Rules.{IsFirstOverlong, PlacedRule}
 use Rattle.texting_robots.specs.{declared.error.Error.Error, Error.IsMemoryErrorOr, Executable.IsRejectionOf}
 use Rattle.texting_robots.specs.declared.error.Error.TheVariants as error
 use Rattle.texting_robots.specs.Group.{group_name, is_agent, is_member}
-use Rattle.texting_robots.specs.{Pattern.IsOverlong, Internal.Group.from_captured}
+use Rattle.texting_robots.specs.{Pattern.IsOverlong, Internal.Group.from_captured, Robot.IsRobotOf}
 use Rattle.texting_robots.specs.declared.site.{lines.ByteRange.ByteRange, own.Position.Position}
-use Rattle.texting_robots.specs.{Robot.IsRobotOf, Robot.RobotValue, Line.LineValue, Line.UserAgent}
+use Rattle.texting_robots.specs.{Robot.RobotValue, Line.LineValue, Line.UserAgent, Executable.placed_rules}
 use Rattle.texting_robots.specs.Executable.{captured_delays, captured_lines, file_lines, delay_for}
-use Rattle.texting_robots.specs.Executable.{placed_rules}
 use Rattle.texting_robots.proofs.{CapturedLemmas.captured_walked, ExecutableLemmas.delay_is_computed}
 use Rattle.texting_robots.proofs.SiteNameLemmas.{drop_is, first_here, here, later_at, past_end}
-use Rattle.texting_robots.proofs.SiteNameLemmas.{groups_from_first}
-use Rattle.texting_robots.proofs.MainTheoremLemmas.{rejected_of, rejection_is_computed, rules_are_computed}
+use Rattle.texting_robots.proofs.{SiteNameLemmas.groups_from_first, MainTheoremLemmas.rules_are_computed}
+use Rattle.texting_robots.proofs.MainTheoremLemmas.{overlong_rejected, rejection_is_computed}
 use Rattle.texting_robots.proofs.SiteLemmas.{delay_of_group, given_push, rule_of_group, none_later}
 use Rattle.texting_robots.specs.Internal.Site.{Named, Tagged, delay_of, in_front, is_group_of, named, listed}
 use Rattle.texting_robots.specs.Internal.Site.{own_tagged, rejection_at, rule_of, tagged, tagged_from}
@@ -247,23 +246,24 @@ pub rejected_at : (agent file : List ℕ) (rule : PlacedRule) (taken left : List
     → IsMemoryErrorOr (IsOverlong rule.rule.0) e → IsRejectionOf agent file (rejection_at rule.line e)
 rejected_at agent file rule taken left error.InvalidRule whole accepted is =
     let first : IsFirstOverlong (placed_rules agent (file_lines file)) rule.line = grind arith in
-    (rejected_of agent file rule.line first, first)
+    (overlong_rejected agent file rule.line first, first)
 rejected_at agent file rule taken left other whole accepted is = tt
 
 pub given_nothing : {X Y : Type 0} (h : X → Option Y) (x : X) (xs : List X) → filter_map h (x ∷ xs) ≡ []
     → (h x ≡ None) × (filter_map h xs ≡ [])
 given_nothing h x xs none = grind arith
 
-pub none_at : {X Y : Type 0} (h : X → Option Y) (xs : List X) (i : ℕ) (d : X) → i < length xs
+pub none_if_nil : {X Y : Type 0} (h : X → Option Y) (xs : List X) (i : ℕ) (d : X) → i < length xs
     → filter_map h xs ≡ [] → h (get_or xs i d) ≡ None
-none_at h [] i d within none = absurd (omega arith)
-none_at h (x ∷ xs) zero d within none = (given_nothing h x xs none).0
-none_at h (x ∷ xs) (suc i) d within none = none_at h xs i d (omega arith) (given_nothing h x xs none).1
+none_if_nil h [] i d within none = absurd (omega arith)
+none_if_nil h (x ∷ xs) zero d within none = (given_nothing h x xs none).0
+none_if_nil h (x ∷ xs) (suc i) d within none =
+    none_if_nil h xs i d (omega arith) (given_nothing h x xs none).1
 
-pub same_robot : (agent other : List ℕ) (lines : List LineValue) (robot : RobotValue)
+pub same_group_robot : (agent other : List ℕ) (lines : List LineValue) (robot : RobotValue)
     → group_name agent lines ≡ group_name other lines → IsRobotOf agent lines robot
     → IsRobotOf other lines robot
-same_robot agent other lines robot same is =
+same_group_robot agent other lines robot same is =
     let rules : placed_rules agent lines ≡ placed_rules other lines =
     cc in
     let delays : delay_for agent lines ≡ delay_for other lines =

@@ -17,7 +17,7 @@ use Rattle.std.proofs.lemmas.List.Elements.{All-contains, Contains-append_right}
 use Rattle.texting_robots.specs.declared.parser.statement.Kind.{Kind}
 use Rattle.texting_robots.specs.Statement.{field_names, IsBlank, StartsValue, IsAfterBlanks, IsAfterColon}
 use Rattle.texting_robots.specs.Statement.{IsStatement}
-use Rattle.texting_robots.proofs.TrimLemmas.{trimmed_is_trim, is_trimmed, blanks_skipped}
+use Rattle.texting_robots.proofs.TrimLemmas.{trimmed_is_trim, trim_unique, trim_skips_blanks}
 
 -- ---- A text that has the bytes of a usual field name begins with it.
 
@@ -63,8 +63,8 @@ abbrev pub NoBlank : List ℕ → Type 0
 NoBlank [] = Unit {0}
 NoBlank (b ∷ text) = ¬ IsBlank b
 
-pub kept : (text : List ℕ) → NoBlank text → skip_blanks text ≡ text
-kept text plain = grind (arith, blank_decides, cond-false, false_from_ne_true)
+pub skips_nothing : (text : List ℕ) → NoBlank text → skip_blanks text ≡ text
+skips_nothing text plain = grind (arith, blank_decides, cond-false, false_from_ne_true)
 
 abbrev Skipped : List ℕ → List ℕ → Type 0
 Skipped left text = (blanks : List ℕ) × Each IsBlank blanks × (text ≡ blanks ++ left) × NoBlank left
@@ -125,7 +125,7 @@ found_key (s ∷ list) text rest is = elim (cases_Bool (begins s text)) [
 
 spaced : (rest tail : List ℕ) → StartsValue tail
     → (skip_blanks tail ≡ tail) × (after_separator rest tail ≡ after_blanks rest tail)
-spaced rest tail plain = grind (arith, cond-false, kept, ne_eqb)
+spaced rest tail plain = grind (arith, cond-false, skips_nothing, ne_eqb)
 
 tail_found : (tail rest : List ℕ) → IsAfterColon tail rest ⊎ IsAfterBlanks tail rest
     → tail_of rest ≡ Some (skip_blanks tail)
@@ -183,7 +183,7 @@ region_is (b ∷ region) comment plain is =
 value_skipped : (tail : List ℕ) → value_of (skip_blanks tail) ≡ value_of tail
 value_skipped tail =
     let (blanks, all, whole, _) = skipped tail in
-    grind (arith, blanks_skipped, at)
+    grind (arith, trim_skips_blanks, at)
   where
     first : (b : ℕ) (text : List ℕ) → IsBlank b → region_of (b ∷ text) ≡ b ∷ region_of text
     first b text (inl is) = rw is (region_step 32 text)
@@ -195,18 +195,18 @@ value_skipped tail =
     at (b ∷ blanks) all =
         first b (blanks ++ skip_blanks tail) all.0 ∙ ap (λ t. b ∷ t) (at blanks all.1)
 
-pub statement_found : (kind : Kind) (value body : List ℕ) → IsStatement kind value body
+pub statement_complete : (kind : Kind) (value body : List ℕ) → IsStatement kind value body
     → statement_of body ≡ Some (kind, value)
 unfolding statement_of
-statement_found kind value body s =
+statement_complete kind value body s =
     let text = s.key ++ s.rest in
     let key = key_found kind s.key s.rest s.is_key in
     let reads : skip_blanks body ≡ text
-    = cc (skip_front s.margin text s.margin_blank, kept text (plain_by kind text key.0)) in
+    = cc (skip_front s.margin text s.margin_blank, skips_nothing text (plain_by kind text key.0)) in
     let region : region_of s.tail ≡ s.region
     = cc (region_is s.region s.comment s.no_hash s.is_comment) in
     let is : value_of (skip_blanks s.tail) ≡ value
-    = cc (value_skipped s.tail, is_trimmed s.region value s.trimmed) in
+    = cc (value_skipped s.tail, trim_unique s.region value s.trimmed) in
     grind (arith, tail_found)
 
 stated : (kind : Kind) (body rest found : List ℕ)
@@ -219,10 +219,10 @@ stated kind body rest found keyed is =
     let (comment, parts, no_hash, is_comment) = parted tail in
     grind (arith, trimmed_is_trim, value_skipped)
 
-pub found_statement : (kind : Kind) (value body : List ℕ) → statement_of body ≡ Some (kind, value)
+pub statement_sound : (kind : Kind) (value body : List ℕ) → statement_of body ≡ Some (kind, value)
     → IsStatement kind value body
 unfolding statement_of
-found_statement kind value body found =
+statement_sound kind value body found =
     let text = skip_blanks body in
     option_and_then_some _ (kind_by text) (kind, value) found (λ k by is.
     option_and_then_some _ (tail_as k text) (kind, value) is (λ tail is same.
@@ -237,8 +237,8 @@ pub one_statement : (kind kind' : Kind) (value value' body : List ℕ) → IsSta
     → IsStatement kind' value' body → (kind ≡ kind') × (value ≡ value')
 one_statement kind kind' value value' body s t =
     some_pair_parts kind kind' value value'
-    (sym (statement_found kind value body s) ∙ statement_found kind' value' body t)
+    (sym (statement_complete kind value body s) ∙ statement_complete kind' value' body t)
 
-pub unstated : (body : List ℕ) → statement_of body ≡ None → (kind : Kind) (value : List ℕ)
+pub no_statement : (body : List ℕ) → statement_of body ≡ None → (kind : Kind) (value : List ℕ)
     → ¬ IsStatement kind value body
-unstated body none kind value is = let found = statement_found kind value body is in cc
+no_statement body none kind value is = let found = statement_complete kind value body is in cc

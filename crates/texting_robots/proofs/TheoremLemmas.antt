@@ -11,9 +11,9 @@ use Rattle.texting_robots.specs.Line.{LineValue, delay_in, is_raw, is_sitemap}
 use Rattle.texting_robots.specs.Group.{group_name, is_agent, is_agent_named, is_member, IsCaptured}
 use Rattle.texting_robots.specs.Executable.{delay_for, rule_in, rules_for, sitemap_in}
 use Rattle.texting_robots.specs.Internal.Group.{start_of, step}
-use Rattle.texting_robots.proofs.CapturedLemmas.{IsWalkAt, at_front, cond_same, delays_are, given_captured}
-use Rattle.texting_robots.proofs.CapturedLemmas.{only_agents, is_captured_decides, rules_are, occurs_first}
-use Rattle.texting_robots.proofs.CapturedLemmas.{occurs_next}
+use Rattle.texting_robots.proofs.CapturedLemmas.{IsWalkAt, drop_cons, cond_same, delays_walked}
+use Rattle.texting_robots.proofs.CapturedLemmas.{given_captured, named_is_agent, is_captured_decides}
+use Rattle.texting_robots.proofs.CapturedLemmas.{rules_walked, walk_first, walk_next}
 use Rattle.texting_robots.proofs.MainTheoremLemmas.{rejection_is_computed}
 use Rattle.texting_robots.proofs.RulesLemmas.{before_agent, before_agents}
 
@@ -46,10 +46,10 @@ record AreAlike (agent : List ℕ) (lines others : List LineValue) : Type 0 wher
 same_alike : (agent : List ℕ) (lines others : List LineValue) → AreAlike agent lines others
     → SameButSitemaps agent lines agent others
 same_alike agent lines others are = same_from agent lines agent others
-    (rules_are agent lines ∙ found rule_in are.rules ∙ sym (rules_are agent others))
+    (rules_walked agent lines ∙ found rule_in are.rules ∙ sym (rules_walked agent others))
     (rw (
-      delays_are agent lines,
-      delays_are agent others,
+      delays_walked agent lines,
+      delays_walked agent others,
       found delay_in are.delays,
       before_agents lines,
       before_agents others,
@@ -107,7 +107,7 @@ module _ (keep : LineValue → Bool)
         arith,
         cases_Bool,
         cond_same,
-        only_agents,
+        named_is_agent,
         captured_kept given drops name (step name tracker line) lines,
         captured_kept given drops name tracker lines,
       )
@@ -126,7 +126,7 @@ module _ (keep : LineValue → Bool)
     captured_kept,
     no_delay,
     no_rule,
-    only_agents,
+    named_is_agent,
   ))
 
   same_kept : (agent : List ℕ) (lines others : List LineValue) → filter keep lines ≡ filter keep others
@@ -185,8 +185,8 @@ occurs_walked : (name : List ℕ) (all : List LineValue) (tracker : GroupTracker
     → IsWalkAt name all (position + length front) (walked name tracker front)
 occurs_walked name all tracker position [] back splits left = rw (add-zero position) splits
 occurs_walked name all tracker position (line ∷ front) back splits left =
-    let (at, next) = at_front all position line (front ++ back) left in
-    let here = occurs_next name all position tracker line at splits in
+    let (at, next) = drop_cons all position line (front ++ back) left in
+    let here = walk_next name all position tracker line at splits in
     grind (arith, occurs_walked name all (step name tracker line) (position + 1) front back here next)
 
 captured_after : {X : Type 0} (given : LineValue → Option X) (name : List ℕ) (tracker : GroupTracker)
@@ -215,7 +215,7 @@ uncaptured_reaches_nothing agent front back line other kind uncaptured =
     let name = group_name agent lines in
     let alike = same_kind line other kind in
     let splits = occurs_walked name lines (start_of lines) 0 front (line ∷ back)
-    (occurs_first name lines) refl in
+    (walk_first name lines) refl in
     let here : IsWalkAt name lines (length front) (walked name (start_of lines) front) =
     rw (zero-add (length front)) at splits in
     let free =

@@ -41,8 +41,8 @@ by_units P none more bytes = at (length bytes) bytes (omega arith)
         let bounds = piece-bounds (b ∷ rest) (omega arith) in
         more (b ∷ rest) (omega arith) (at n _ (simp length-drop (omega arith)))
 
-pub white_scalar : (c : ℕ) → is_whitespace c ≡ true → scalar c ≡ true
-white_scalar c white = low_scalar c (grind (arith, nat_tests))
+pub white_is_scalar : (c : ℕ) → is_whitespace c ≡ true → scalar c ≡ true
+white_is_scalar c white = low_scalar c (grind (arith, nat_tests))
 
 written : (bytes : List ℕ) → is_whitespace (first_char bytes) ≡ true
     → bytes ≡ encode_utf8 (first_char bytes) ++ following bytes
@@ -101,7 +101,7 @@ start_spaces : (chars rest : List ℕ) → AllWhite chars
     → from_start (encode_utf8_all chars ++ rest) ≡ from_start rest
 start_spaces [] rest all = refl
 start_spaces (c ∷ cs) rest all =
-    grind (arith, append_assoc, cond-true, start_char, white_scalar, start_spaces cs rest all.1)
+    grind (arith, append_assoc, cond-true, start_char, white_is_scalar, start_spaces cs rest all.1)
 
 abbrev Started : List ℕ → Type 0
 Started bytes = (chars : List ℕ) × AllWhite chars × (bytes ≡ encode_utf8_all chars ++ from_start bytes)
@@ -152,7 +152,7 @@ end_spaces (c ∷ cs) rest all =
       append_assoc,
       cond-true,
       end_char,
-      white_scalar,
+      white_is_scalar,
       end_spaces cs (rest ++ encode_utf8 c) all.1,
     )
 
@@ -219,8 +219,8 @@ trimmed_is_trim region =
           grind (arith, length-append, length-drop);
     }
 
-pub is_trimmed : (region value : List ℕ) → IsTrimOf value region → trimmed region ≡ value
-is_trimmed region value u =
+pub trim_unique : (region value : List ℕ) → IsTrimOf value region → trimmed region ≡ value
+trim_unique region value u =
     let t = trimmed_is_trim region in
     let n = length u.front in
     let below = u.front_longest t.front (trimmed region ++ t.back) t.whole t.front_spaces in
@@ -234,9 +234,9 @@ is_trimmed region value u =
     = omega (arith, simp length-append at (ap length rest)) in
     cc (take_at (trimmed region) t.back _ long, take_at value u.back _ refl)
 
-pub same_trim : (text region value : List ℕ) → trimmed text ≡ trimmed region → IsTrimOf value region
+pub trim_if_same : (text region value : List ℕ) → trimmed text ≡ trimmed region → IsTrimOf value region
     → IsTrimOf value text
-same_trim text region value same t = grind (arith, is_trimmed, trimmed_is_trim)
+trim_if_same text region value same t = grind (arith, trim_unique, trimmed_is_trim)
 
 blank_spaces : (blanks : List ℕ) → Each IsBlank blanks
     → AllWhite blanks × (encode_utf8_all blanks ≡ blanks)
@@ -244,9 +244,9 @@ unfolding encode_utf8
 blank_spaces [] all = (tt, refl)
 blank_spaces (b ∷ blanks) (is, all) = grind (arith, blank_spaces blanks all)
 
-pub blanks_skipped : (blanks region : List ℕ) → Each IsBlank blanks
+pub trim_skips_blanks : (blanks region : List ℕ) → Each IsBlank blanks
     → trimmed (blanks ++ region) ≡ trimmed region
-blanks_skipped blanks region all = grind (arith, blank_spaces, start_spaces)
+trim_skips_blanks blanks region all = grind (arith, blank_spaces, start_spaces)
 
 end_blanks : (left blanks : List ℕ) → Each IsBlank blanks
     → trim_end_by is_whitespace (left ++ blanks) ≡ trim_end_by is_whitespace left
@@ -259,7 +259,7 @@ end_blanks left blanks all =
 blanks_after_chars : (chars blanks : List ℕ) → scalars chars ≡ true → Each IsBlank blanks
     → trimmed (encode_utf8_all chars ++ blanks) ≡ trimmed (encode_utf8_all chars)
 blanks_after_chars [] blanks is all =
-    ap trimmed (sym (append-nil blanks)) ∙ blanks_skipped blanks [] all
+    ap trimmed (sym (append-nil blanks)) ∙ trim_skips_blanks blanks [] all
 blanks_after_chars (c ∷ cs) blanks is all =
     let both = and_parts (scalar c) (scalars cs) is in
     let text = encode_utf8_all cs in
@@ -267,9 +267,9 @@ blanks_after_chars (c ∷ cs) blanks is all =
     let more = rw (← append_assoc) at (start_char c (text ++ blanks) both.0) in
     grind (arith, cases_Bool, end_blanks, blanks_after_chars cs blanks both.1 all)
 
-pub trailing_blanks : (text blanks : List ℕ) → IsUtf8 text → Each IsBlank blanks
+pub trim_drops_blanks : (text blanks : List ℕ) → IsUtf8 text → Each IsBlank blanks
     → trimmed (text ++ blanks) ≡ trimmed text
-trailing_blanks text blanks (chars, (is, whole)) all = rw (← whole) (blanks_after_chars chars blanks is all)
+trim_drops_blanks text blanks (chars, (is, whole)) all = rw (← whole) (blanks_after_chars chars blanks is all)
 
 graphic_char : (b : ℕ) → is_ascii_graphic b ≡ true
     → (scalar b ≡ true) × (is_whitespace b ≡ false) × (encode_utf8 b ≡ b ∷ [])
@@ -283,10 +283,10 @@ graphic_first b rest is =
     let (scalar_b, dark, one) = graphic_char b is in
     (rw one at (start_char b rest scalar_b)) ∙ cond-false _ _ _ dark
 
-pub graphic_trim : (b : ℕ) (rest : List ℕ) → is_ascii_graphic b ≡ true
+pub graphic_trimmed : (b : ℕ) (rest : List ℕ) → is_ascii_graphic b ≡ true
     → is_ascii_graphic (get_or (b ∷ rest) (length rest) 0) ≡ true → trimmed (b ∷ rest) ≡ b
     ∷ rest
-graphic_trim b rest first_is last_is =
+graphic_trimmed b rest first_is last_is =
     let text = b ∷ rest in
     let front = take (length rest) text in
     let last = get_or text (length rest) 0 in
@@ -303,7 +303,7 @@ pub graphic_ends : (text : List ℕ) (first last : ℕ) → Some first ≡ slice
     → trimmed text ≡ text
 graphic_ends [] first last here there first_is last_is = cc
 graphic_ends (b ∷ rest) first last here there first_is last_is =
-    grind (arith, graphic_trim, slice_get-get_or)
+    grind (arith, graphic_trimmed, slice_get-get_or)
 
 -- if the first byte of a tail is visible and starts no comment, the value is empty or begins with it
 pub other_value : (tail name : List ℕ) (first letter : ℕ) → Some first ≡ slice_get tail 0

@@ -32,9 +32,9 @@ pub same_elements : {X : Type 0} (xs ys : List X) → IsPermutation xs ys → (x
 same_elements xs ys same x =
     (Contains-permutation xs ys x same, Contains-permutation ys xs x (IsPermutation-sym xs ys same))
 
-pub after_first : {X : Type 0} (first : X) (rest : List X) (x : X) → ¬ ◌≡◌ {A = X} first x
+pub contains_rest : {X : Type 0} (first : X) (rest : List X) (x : X) → ¬ ◌≡◌ {A = X} first x
     → Contains (first ∷ rest) x → Contains rest x
-after_first first rest x other h2 = grind arith
+contains_rest first rest x other h2 = grind arith
 
 pub order_changes_nothing : (rules others : List Rule) (text : List ℕ) (answer : Bool)
     → IsPermutation rules others → IsVerdict rules text answer → IsVerdict others text answer
@@ -58,7 +58,7 @@ module _ (front back : List Rule) (added rule : Rule) where
   contains_more (k, below, at) = moved.1 (suc k, omega arith, at)
 
   contains_less : added ≢ rule → Contains (front ++ added ∷ back) rule → Contains (front ++ back) rule
-  contains_less differs has = grind (arith, after_first, moved)
+  contains_less differs has = grind (arith, contains_rest, moved)
 
 kinds_differ : (p q : List ℕ) → ◌≢◌ {A = Rule} (p, false) (q, true)
 kinds_differ p q same = grind arith
@@ -114,19 +114,19 @@ deciding_permuted rules others text (Some line) same (differs, placed, decides, 
       at,
     )
 
-pub same_verdicts : (rules others : List PlacedRule) → IsPermutation rules others
+pub permuted_verdicts : (rules others : List PlacedRule) → IsPermutation rules others
     → (text : List ℕ) (answer : Bool)
     → IsVerdict (unplaced others) text answer ↔ IsVerdict (unplaced rules) text answer
-same_verdicts rules others same text answer =
+permuted_verdicts rules others same text answer =
     let alike = IsPermutation-map (λ (placed : PlacedRule). placed.rule) rules others same in (
       order_changes_nothing _ _ text answer (IsPermutation-sym (unplaced rules) (unplaced others) alike),
       order_changes_nothing _ _ text answer alike,
     )
 
-pub same_lines : (rules others : List PlacedRule) → IsPermutation rules others
+pub permuted_lines : (rules others : List PlacedRule) → IsPermutation rules others
     → (text : List ℕ) (line : Option ℕ)
     → IsDecidingLine others text line ↔ IsDecidingLine rules text line
-same_lines rules others same text line = (
+permuted_lines rules others same text line = (
   deciding_permuted others rules text line (IsPermutation-sym rules others same),
   deciding_permuted rules others text line same,
 )
@@ -144,9 +144,9 @@ none_decides : (rules : List PlacedRule) (text : List ℕ) (line : ℕ) → IsDe
     → ¬ (IsDecidingLine rules text (Some line))
 none_decides rules text line none (differs, placed, decides, at) = grind arith
 
-pub one_verdict : (rules : List Rule) (text : List ℕ) (one two : Bool) → IsVerdict rules text one
+pub verdict_unique : (rules : List Rule) (text : List ℕ) (one two : Bool) → IsVerdict rules text one
     → IsVerdict rules text two → one ≡ two
-one_verdict rules text one two is is_too = grind arith
+verdict_unique rules text one two is is_too = grind arith
 
 pub one_line_decides : (rules : List PlacedRule) (text : List ℕ) (line other : Option ℕ)
     → IsDecidingLine rules text line → IsDecidingLine rules text other → line ≡ other
@@ -222,16 +222,16 @@ one_holds p q =
     by_ranked _ _ _ (pattern_cmp p q) (pattern_compared p q) (λ _ first. inr (inl first))
     (λ _ same. inl same) (λ _ later. inr (inr later))
 
-pub not_both : (p q : List ℕ) → IsBefore p q → ¬ IsBefore q p
-not_both p q before after =
+pub before_asymmetric : (p q : List ℕ) → IsBefore p q → ¬ IsBefore q p
+before_asymmetric p q before after =
     let first = (less_is_before p q).1 before in
     grind (arith, less_is_before, pattern_total)
 
-pub not_equal : (p : List ℕ) → ¬ IsBefore p p
-not_equal p before = not_both p p before before
+pub before_irreflexive : (p : List ℕ) → ¬ IsBefore p p
+before_irreflexive p before = before_asymmetric p p before before
 
-pub transitive : (p q r : List ℕ) → IsBefore p q → IsBefore q r → IsBefore p r
-transitive p q r first second =
+pub before_transitive : (p q r : List ℕ) → IsBefore p q → IsBefore q r → IsBefore p r
+before_transitive p q r first second =
     (less_is_before p r).0
     (pattern_total.trans p q r ((less_is_before p q).1 first) ((less_is_before q r).1 second))
 

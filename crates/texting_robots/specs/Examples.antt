@@ -249,11 +249,11 @@ ends =
     Matches (codes "/*ab*ba$") (codes "/abba") × ¬ Matches (codes "/*ab*ba$") (codes "/aba")
     × Matches (codes "$") [] × ¬ Matches (codes "$") (codes "/")
 
--- also if a star follows the dollar
+-- a dollar is the end of the text also if a star follows it
 abbrev pub star_after : Type 0
 star_after = Matches (codes "/a$*") (codes "/a") × ¬ Matches (codes "/a$*") (codes "/ab")
 
--- also if another byte follows it, so that such a pattern matches nothing
+-- a dollar is the end also if another byte follows it, so that such a pattern matches nothing
 abbrev pub dollar_inside : Type 0
 dollar_inside = ¬ Matches (codes "/a$b") (codes "/a$b") × ¬ Matches (codes "/a$b") (codes "/a")
 

@@ -10,7 +10,7 @@ crlf_to_lf [] = []
 crlf_to_lf (b ∷ text) =
     if b == cr && slice_index text 0 == lf then crlf_to_lf text else b ∷ crlf_to_lf text
 
--- the same rules, verdicts and delay for both crawlers, and both files are rejected or neither
+-- both crawlers have the same rules, verdicts and delay, and both files are rejected or neither
 pub record SameButSitemaps (agent : List ℕ) (lines : List LineValue)
     (other : List ℕ) (others : List LineValue) : Type 0 where
   pub rules : rules_for agent lines ≡ rules_for other others
@@ -19,7 +19,7 @@ pub record SameButSitemaps (agent : List ℕ) (lines : List LineValue)
   pub delay : delay_for agent lines ≡ delay_for other others
   pub rejection : IsRejected agent lines ↔ IsRejected other others
 
--- all of this, and the same sitemaps
+-- all of `SameButSitemaps`, and the same sitemaps
 abbrev pub Same : List ℕ → List LineValue → List ℕ → List LineValue → Type 0
 Same agent lines other others =
     SameButSitemaps agent lines other others × (sitemaps_in lines ≡ sitemaps_in others)

@@ -38,7 +38,7 @@ fn is_escaped(byte: u8) -> bool
         | (byte == b'`')
 }
 
-/// Without an early exit, so that the compiler can vectorize the loop.
+/// Tests all bytes without an early exit, so that the compiler can vectorize the loop.
 fn holds_escaped_among(bytes: &[u8]) -> bool
     ensures { result ≡ list_any is_escaped bytes.now }
 {
@@ -66,7 +66,7 @@ fn lanes_hold_escaped<const N: usize>(bytes: &[u8]) -> bool
 }
 
 /// Tests the first and the last `N` bytes, which may overlap, and are all.
-#[tactic(auto, using(crate::proofs::LabelLemmas::either_end, crate::proofs::LabelLemmas::front_tells))]
+#[tactic(auto, using(crate::proofs::LabelLemmas::either_end, crate::proofs::LabelLemmas::any_of_front))]
 #[inline(always)]
 fn ends_hold_escaped<const N: usize>(bytes: &[u8]) -> bool
     requires { (N ≤ length bytes.now) × (length bytes.now ≤ N + N) × (N ≤ 64) }
@@ -105,7 +105,6 @@ pub(crate) fn holds_escaped(bytes: &[u8]) -> bool
     few_hold_escaped(rest)
 }
 
-/// Appends the byte, escaped if it has to be.
 #[tactic(auto, unfolding(percent_encoding::specs::Percent::percent_encode_byte))]
 #[inline(always)]
 fn push_byte(out: &mut String, byte: u8) -> Result<(), AllocError>
@@ -129,7 +128,7 @@ fn push_escapes(out: &mut String, bytes: &[u8]) -> Result<(), AllocError>
 }
 
 /// Appends the escaped string. Most strings hold no escaped byte and are copied in one go.
-#[tactic(auto, using(crate::proofs::NormalizedLemmas::plain_stays))]
+#[tactic(auto, using(crate::proofs::NormalizedLemmas::escaped_plain))]
 pub(crate) fn push_escaped(
     out: &mut String,
     text: &str,
@@ -147,7 +146,7 @@ pub(crate) fn push_escaped(
 /// Appends any bytes, escaped as patterns are: each control character, space, `"`, `<`, `>`, backquote and
 /// non-ASCII byte becomes `%` and two uppercase hexadecimal digits. If an allocation fails, nothing is
 /// appended.
-#[tactic(auto, using(std::proofs::lemmas::Result::on_ok_weaker, crate::proofs::NormalizedLemmas::same_escape))]
+#[tactic(auto, using(std::proofs::lemmas::Result::on_ok_weaker, crate::proofs::NormalizedLemmas::encode_is_escaped))]
 pub fn push_escaped_bytes(out: &mut String, bytes: &[u8]) -> Result<(), AllocError>
     ensures ok { OnOk result (string_bytes out.new ≡ string_bytes out.old ++ escaped bytes.now) }
     ensures rejected { OnErr result (string_bytes out.new ≡ string_bytes out.old) }

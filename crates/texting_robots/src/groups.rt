@@ -22,7 +22,7 @@ pub(crate) struct Group<'a> {
 
 /// Reads the lines up to the first user-agent line, among which a delay may be, and then looks for a
 /// user-agent line that names the crawler.
-#[tactic(auto, using(crate::proofs::RulesLemmas::last_more, crate::proofs::NameLemmas::tested_names))]
+#[tactic(auto, using(crate::proofs::RulesLemmas::last_or_cons, crate::proofs::NameLemmas::tested_names))]
 #[inline(never)]
 pub(crate) fn group_for<'a>(agent: &'a [u8], lines: LazyLines<'_>) -> Group<'a>
     ensures name { str_to_ascii_lowercase result.name.now ≡ group_name agent.now lines.entry }

@@ -35,7 +35,7 @@ pub(crate) trait Haystack {
 
     ghost left: { Self.Rest → List ℕ → List ℕ };
 
-    /// This isn't a look.
+    /// Whether the text is `/robots.txt`. This isn't a look.
     fn is_robots_file(&self) -> bool
         ensures { IsTrue result ↔ ((seen self.now).text ≡ codes "/robots.txt") };
 
@@ -85,7 +85,7 @@ pub(crate) trait Haystack {
         ensures answer { IsTrue result ↔ IsSuffix segment.now (left rest (seen self.old).text) }
         ensures cost { PassesTo (seen self.old) (seen self.new) (left rest (seen self.old).text) [] };
 
-    /// This isn't a look.
+    /// Whether nothing of the text is left. This isn't a look.
     fn is_at_end(&self, rest: Self::Rest) -> bool
         requires { is_rest rest (seen self.now).text }
         ensures { IsTrue result ↔ (left rest (seen self.now).text ≡ []) };

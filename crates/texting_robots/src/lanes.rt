@@ -17,7 +17,7 @@ pub(crate) fn first_lane(mask: u64, lanes: usize) -> usize
     }
 }
 
-/// Without an early exit, so that the compiler can vectorize the loop.
+/// Tests all bytes without an early exit, so that the compiler can vectorize the loop.
 pub(crate) fn all_are(bytes: &[u8], byte: u8) -> bool
     ensures { result ≡ list_all (λ b. b == byte) bytes.now }
 {

@@ -289,7 +289,7 @@ pub fn captured_by_groups()
 
 /// Crawlers with the same group name have the same robots, so callers can keep one for all that a file
 /// doesn't name.
-#[tactic(auto, using(crate::proofs::SiteOwnLemmas::same_robot))]
+#[tactic(auto, using(crate::proofs::SiteOwnLemmas::same_group_robot))]
 pub fn one_robot_a_group()
     ensures { (agent other : List ℕ) (lines : List LineValue) (robot : RobotValue)
         → group_name agent lines ≡ group_name other lines → IsRobotOf agent lines robot → IsRobotOf other lines robot }

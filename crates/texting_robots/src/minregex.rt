@@ -217,7 +217,6 @@ fn collapse_stars(alloc: Global, pattern: &str) -> Result<String, AllocError>
     Ok(text)
 }
 
-/// What is before the first star, and what is after it, if there is one.
 fn cut_at_star(pattern: &[u8]) -> (&[u8], Option<&[u8]>)
     ensures { IsCutAtStar pattern.now result.0.now result.1 }
 {

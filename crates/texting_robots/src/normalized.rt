@@ -115,7 +115,6 @@ fn begins_with_letter(text: &[u8]) -> bool
     }
 }
 
-/// Neither with a plus, nor with a zero before another digit.
 fn begins_plainly(digits: &[u8]) -> bool
     ensures { result ≡ begins_plainly digits.now }
 {
@@ -125,7 +124,7 @@ fn begins_plainly(digits: &[u8]) -> bool
     }
 }
 
-/// If true, it is a port other than `own`, as `url` writes it. Not inlined, as few URLs have one.
+/// If true, the digits are a port other than `own`, as `url` writes it. Not inlined, as few URLs have one.
 #[inline(never)]
 fn is_port(own: u16, digits: &[u8]) -> bool
     ensures { IsTrue result → IsOther own digits.now }
@@ -189,7 +188,7 @@ fn dot_len(text: &[u8]) -> usize
     }
 }
 
-/// One or two dots, each of which may be escaped.
+/// Whether the segment is one or two dots, each of which may be escaped.
 #[tactic(auto, unfolding(url::specs::Path::dot_count))]
 fn is_dots(segment: &[u8]) -> bool
     ensures { IsTrue result ↔ (dot_count segment.now ≢ 0) }
@@ -199,7 +198,6 @@ fn is_dots(segment: &[u8]) -> bool
     dot != 0 && dot_len(rest) == rest.len()
 }
 
-/// With a dot, or with an escape, which may be one.
 fn begins_dotted(text: &[u8]) -> bool
     ensures { result ≡ begins_dotted text.now }
 {
@@ -264,7 +262,7 @@ fn after_delimited<'a>(delimiter: u8, part: &[u8; 16], text: &'a [u8]) -> &'a [u
     }
 }
 
-/// If true, it is a path, query and fragment that `url` leaves unchanged.
+/// If true, the text is a path, query and fragment that `url` leaves unchanged.
 fn is_target(text: &[u8]) -> bool
     ensures { IsTrue result → IsTarget text.now }
 {

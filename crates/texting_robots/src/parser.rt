@@ -40,7 +40,7 @@ pub enum Line<'a> {
     /// How many microseconds a crawler has to wait between two requests. The parser never returns `None`
     /// here.
     CrawlDelay(Option<u64>),
-    /// Any other line: its whole content.
+    /// A line that is no directive: its whole content.
     Raw(&'a [u8]),
 }
 
@@ -73,7 +73,7 @@ impl<'a> Line<'a> {
 #[derive(Drop)]
 pub(crate) struct LazyLine<'a> {
     body: &'a [u8],
-    /// Without leading spaces and tabs.
+    /// The line without leading spaces and tabs.
     text: &'a [u8],
     /// Determined by the first letter of `text`.
     kind: Option<Kind>,
@@ -115,8 +115,8 @@ impl<'a> LazyLine<'a> {
         self.kind
     }
 
-    /// If it is a user-agent line: whether it names the crawler.
-    #[tactic(auto, using(crate::proofs::LineLemmas::no_agent_tail, crate::proofs::LineLemmas::other_line))]
+    /// Whether the line names the crawler, if it is a user-agent line.
+    #[tactic(auto, using(crate::proofs::LineLemmas::no_agent_tail, crate::proofs::LineLemmas::no_agent_kind))]
     #[inline(always)]
     pub(crate) fn naming(&self, agent: &[u8]) -> Option<bool>
         ensures { MatchOption result (is_agent self.now ≡ false) (λ named. (is_agent self.now ≡ true)
@@ -128,7 +128,7 @@ impl<'a> LazyLine<'a> {
         }
     }
 
-    /// Whether it is a user-agent line that names the crawler.
+    /// Whether the line is a user-agent line that names the crawler.
     #[tactic(auto, using(crate::proofs::AgentLemmas::no_agent))]
     #[inline(always)]
     fn names(&self, agent: &[u8]) -> bool

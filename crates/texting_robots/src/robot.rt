@@ -82,8 +82,8 @@ impl Robot {
         })
     }
 
-    /// How many bytes of memory it takes: its own size and the capacities of its vectors. Only a bound is
-    /// proved.
+    /// How many bytes of memory the robot takes: its own size and the capacities of its vectors. Only a bound
+    /// is proved.
     pub fn bytes(&self) -> usize
         ensures { seen_of (64 * length self.now.rules) ≤ result }
     {

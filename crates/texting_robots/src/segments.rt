@@ -74,7 +74,7 @@ pub(crate) enum Ending {
     Open,
     /// The end of the text, right after the first segment: a dollar precedes any star.
     Closed,
-    /// These bytes, at the end of the text: they are between the last star and the dollar.
+    /// The bytes between the last star and the dollar, at the end of the text.
     Last(Span),
     /// The pattern matches no text: a byte other than a star or a dollar follows the dollar.
     Never,
@@ -187,7 +187,6 @@ fn first_wildcard(pattern: &[u8]) -> usize
     pattern.len() - rest.len() + wildcard_in_few(rest)
 }
 
-/// What precedes the first wildcard, and what begins with it.
 #[tactic(auto, using(crate::proofs::SegmentLemmas::cut_at_first))]
 fn cut_at_wildcard(pattern: &[u8]) -> (&[u8], &[u8])
     ensures { IsCutAtWildcard pattern.now result.0.now result.1.now }
@@ -221,7 +220,7 @@ fn only_wildcards(pattern: &[u8]) -> bool
     pattern.iter().all(|b| is_wildcard(*b))
 }
 
-/// Whether it matches only the end of a text: a dollar and then only wildcards.
+/// Whether the pattern matches only the end of a text: a dollar and then only wildcards.
 #[tactic(auto, using(crate::proofs::SegmentLemmas::only_wildcards_match, std::proofs::lemmas::Slice::Eq::strip_prefix_is))]
 fn closes(pattern: &[u8]) -> bool
     ensures { IsTrue result ↔ Closes pattern.now }
@@ -248,7 +247,7 @@ fn collapsed_len(pattern: &[u8]) -> usize
     len
 }
 
-#[tactic(auto, using(crate::proofs::CollapseLemmas::length_within))]
+#[tactic(auto, using(crate::proofs::CollapseLemmas::collapsed_within))]
 pub(crate) fn is_overlong(pattern: &[u8]) -> bool
     ensures { IsTrue result ↔ IsOverlong pattern.now }
 {

@@ -122,8 +122,8 @@ impl Site {
         })
     }
 
-    /// How many bytes of memory it takes: its own size and the capacities of its vectors. Only a bound is
-    /// proved.
+    /// How many bytes of memory the site takes: its own size and the capacities of its vectors. Only a bound
+    /// is proved.
     pub fn bytes(&self) -> usize
         ensures { length self.now ≤ result }
     {

@@ -27,6 +27,7 @@ impl<'a> Model for View<'a> {
 }
 
 impl<'a> View<'a> {
+    /// The text, none of whose bytes was looked at.
     pub fn new(text: &'a str) -> Self
         ensures text { result.text ≡ text.now }
         ensures looks { result.looks ≡ 0 }

@@ -4,9 +4,9 @@ use texting_robots::{Error, Robot};
 
 #[derive(Debug, Drop)]
 pub(crate) enum Plan {
-    /// Fetch it, after this many microseconds.
+    /// Fetch the URL, after this many microseconds.
     Fetch(u64),
-    /// Don't fetch it, as the file denies it.
+    /// Don't fetch the URL, as the file denies it.
     Leave,
     /// The file is rejected: a rule for this crawler is too long.
     Unusable,

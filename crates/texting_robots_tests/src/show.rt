@@ -103,7 +103,7 @@ fn shows_by_site(rt: &HostRuntime, given: &Given<'_>, text: &str) -> Result<bool
     }
 }
 
-/// Its verdicts on a text as a URL, as a match target, and on the match target of the URL.
+/// The robot's verdicts on a text as a URL, as a match target, and on the match target of the URL.
 fn shows_robot(rt: &HostRuntime, robot: &Robot, text: &str) -> Result<bool, Error> {
     let target = Robot::prepare_url(rt.alloc(), text)?;
     let allowed = robot.allowed(rt.alloc(), text)?;

@@ -1,11 +1,9 @@
 -- Warnings about closed sites and about conflicting rules.
 use Rattle.std.specs.Prelude.{is_some}
-use Rattle.std.proofs.{lemmas.Slice.Eq.bytes_eq-Decides}
-use Rattle.std.proofs.{lemmas.List.Elements.All-contains}
-use Rattle.std.proofs.Common.{rules, Some, bytes_eq, if◌then◌else◌, ◌∙◌, ◌≡◌, ℕ, ◌&&◌, ◌||◌, []}
-use Rattle.std.proofs.Common.{Bool, true, false, List, ◌∷◌, Contains, append-nil, ap, arith, inl, inr, length}
-use Rattle.std.proofs.Common.{not, refl, subst, sym, ◌⊎◌, None, Option, ◌≢◌, ◌<◌, ◌++◌, All, nat_eq}
-use Rattle.std.proofs.Common.{nat_le}
+use Rattle.std.proofs.{lemmas.Slice.Eq.bytes_eq-Decides, lemmas.List.Elements.All-contains}
+use Rattle.std.proofs.Common.{rules, Some, bytes_eq, if◌then◌else◌, ◌∙◌, ◌≡◌, ℕ, ◌&&◌, ◌||◌, [], Bool, true}
+use Rattle.std.proofs.Common.{false, List, ◌∷◌, Contains, append-nil, ap, arith, inl, inr, length, not, refl}
+use Rattle.std.proofs.Common.{subst, sym, ◌⊎◌, None, Option, ◌≢◌, ◌<◌, ◌++◌, All, nat_eq, nat_le}
 use Rattle.std.proofs.lemmas.Bool.{and_parts, not-true, or_cases, eq-eqb, false≢true}
 use Rattle.std.specs.{List.list_any, Str.byte, List.starts_with}
 use Rattle.std.proofs.lemmas.List.Folds.{list_any-from_Any, Any-from_list_any, list_any_at}
@@ -19,7 +17,7 @@ use Rattle.robots_warnings.specs.Conflicts.{IsConflict, compared}
 use Rattle.robots_warnings.specs.Closed.{first_line, first_of, line_if}
 use Rattle.robots_warnings.specs.{Contents.is_cut_to_root}
 use Rattle.robots_warnings.proofs.{ClosedLemmas.whole_site_stays}
-use Rattle.texting_robots.proofs.Shared.{computed_are, placed_of, in_front, plain_wildcards}
+use Rattle.texting_robots.proofs.Shared.{placed_are_rules, placed_of, in_front, plain_segment}
 use Rattle.audit_core.proofs.ReachLemmas.{whole_site_matches}
 use Rattle.robots_rules.proofs.{TogetherLemmas.unplaced_of}
 use Rattle.warning_theorems.proofs.{WarningLemmas.without_path}
@@ -112,7 +110,7 @@ closed_denies leaves agent lines rules text is are differs opens =
     Any-from_list_any (λ placed. is_some (line_if test placed)) all (any_some (line_if test) all ∙ is) in
     let (closing, alone) = and_parts _ _ (sym (line_given test placed) ∙ some) in
     let (denies, whole) = and_parts _ _ closing in
-    let own = computed_are agent lines in (
+    let own = placed_are_rules agent lines in (
       differs,
       placed.rule.0,
       subst (λ (b : Bool). Contains (unplaced rules) (placed.rule.0, b)) (not-true _ denies)
@@ -156,7 +154,7 @@ literally_starts pattern path text is matches =
     by : list_any is_star_or_dollar path ≡ false → (rest : List ℕ) → Matches (path ++ rest) text
         → starts_with nat_eq text path ≡ true
     by none rest matches =
-        let all = plain_wildcards path (none_at is_star_or_dollar path none) in
+        let all = plain_segment path (none_at is_star_or_dollar path none) in
         let (after, is, _) = (in_front true path rest text all).0 matches in rw is (starts path after)
 
 closed_by : (other : Bool) (line : Option ℕ) {number : ℕ} → (if other then None else line) ≡ Some number

@@ -11,7 +11,7 @@ use Rattle.texting_robots.specs.Callers.{AreLabelsOf, Disallow, IsLineOf, Label,
 use Rattle.texting_robots.specs.Callers.{bodies_in, bodies_read, escaped, placed_rules, unplaced, AreRulesFor}
 use Rattle.texting_robots.specs.Callers.{IsDenied, IsVerdict, Matches, PlacedRule, Rule}
 use Rattle.texting_robots.specs.{Internal.Line.line_of, Pattern.MatchesWith}
-use Rattle.texting_robots.proofs.Shared.{computed_are, lines_of_file_bodies, placed_of}
+use Rattle.texting_robots.proofs.Shared.{placed_are_rules, lines_of_file_bodies, placed_of}
 use Rattle.robots_warnings.specs.Conflicts.{IsEmptyDisallow, is_empty_at, is_empty_disallow}
 use Rattle.robots_warnings.specs.Conflicts.{closes_all, is_empty_rule, is_of_all, is_overruling, opens_all}
 use Rattle.robots_warnings.specs.Conflicts.{stated_rules}
@@ -193,7 +193,7 @@ module _ (agent file : List ℕ) (rules : List PlacedRule)
         → (one : PlacedRule) × Contains rules one × (one.rule.1 ≡ true) × (is_of_all one.rule.0 ≡ true)
         × (is_empty one.line ≡ false)
     allow_beside allow deny there empty own denies short =
-        let are_all = computed_are agent (lines_read file) in
+        let are_all = placed_are_rules agent (lines_read file) in
         elim (cases_Bool (list_any (opens_all is_empty) all)) [
           | inl some ↦
               let (k, one, below, at, opens) = Any-from_list_any (opens_all is_empty) all some in

@@ -6,16 +6,15 @@ use Rattle.std.proofs.Common.{◌∙◌, suc, zero, Bool, true, false, not, List
 use Rattle.std.proofs.Common.{Option, None, Some, drop, filter, slice_get, take, ap, arith, length}
 use Rattle.std.specs.List.{enumerate_from, fold, list_any, count_by}
 use Rattle.std.proofs.lemmas.Bool.{and_parts, cases_Bool, false≢true, cases_lt, not-true, or_cases, or_right}
-use Rattle.std.proofs.lemmas.List.{Elements.Contains-append_cases}
-use Rattle.std.proofs.lemmas.List.{Sorted.sum_by-IsPermutation}
+use Rattle.std.proofs.lemmas.List.{Elements.Contains-append_cases, Sorted.sum_by-IsPermutation}
 use Rattle.texting_robots.specs.Callers.{AreLabelsOf, Label, LineValue, UserAgent, delay_for}
 use Rattle.texting_robots.specs.Callers.{file_bodies, file_limit, lines_read}
 use Rattle.texting_robots.specs.Callers.{group_name, AreRulesFor, HoldsRule, PlacedRule, Rule, placed_rules}
 use Rattle.texting_robots.specs.Executable.{captured_delays, delay_before_agents}
 use Rattle.texting_robots.specs.Group.{is_agent, passes_at, is_member}
 use Rattle.texting_robots.specs.Internal.Group.{if_captured, start_of, step}
-use Rattle.texting_robots.proofs.Shared.{delays_are, given_captured, taken_decides, before_agent}
-use Rattle.texting_robots.proofs.Shared.{before_agents, first_more, computed_are, one_list}
+use Rattle.texting_robots.proofs.Shared.{delays_walked, given_captured, taken_decides, before_agent}
+use Rattle.texting_robots.proofs.Shared.{before_agents, first_or_cons, placed_are_rules, rules_permuted}
 use Rattle.robots_warnings.specs.Positions.{are_different, begin_with_one, first_delay, is_other_delay}
 use Rattle.robots_warnings.specs.Positions.{later_delays, later_delays_from}
 use Rattle.warning_theorems.proofs.RepeatedLemmas.{IsFrom, here, holds_among, same_left}
@@ -134,7 +133,7 @@ module _ (gone : ℕ → Bool) where
       let moved = step name tracker line in
       let later = first_left name (position + 1) (first_delay first line) now moved labels (others_next are)
       (settled_next name first found tracker line is)
-      ∙ first_more given found now (given_captured delay_in name moved (lines_of labels)) refl in
+      ∙ first_or_cons given found now (given_captured delay_in name moved (lines_of labels)) refl in
       (grind (arith, differs_here))
 
 abbrev AreBelow : (ℕ → Bool) → ℕ → List LineValue → Type 0
@@ -201,7 +200,7 @@ module _ {name : List ℕ} {labels : List Label} (labeled : AreLabelsOf name (li
       let start : start_of left ≡ start_of all_lines =
       grind arith in
       let first : slice_get (captured_delays agent left) 0 ≡ slice_get (captured_delays agent all_lines) 0 =
-      rw (delays_are agent left, delays_are agent all_lines, group, start)
+      rw (delays_walked agent left, delays_walked agent all_lines, group, start)
       (first_left gone (group_name agent all_lines) 0 None None (start_of all_lines) labels others tt) in
       cc (early_left gone all_lines agents below)
 
@@ -232,7 +231,7 @@ HasNone agent lines =
 computed : (agent : List ℕ) (lines : List LineValue) (position : ℕ) (rule : Rule)
     → HoldsRule agent lines position rule
     → Contains (placed_rules agent lines) (record { rule = rule; line = position + 1 })
-computed agent lines position rule holds = ((computed_are agent lines).held _).1 (position, refl, holds)
+computed agent lines position rule holds = ((placed_are_rules agent lines).held _).1 (position, refl, holds)
 
 has_none : (agent : List ℕ) (lines : List LineValue) → lacks_all lines agent ≡ true → HasNone agent lines
 has_none agent lines lacks star other pattern starred holds =
@@ -332,4 +331,4 @@ replaces_star agents lines number (position, number_is, passes) =
 
 pub star_disallows : (lines : List LineValue) (rules : List PlacedRule) → AreRulesFor (codes "*") lines rules
     → star_count lines ≡ count_by (λ (placed : PlacedRule). not placed.rule.1) rules
-star_disallows lines rules are = search (one_list, computed_are, sum_by-IsPermutation)
+star_disallows lines rules are = search (rules_permuted, placed_are_rules, sum_by-IsPermutation)

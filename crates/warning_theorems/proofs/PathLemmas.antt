@@ -1,12 +1,10 @@
 -- A match target without `url-not-normal` is in normal form, and that of what is written.
-use Rattle.std.proofs.Common.{◌≡◌, ℕ, ◌<◌, ◌&&◌, ◌||◌, Bool, true, false, inl, inr, List}
-use Rattle.std.proofs.Common.{◌∷◌, not, arith, codes, refl}
-use Rattle.std.proofs.Common.{nat_eq}
+use Rattle.std.proofs.Common.{◌≡◌, ℕ, ◌<◌, ◌&&◌, ◌||◌, Bool, true, false, inl, inr, List, ◌∷◌, not, arith}
+use Rattle.std.proofs.Common.{codes, refl, nat_eq}
 use Rattle.std.specs.Char.{is_ascii_hexdigit, to_ascii_uppercase}
 use Rattle.std.specs.List.{starts_with}
 use Rattle.std.proofs.lemmas.{Slice.Eq.bytes_eq-Decides}
-use Rattle.std.proofs.lemmas.Bool.{agree_below_at, and_parts, cases_Bool, cases_lt}
-use Rattle.std.proofs.lemmas.Bool.{le-ltb, not-false}
+use Rattle.std.proofs.lemmas.Bool.{agree_below_at, and_parts, cases_Bool, cases_lt, le-ltb, not-false}
 use Rattle.std.proofs.lemmas.List.{Concat.flat_map-append}
 use Rattle.percent_encoding.specs.{AsciiSet.should_percent_encode}
 use Rattle.percent_encoding.specs.Percent.{encode_byte, percent_encode, percent_encode_byte}

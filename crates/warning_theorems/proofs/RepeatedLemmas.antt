@@ -17,7 +17,7 @@ use Rattle.robots_rules.specs.Needless.{lines_without, without}
 use Rattle.robots_rules.proofs.TogetherLemmas.{in_named, unplaced_of, verdicts, in_filter, to_filter}
 use Rattle.robots_rules.proofs.BlockLemmas.{among, deleted}
 use Rattle.robots_warnings.specs.Repeated.{IsAbove, IsRepeat}
-use Rattle.texting_robots.proofs.Shared.{placed_of, computed_are}
+use Rattle.texting_robots.proofs.Shared.{placed_of, placed_are_rules}
 
 pub record IsFrom (lines : List LineValue) (position : ℕ) (rest : List LineValue) : Type 0 where
   pub each : (i : ℕ) → slice_get lines (position + i) ≡ slice_get rest i
@@ -130,11 +130,11 @@ module _ (numbers : List ℕ) (lines : List LineValue)
     kept_rule : (n : ℕ) (placed : PlacedRule) → placed.line ≤ n → Contains rules placed
         → Contains (unplaced kept) placed.rule
     kept_rule zero placed most has =
-        let (place, on, holds) = ((computed_are agent lines).held placed).0 has in absurd (omega arith)
+        let (place, on, holds) = ((placed_are_rules agent lines).held placed).0 has in absurd (omega arith)
     kept_rule (suc n) placed most has = elim (cases_Bool (among numbers placed.line)) [
       | inl goes ↦
           let (line, above, listed) =
-          rule_above (computed_are agent lines) placed has (repeats placed.line goes) in
+          rule_above (placed_are_rules agent lines) placed has (repeats placed.line goes) in
           kept_rule n (record { rule = placed.rule; line = line }) (omega arith) listed
       | inr stays ↦ unplaced_of kept placed (to_filter _ rules placed has (rw stays refl))
     ]

@@ -1,11 +1,8 @@
 -- Needless rules can be deleted together. What a report tells about the syntax of a file and its verdicts is
 -- so.
 use Rattle.std.proofs.{Common.rules}
-use Rattle.std.proofs.Common.{true, ap, ◌≡◌, ◌≢◌}
-use Rattle.std.proofs.Common.{ℕ}
-use Rattle.std.proofs.Common.{◌≤◌, ◌↔◌, Bool, List, [], ◌∷◌, Contains, IsUtf8, arith, codes}
-use Rattle.std.proofs.Common.{length}
-use Rattle.std.proofs.Common.{ltb-false, subst, subst₂, sym, take, take_all}
+use Rattle.std.proofs.Common.{true, ap, ◌≡◌, ◌≢◌, ℕ, ◌≤◌, ◌↔◌, Bool, List, [], ◌∷◌, Contains, IsUtf8, arith}
+use Rattle.std.proofs.Common.{codes, length, ltb-false, subst, subst₂, sym, take, take_all}
 use Rattle.std.proofs.lemmas.Bool.{false_from_ne_true}
 use Rattle.texting_robots.specs.Callers.{IsVerdict, LineValue, PlacedRule, agents_in, placed_rules}
 use Rattle.texting_robots.specs.Callers.{file_limit, file_lines, rules_for}

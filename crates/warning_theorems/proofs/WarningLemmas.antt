@@ -1,10 +1,8 @@
 -- Theorems about warnings: what the conditions of some warnings imply for rules, names and URLs.
-use Rattle.std.proofs.Common.{◌||◌, ◌==◌, arith, if◌then◌else◌, inl, inr, ◌≡◌, ◌≢◌}
-use Rattle.std.proofs.Common.{◌<◌, ℕ, Bool, true, false, List, [], ◌∷◌}
-use Rattle.std.proofs.Common.{not, slice_get, Some, subst, sym, ◌+◌, ◌∙◌}
+use Rattle.std.proofs.Common.{◌||◌, ◌==◌, arith, if◌then◌else◌, inl, inr, ◌≡◌, ◌≢◌, ◌<◌, ℕ, Bool, true, false}
+use Rattle.std.proofs.Common.{List, [], ◌∷◌, not, slice_get, Some, subst, sym, ◌+◌, ◌∙◌}
 use Rattle.std.proofs.lemmas.Bool.{cases_Bool, eqb-true, false≢true, not-true}
-use Rattle.std.specs.{List.list_all, List.list_any, Str.byte}
-use Rattle.std.specs.{Str.is_utf8}
+use Rattle.std.specs.{List.list_all, List.list_any, Str.byte, Str.is_utf8}
 use Rattle.texting_robots.specs.Callers.{Allow, AreLabelsOf, Disallow, HoldsRule, Label}
 use Rattle.texting_robots.specs.Callers.{LineValue, Matches, Rule, HasMembership, UserAgent}
 use Rattle.texting_robots.specs.Callers.{escaped, file_lines, is_named}

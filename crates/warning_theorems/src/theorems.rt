@@ -93,7 +93,8 @@ pub fn verdicts_are_those_of_the_standard()
         → ¬ IsFileRejected agent (take file_limit file) }
 {}
 
-/// The same of this library's answer about a file, for the product token `agent`, whatever its bytes.
+/// If an audit says that a file's verdicts are those of RFC 9309, this library's answer for the product token
+/// `agent`, on a path and query in normal form, is the standard's, whatever the file's bytes.
 pub fn allowed_by_the_standard(
     alloc: Global,
     agent: &str,

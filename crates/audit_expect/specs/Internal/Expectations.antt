@@ -58,7 +58,7 @@ is_empty body = is_empty_disallow (line_of body) body
 abbrev pub marks_of : List (List ℕ) → List Bool
 marks_of bodies = false ∷ map is_empty bodies
 
--- the same by labels
+-- whether the line of a label is an empty Disallow
 abbrev pub is_empty_label : Label → Bool
 is_empty_label label = is_empty_disallow label.line label.body
 

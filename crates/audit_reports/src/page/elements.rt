@@ -118,7 +118,6 @@ impl Page {
         self.close();
     }
 
-    /// The headings of columns.
     pub(crate) fn columns(&mut self, texts: &[&str]) {
         for text in texts {
             self.open_with("th", &[("scope", "col")]);

@@ -129,7 +129,7 @@ tr:target { background: var(--hit) }
 }
 ";
 
-/// It permits the page's own style only, by the SHA-256 hash that a test computes again.
+/// The page's security policy permits its own style only, by the SHA-256 hash that a test computes again.
 pub(crate) const POLICY: &str = "default-src 'none'; \
     style-src 'sha256-k+T9wyW/JdgYDq7kgifXVlKrGvj0qpMgVZW2ay3I7pc='; \
     base-uri 'none'; form-action 'none'";

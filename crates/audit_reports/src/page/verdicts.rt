@@ -132,7 +132,7 @@ fn write_agent_columns(page: &mut Page, urls: &[&str]) {
     page.close();
 }
 
-/// It can be scrolled, also with keys.
+/// Writes the table of crawlers, which can be scrolled, also with keys.
 fn write_agent_table(page: &mut Page, urls: &[&str], agents: &[AgentAudit<'_>]) {
     page.open_with("div", &[("class", "scroll"), ("tabindex", "0")]);
     page.open_class("table", "agents");

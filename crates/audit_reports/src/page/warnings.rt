@@ -20,7 +20,7 @@ fn level_front(level: Level) -> &'static str {
     }
 }
 
-/// The lines are those of all that are written as one.
+/// Writes a warning, which stands for all in these lines.
 fn write_warning(page: &mut Page, together: Together<'_>, lines: &[usize], warning: &Warning<'_>) {
     let (level, name) = (level_front(warning.cause.level()), warning.cause.name());
     let (message, also) = (Message(warning, together), AlsoIn(lines, warning));
@@ -55,7 +55,7 @@ fn write_place(page: &mut Page, rows: usize, line: Option<usize>) {
     page.write_str(": ");
 }
 
-/// `all` are those with which these may be written as one.
+/// `all` are the warnings with which these may be written as one.
 fn write_items(
     alloc: Global,
     page: &mut Page,

@@ -82,7 +82,7 @@ pub record IsCutAtWildcard (pattern segment rest : List ℕ) : Type 0 where
 abbrev pub after_stars : List ℕ → List ℕ
 after_stars pattern = drop (prefix_len (λ b. b == star) pattern) pattern
 
--- it is a dollar, followed by a pattern that matches the empty text
+-- the pattern is a dollar, followed by a pattern that matches the empty text
 pub record Closes (pattern : List ℕ) : Type 0 where
   pub following : List ℕ
   pub dollar : pattern ≡ dollar ∷ following

@@ -154,7 +154,7 @@ own_at name position names tags =
 abbrev pub AreOfFile : List Named → List Tagged → Type 0
 AreOfFile names tags = (lines : List LineValue) × (names ≡ named lines) × (tags ≡ tagged lines)
 
--- and the user-agent line at the position has the name, or none is left
+-- the lists are of a file, and the user-agent line at the position has the name, or none is left
 abbrev pub IsWalk : List ℕ → Position → List Named → List Tagged → Type 0
 IsWalk name position names tags =
     (first_named name (drop position.name_index names) ≡ 0) × AreOfFile names tags

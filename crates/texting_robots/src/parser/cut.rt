@@ -131,7 +131,7 @@ pub(crate) fn after_end<'a>(text: &'a [u8], nul_ends: bool) -> &'a [u8]
     }
 }
 
-/// Without an early exit, so that the compiler can vectorize the loop.
+/// Tests all bytes without an early exit, so that the compiler can vectorize the loop.
 fn all_feed(bytes: &[u8], nul_ends: bool) -> bool
     ensures { result ≡ list_all (is_feed nul_ends) bytes.now }
 {

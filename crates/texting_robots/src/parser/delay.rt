@@ -114,7 +114,6 @@ fn read_number(text: &[u8]) -> Option<Number<'_>>
     })
 }
 
-/// The first `count` digits, or all if there are fewer.
 fn first(digits: &[u8], count: usize) -> &[u8]
     ensures { result.now ≡ take count digits.now }
 {
@@ -157,7 +156,7 @@ impl Number<'_> {
         }
     }
 
-    /// In microseconds, rounded down, at most `u64::MAX`.
+    /// The delay in microseconds, rounded down, at most `u64::MAX`.
     fn micros(&self) -> u64
         ensures { result ≡ steps.rounded self.now }
     {

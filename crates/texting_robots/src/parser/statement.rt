@@ -176,7 +176,7 @@ pub(crate) fn tail_as<'a>(kind: Kind, text: &'a [u8]) -> Option<&'a [u8]>
     }
 }
 
-/// Without an early exit, so that the compiler can vectorize the loop.
+/// Tests all bytes without an early exit, so that the compiler can vectorize the loop.
 fn holds_hash_among(bytes: &[u8]) -> bool
     ensures { result ≡ list_any (λ byte. byte == hash) bytes.now }
 {
@@ -188,7 +188,7 @@ fn holds_hash_among(bytes: &[u8]) -> bool
 }
 
 /// Tests the first and the last `N` bytes, which may overlap, and are all.
-#[tactic(auto, using(crate::proofs::LabelLemmas::either_end, crate::proofs::LabelLemmas::front_tells))]
+#[tactic(auto, using(crate::proofs::LabelLemmas::either_end, crate::proofs::LabelLemmas::any_of_front))]
 #[inline(always)]
 fn ends_hold_hash<const N: usize>(text: &[u8]) -> bool
     requires { (N ≤ length text.now) × (length text.now ≤ N + N) }
@@ -210,7 +210,7 @@ fn holds_hash(text: &[u8]) -> bool
     }
 }
 
-#[tactic(auto, using(crate::proofs::LabelLemmas::first_is, crate::proofs::LabelLemmas::none_is))]
+#[tactic(auto, using(crate::proofs::LabelLemmas::take_if_first, crate::proofs::LabelLemmas::all_if_nowhere))]
 #[inline(never)]
 fn before_hash<'a>(tail: &'a [u8]) -> &'a [u8]
     ensures { result.now ≡ region_of tail.now }
@@ -222,7 +222,7 @@ fn before_hash<'a>(tail: &'a [u8]) -> &'a [u8]
 }
 
 /// The tail without its comment. Most have none, so that is tested first.
-#[tactic(auto, using(crate::proofs::LabelLemmas::plain_is))]
+#[tactic(auto, using(crate::proofs::LabelLemmas::all_if_none))]
 fn region_of<'a>(tail: &'a [u8]) -> &'a [u8]
     ensures { result.now ≡ region_of tail.now }
 {

@@ -37,7 +37,7 @@ impl ByteRange {
 #[derive(Clone, Copy)]
 pub struct MemberLine<'a> {
     pub line: Line<'a>,
-    /// Its number, counted from 1 among all lines of the file.
+    /// The number of the line, counted from 1 among all lines of the file.
     pub number: usize,
     /// The number of the first line of its group, or 0 if there is none.
     pub(crate) group: usize,

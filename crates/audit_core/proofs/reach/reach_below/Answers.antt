@@ -1,6 +1,6 @@
 use Rattle.std.proofs.Common.{◌≡◌, [], arith, filter, length, map}
 use Rattle.audit_core.specs.Reach.{is_long_allow}
-use Rattle.audit_core.proofs.AuditLemmas.{none_of}
+use Rattle.audit_core.proofs.AuditLemmas.{nil_if_empty}
 use Rattle.audit_core.proofs.ReachLemmas.{fetches_listed, fetches_nothing, line_of}
 use Rattle.audit_core.proofs.reach.reach_below.Goals as goal
 
@@ -10,7 +10,7 @@ returns-then-is_empty c =
     let closing = c.args.closing.now in
     let rules = c.args.rules.now in
     let are : lines ≡ map line_of (filter (is_long_allow (length closing.rule.0)) rules) = grind (arith) in
-    let none : lines ≡ [] = grind (arith, none_of) in
+    let none : lines ≡ [] = grind (arith, nil_if_empty) in
     fetches_nothing rules closing lines c.requires.listed c.requires.closing are none
 
 pub returns : goal.returns

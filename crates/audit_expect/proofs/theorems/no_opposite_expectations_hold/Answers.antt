@@ -3,7 +3,7 @@ use Rattle.std.specs.Prelude.{IsTrue}
 use Rattle.std.proofs.lemmas.List.Elements.{filter_agree}
 use Rattle.texting_robots.specs.Callers.{IsVerdict, PlacedRule, bodies_read, lines_read, placed_rules}
 use Rattle.texting_robots.specs.Callers.{unplaced}
-use Rattle.texting_robots.proofs.Shared.{one_verdict}
+use Rattle.texting_robots.proofs.Shared.{verdict_unique}
 use Rattle.audit_expect.specs.OtherReading.{AreOthers, IsNormalVerdict, normal_rule}
 use Rattle.audit_expect.specs.Expectations.{HoldsFor}
 use Rattle.audit_expect.proofs.theorems.no_opposite_expectations_hold.Goals as goal
@@ -23,7 +23,7 @@ same_others bodies all some others is also =
 same_normally : (bodies : List (List ℕ)) (all : List PlacedRule) (target : List ℕ) (one two : Bool)
     → IsNormalVerdict bodies all target one → IsNormalVerdict bodies all target two → one ≡ two
 same_normally bodies all target one two is also =
-    one_verdict _ target one two is.verdict
+    verdict_unique _ target one two is.verdict
     (subst (λ others. IsVerdict (unplaced (map normal_rule others)) target two)
     (same_others bodies all also.others is.others also.are is.are) also.verdict)
 

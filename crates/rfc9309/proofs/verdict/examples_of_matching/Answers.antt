@@ -1,6 +1,6 @@
 use Rattle.std.proofs.Common.{arith, ◌≡◌, ◌++◌, ◌∷◌, List, [], ℕ, codes, false, true, refl}
 use Rattle.texting_robots.specs.Escape.{escaped}
-use Rattle.texting_robots.proofs.Shared.{matches, matching, not_matching}
+use Rattle.texting_robots.proofs.Shared.{matches, matches_sound, not_matching}
 use Rattle.rfc9309.specs.Matching.{IsMatch, Reading, filled, normal_from, normal_path, normal_uri}
 use Rattle.rfc9309.specs.Matching.{without_end}
 use Rattle.rfc9309.specs.Examples as example
@@ -34,5 +34,5 @@ returns c = record {
     only _ _ _ [] refl refl,
   );
   reserved_in_uri = only _ _ _ [] refl refl;
-  reserved_alike = (whole _ _ _ [] refl, matching _ _ _ refl);
+  reserved_alike = (whole _ _ _ [] refl, matches_sound _ _ _ refl);
 }

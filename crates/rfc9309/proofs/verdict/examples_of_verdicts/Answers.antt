@@ -7,13 +7,14 @@ use Rattle.std.specs.{Char.is_ascii_graphic, Prelude.slice_index}
 use Rattle.std.proofs.lemmas.Bool.{and_parts, eqb-false, ltb-true}
 use Rattle.texting_robots.specs.Rules.{PlacedRule, unplaced}
 use Rattle.texting_robots.specs.{Escape.escaped, Trim.IsTrimOf, Verdict.IsVerdict}
-use Rattle.texting_robots.proofs.Shared.{allowed_by, answered, deciding_rule, graphic_trim, trimmed_is_trim}
+use Rattle.texting_robots.proofs.Shared.{allowed_by, rule_answers, deciding_rule, graphic_trimmed}
+use Rattle.texting_robots.proofs.Shared.{trimmed_is_trim}
 use Rattle.rfc9309.specs.Comparable.{AreComparable, IsPathOf, IsPlainPath}
 use Rattle.rfc9309.specs.Matching.{IsRfcVerdict, Reading, all_stay, as_in_table, filled, has_dollar, is_ended}
 use Rattle.rfc9309.specs.Matching.{normal_from, normal_path, normal_uri, octets, without_end}
 use Rattle.rfc9309.specs.{Examples.mixed_rules, Examples.page_rules, StandardRobot.IsReadAs}
 use Rattle.rfc9309.proofs.VerdictLemmas.{each_contains, verdicts_agree}
-use Rattle.rfc9309.proofs.{SyntaxLemmas.passing, ValueLemmas.visible_trim}
+use Rattle.rfc9309.proofs.{SyntaxLemmas.each_if_all, ValueLemmas.visible_trim}
 use Rattle.rfc9309.specs.Rfc9309 as rfc
 use Rattle.rfc9309.proofs.verdict.examples_of_verdicts.Goals as goal
 
@@ -32,7 +33,7 @@ trimmed : (path : List ℕ) → is_trimmed path ≡ true → IsTrimOf path path
 trimmed [] is = visible_trim [] tt
 trimmed (b ∷ path) is =
     let (first, last) = and_parts _ _ is in
-    subst (λ v. IsTrimOf v (b ∷ path)) (graphic_trim b path first last) (trimmed_is_trim _)
+    subst (λ v. IsTrimOf v (b ∷ path)) (graphic_trimmed b path first last) (trimmed_is_trim _)
 
 abbrev read : rfc.Member → PlacedRule
 read (rfc.Allow path) = record { rule = (escaped path, true); line = 0 }
@@ -49,7 +50,7 @@ module _ (stays : Reading) (members : List rfc.Member) (uri : List ℕ)
   are_usual : (member : rfc.Member) → Contains members member → is_usual stays member ≡ true
   are_usual member =
       each_contains (λ member. is_usual stays member ≡ true) members member
-      (passing (λ member. is_usual stays member ≡ true) (is_usual stays) (λ member is. is) members usual)
+      (each_if_all (λ member. is_usual stays member ≡ true) (is_usual stays) (λ member is. is) members usual)
 
   are_trimmed : (path : List ℕ) → IsPathOf members path → IsTrimOf path path
   are_trimmed path (inl has) = trimmed path (are_usual _ has)
@@ -81,7 +82,7 @@ module _ (stays : Reading) (members : List rfc.Member) (uri : List ℕ)
       let rules = unplaced _ in (
         are,
         (verdicts_agree stays _ members rules uri (are_read members usual) are answer).0
-            (subst (IsVerdict rules uri) is (answered (map read members) uri).0),
+            (subst (IsVerdict rules uri) is (rule_answers (map read members) uri).0),
       )
     where
       are_read : (members : List rfc.Member) → list_all (is_usual stays) members ≡ true
@@ -124,7 +125,7 @@ returns c = record {
       most = λ allowed has. absurd (each_contains (λ member. member ≢ rfc.Allow allowed) rules
           _ ((λ e. cc), ((λ e. cc), tt)) has refl);
     },
-    (answered (map read rules) (codes "/x")).0,
+    (rule_answers (map read rules) (codes "/x")).0,
   );
 }
   where

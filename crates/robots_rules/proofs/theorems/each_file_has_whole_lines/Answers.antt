@@ -1,5 +1,5 @@
-use Rattle.robots_rules.proofs.LeftLemmas.{some_lines}
+use Rattle.robots_rules.proofs.LeftLemmas.{has_whole_lines}
 use Rattle.robots_rules.proofs.theorems.each_file_has_whole_lines.Goals as goal
 
 pub returns : goal.returns
-returns c = some_lines
+returns c = has_whole_lines

@@ -1,5 +1,4 @@
-use Rattle.std.proofs.Common.{arith}
-use Rattle.std.proofs.Common.{refl}
+use Rattle.std.proofs.Common.{arith, refl}
 use Rattle.robots_verdict.proofs.{InputLemmas.urls_allocated}
 use Rattle.robots_verdict.proofs.header.read_header.Goals as goal
 

@@ -1,5 +1,4 @@
-use Rattle.std.proofs.Common.{arith}
-use Rattle.std.proofs.{Common.rules, lemmas.List.map-append}
+use Rattle.std.proofs.{Common.arith, Common.rules, lemmas.List.map-append}
 use Rattle.robots_verdict.proofs.InputLemmas.{goes_first, goes_more, if_memory, no_split, not_empty}
 use Rattle.robots_verdict.proofs.{InputLemmas.split_found, InputLemmas.some_url}
 use Rattle.robots_verdict.proofs.header.split.Goals as goal

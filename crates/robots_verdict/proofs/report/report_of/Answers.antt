@@ -1,5 +1,4 @@
-use Rattle.std.proofs.Common.{arith}
-use Rattle.std.proofs.Common.{◌≡◌, ◌++◌, ◌∷◌, [], inr, map, refl, string_bytes, take}
+use Rattle.std.proofs.Common.{arith, ◌≡◌, ◌++◌, ◌∷◌, [], inr, map, refl, string_bytes, take}
 use Rattle.texting_robots.specs.Robot.{file_limit}
 use Rattle.texting_robots.proofs.Shared.{not_rejected, read_robot}
 use Rattle.safe_output.specs.Lines.{ended}

@@ -2,7 +2,7 @@ use Rattle.std.proofs.Common.{arith, inl, inr}
 use Rattle.std.proofs.lemmas.{Grind.common_steps, List.drop_more}
 use Rattle.std.specs.{BTreeSet.contains, Ordering.nat_cmp}
 use Rattle.texting_robots.specs.Callers.{file_lines, placed_rules}
-use Rattle.texting_robots.proofs.Shared.{computed_are}
+use Rattle.texting_robots.proofs.Shared.{placed_are_rules}
 use Rattle.robots_warnings.specs.Conflicts.{IsConflict}
 use Rattle.robots_warnings.proofs.RuleLemmas.{for_agent}
 use Rattle.robots_warnings.proofs.conflicts.rule_lines.Goals as goal
@@ -23,7 +23,7 @@ loop-agent-preserved c =
         | inl old ↦ was.conflicts number other old
         | inr opposed ↦
             for_agent (λ agent. IsConflict is_empty agent lines number other) agents at _ below
-            (record { rules = placed_rules _ lines; are = computed_are _ lines; opposed = opposed })
+            (record { rules = placed_rules _ lines; are = placed_are_rules _ lines; opposed = opposed })
       ];
       overruling = λ number. grind (arith, common_steps, drop_more, was.overruling number, more number);
     }

@@ -3,9 +3,9 @@ use Rattle.std.{specs.Option.option_or, proofs.lemmas.List.append-nil}
 use Rattle.texting_robots.specs.Executable.{delay_before_agents, file_lines, placed_in, rule_in}
 use Rattle.texting_robots.specs.{Group.group_name, Line.delay_in, Pattern.IsOverlong}
 use Rattle.texting_robots.{specs.Rules.PlacedRule, specs.Rules.Rule, proofs.CapturedLemmas.captured_walked}
-use Rattle.texting_robots.proofs.RulesLemmas.{all_added, first_more, given_more, given_none, none_unplaced}
-use Rattle.texting_robots.proofs.RulesLemmas.{first_overlong, option_or_none, rejected_wider}
-use Rattle.texting_robots.proofs.MainTheoremLemmas.{if_err, rejected_of}
+use Rattle.texting_robots.proofs.RulesLemmas.{all_added, first_or_cons, append_option, none_if_empty}
+use Rattle.texting_robots.proofs.RulesLemmas.{none_unplaced, first_overlong, option_or_none, rejected_wider}
+use Rattle.texting_robots.proofs.MainTheoremLemmas.{if_err, overlong_rejected}
 use Rattle.texting_robots.proofs.builder.read_file.Goals as goal
 
 pub loop-position-preserved : goal.loop-position-preserved
@@ -17,9 +17,9 @@ loop-position-preserved c =
     let so_far = c.loop-position.invariant in
     rw (added.tracker, further) (record {
       known = added.known;
-      rules = given_more _ _ _ _ added.rules ∙ rw next at so_far.rules;
-      sitemaps = given_more _ _ _ _ added.sitemaps ∙ rw next at so_far.sitemaps;
-      delay = first_more _ _ _ _ added.delay ∙ rw next at so_far.delay;
+      rules = append_option _ _ _ _ added.rules ∙ rw next at so_far.rules;
+      sitemaps = append_option _ _ _ _ added.sitemaps ∙ rw next at so_far.sitemaps;
+      delay = first_or_cons _ _ _ _ added.delay ∙ rw next at so_far.delay;
       accepted = all_added (λ (placed : PlacedRule). ¬ IsOverlong placed.rule.0) _ _ _
           added.rules added.accepted so_far.accepted;
     })
@@ -54,14 +54,14 @@ returns-in_err-take-clause-rejected c =
     let (next, here, _, _) = c.in-Some.ensures.steps in
     let so_far = c.loop-position.invariant in
     if_err c.from_residual.result c.in_err-take.field-0.0 _ c.from_residual.ensures.1
-    (rejected_wider _ _ _ (λ is. rejected_of c.args.agent.now c.args.txt.now _ (first_overlong _
+    (rejected_wider _ _ _ (λ is. overlong_rejected c.args.agent.now c.args.txt.now _ (first_overlong _
     c.loop-position.reading.tracker.captured (rule_in c.in-Some.line) _ _ _ (rw next at so_far.rules)
     so_far.accepted is)) (rw here at c.in_err-take.ensures.rejected))
 
 -- a line that fails gives a rule or a sitemap, so no line fails if the file gives neither
 pub returns-in_err-take-clause-without_memory : goal.returns-in_err-take-clause-without_memory
 returns-in_err-take-clause-without_memory c =
-    grind (arith, given_none, c.in-Some.ensures.steps, c.loop-position.invariant)
+    grind (arith, none_if_empty, c.in-Some.ensures.steps, c.loop-position.invariant)
 
 pub returns-clause-robot : goal.returns-clause-robot
 returns-clause-robot c =

@@ -1,4 +1,4 @@
-use Rattle.texting_robots.proofs.MainTheoremLemmas.{answered, of_lines, unanswered}
+use Rattle.texting_robots.proofs.MainTheoremLemmas.{robot_answers, lines_satisfy, unanswered}
 use Rattle.texting_robots.proofs.in_file.allowed_in_file.Goals as goal
 
 pub returns-in_err-robot-clause-answer : goal.returns-in_err-robot-clause-answer
@@ -8,5 +8,6 @@ returns-in_err-robot-clause-answer c = λ lines rules file are.
 
 pub returns-clause-answer : goal.returns-clause-answer
 returns-clause-answer c = λ lines rules file are.
-    answered c.args.agent.now lines rules _ _ _ _ (of_lines _ _ c.in_ok-robot.ensures.robot lines file) are
-    c.allowed_view.ensures.verdict c.allowed_view.ensures.looks
+    robot_answers c.args.agent.now lines rules _ _ _ _
+    (lines_satisfy _ _ c.in_ok-robot.ensures.robot lines file) are c.allowed_view.ensures.verdict
+    c.allowed_view.ensures.looks

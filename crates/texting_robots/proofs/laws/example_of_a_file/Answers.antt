@@ -6,7 +6,7 @@ use Rattle.texting_robots.{specs.Pattern.collapsed, proofs.LineLemmas.lines_are}
 use Rattle.texting_robots.specs.Internal.{Cut.cut, Delay.delay_of, Line.line_of, Statement.statement_of}
 use Rattle.texting_robots.proofs.ExampleLemmas.{answers, any_overlong_decides}
 use Rattle.texting_robots.proofs.ExecutableLemmas.{delay_is_computed, sitemaps_are_computed}
-use Rattle.texting_robots.proofs.MainTheoremLemmas.{computed_are, rejection_is_computed}
+use Rattle.texting_robots.proofs.MainTheoremLemmas.{placed_are_rules, rejection_is_computed}
 use lib.Utf8.{encode}
 use Rattle.texting_robots.proofs.laws.example_of_a_file.Goals as goal
 
@@ -18,7 +18,7 @@ returns c = record {
   robot = record {
     delay = (delay_is_computed (codes "FerrisCrawler") ferris_lines (Some 10000000)).1 refl;
     sitemaps = (sitemaps_are_computed ferris_lines ferris_robot.sitemaps).1 refl;
-    rules = computed_are _ _;
+    rules = placed_are_rules _ _;
     accepted = grind (arith, any_overlong_decides, not_from_Decides, rejection_is_computed);
   };
   answers = (answers _ _, answers _ _, answers _ _);

@@ -1,7 +1,7 @@
 use Rattle.std.proofs.Common.{◌++◌, ap, arith, drop, length-drop, sym, take, ◌∙◌}
 use Rattle.std.proofs.lemmas.List.{take-append-drop}
 use Rattle.texting_robots.specs.Internal.Cut.{body_len, end_len, read_as}
-use Rattle.texting_robots.proofs.{AgentLemmas.advances, CutFromFront.next_body}
+use Rattle.texting_robots.proofs.{AgentLemmas.line_advances, CutFromFront.next_body}
 use Rattle.texting_robots.proofs.parser.split_line.Goals as goal
 
 pub returns : goal.returns
@@ -17,5 +17,5 @@ returns c = record {
         sym (take-append-drop k text)
             ∙ ap (λ rest. take k text ++ rest) (sym (take-append-drop end after)),
       );
-  shorter = grind (arith, advances, length-drop);
+  shorter = grind (arith, line_advances, length-drop);
 }

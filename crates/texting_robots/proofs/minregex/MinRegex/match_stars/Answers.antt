@@ -1,6 +1,6 @@
 use Rattle.std.proofs.Common.{None, Some, arith}
 use Rattle.std.proofs.lemmas.{Bool.Decides.Decides-eqb, List.Prefix.front_rest, Slice.Eq.strip_prefix_is}
-use Rattle.texting_robots.proofs.SegmentLemmas.{end_matches}
+use Rattle.texting_robots.proofs.SegmentLemmas.{nil_matches}
 use Rattle.texting_robots.proofs.SearchLemmas.{stars_here, stars_in_front, stars_nowhere}
 use Rattle.texting_robots.proofs.minregex.MinRegex.match_stars.Goals as goal
 
@@ -27,4 +27,4 @@ pub returns-in_default-after_first : goal.returns-in_default-after_first
 returns-in_default-after_first c = grind (arith, stars_nowhere, c.loop-left.invariant.0)
 
 pub returns : goal.returns
-returns c = grind (arith, end_matches, c.loop-left.invariant.1)
+returns c = grind (arith, nil_matches, c.loop-left.invariant.1)

@@ -1,6 +1,6 @@
 use Rattle.std.proofs.Common.{◌∙◌, length-drop, arith}
 use Rattle.texting_robots.specs.Internal.Cut.{body_len}
-use Rattle.texting_robots.proofs.AgentLemmas.{advances, later_lines, passed_over}
+use Rattle.texting_robots.proofs.AgentLemmas.{line_advances, later_lines, passed_over}
 use Rattle.texting_robots.proofs.parser.agents.after_others.Goals as goal
 
 pub loop-rest-preserved : goal.loop-rest-preserved
@@ -17,7 +17,7 @@ loop-rest-preserved c =
 
 pub returns : goal.returns
 returns c = record {
-  shorter = grind (arith, advances, length-drop, c.loop-rest.invariant, c.loop-rest.rest.now);
+  shorter = grind (arith, line_advances, length-drop, c.loop-rest.invariant, c.loop-rest.rest.now);
   named = λ name.
       let i = c.loop-rest.invariant in
       let rest = c.loop-rest.rest.now in

@@ -1,6 +1,6 @@
 use Rattle.std.proofs.Common.{◌+◌, ◌*◌, ◌<◌, ◌≡◌, add-one, arith, length, mul-suc, refl}
 use Rattle.std.proofs.{Math.Nat.mul-le-mul_left, lemmas.Bool.iff_false}
-use Rattle.texting_robots.proofs.FirstLemmas.{cost_counts, cost_more, cost_within, none_apart}
+use Rattle.texting_robots.proofs.FirstLemmas.{cost_counts, cost_more, cost_within, none_matches}
 use Rattle.texting_robots.proofs.FirstLemmas.{tried_more, tried_to}
 use Rattle.texting_robots.proofs.rules.RuleTable.first_match.Goals as goal
 
@@ -16,7 +16,7 @@ rules-preserved g c =
       within = omega arith;
       end = omega arith;
       tried = rw next.same (tried_to all _ _ _ c.loop-at.at _
-          (none_apart all _ _ _ c.requires.known c.requires.masked (rw i.tried.text at next.apart))
+          (none_matches all _ _ _ c.requires.known c.requires.masked (rw i.tried.text at next.apart))
           refl (omega arith) (omega (arith, counts)) i.tried);
       cost = rw next.same (omega (arith, i.cost, more));
     }

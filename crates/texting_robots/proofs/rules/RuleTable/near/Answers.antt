@@ -1,7 +1,7 @@
 use Rattle.std.proofs.Common.{◌+◌, ◌≡◌, arith, inl, inr, subst}
 use Rattle.std.proofs.lemmas.{Bool.iff_false, Bool.cases_lt, List.get_or_read}
 use Rattle.texting_robots.specs.Internal.Segments.{AreWithin, MatchesAt, no_entry, pair_set}
-use Rattle.texting_robots.proofs.FirstLemmas.{mask_within, none_apart}
+use Rattle.texting_robots.proofs.FirstLemmas.{mask_within, none_matches}
 use Rattle.texting_robots.proofs.rules.RuleTable.near.Goals.{in-None, in-Some-get}
 use Rattle.texting_robots.proofs.rules.RuleTable.near.Goals as goal
 
@@ -11,7 +11,7 @@ returns-clause-apart c = λ text known k above below matches.
     let at = c.args.at in
     let bits = rw c.in-Some.is at known in
     elim (cases_lt at k) [
-      | inl later ↦ none_apart all text (at + 1) c.first_near.result c.requires.known c.requires.masked
+      | inl later ↦ none_matches all text (at + 1) c.first_near.result c.requires.known c.requires.masked
           (grind arith) k (omega arith) below matches
       | inr early ↦
           let same : k ≡ at = omega arith in

@@ -1,5 +1,6 @@
 use Rattle.std.proofs.{Common.arith, Common.rules, Common.inr, lemmas.Bool.iff_false, lemmas.List.length-map}
-use Rattle.texting_robots.proofs.{FirstLemmas.first_looks, FirstLemmas.none_occurs, BestLemmas.none_denies}
+use Rattle.texting_robots.proofs.{FirstLemmas.first_looks, FirstLemmas.none_occurs}
+use Rattle.texting_robots.proofs.{BestLemmas.allowed_if_none}
 use Rattle.texting_robots.proofs.rules.Rules.decide_by.Goals as goal
 
 pub returns-in-Some : goal.returns-in-Some
@@ -15,7 +16,7 @@ pub returns-in-None : goal.returns-in-None
 returns-in-None g c =
     let none = none_occurs c.self.inside.table c.self.invariant.0.known _ c.in-None.ensures.none in
     record {
-      verdict = rw (← c.self.view_is) (none_denies _ _ none);
+      verdict = rw (← c.self.view_is) (allowed_if_none _ _ none);
       line = rw (← c.self.view_is) (inr none);
       looks = rw (← c.self.view_is) (record {
         all = rw length-map c.in-None.ensures.looks;

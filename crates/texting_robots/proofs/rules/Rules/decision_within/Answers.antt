@@ -1,5 +1,5 @@
 use Rattle.std.proofs.{Common.arith, Common.inl, Common.inr, lemmas.List.length-map}
-use Rattle.texting_robots.proofs.{BestLemmas.none_denies, FirstLemmas.first_line, FirstLemmas.none_occurs}
+use Rattle.texting_robots.proofs.{BestLemmas.allowed_if_none, FirstLemmas.first_line, FirstLemmas.none_occurs}
 use Rattle.texting_robots.proofs.rules.Rules.decision_within.Goals as goal
 
 pub returns-then-is_robots_file-clause-visits : goal.returns-then-is_robots_file-clause-visits
@@ -16,7 +16,7 @@ pub returns-in-None-clause-decision : goal.returns-in-None-clause-decision
 returns-in-None-clause-decision c =
     let none = none_occurs c.self.inside.table c.self.invariant.0.known c.args.view.now.text
     (rw c.in-None.is at c.in_ok-at.ensures.none) in
-    rw (← c.self.view_is) (record { verdict = none_denies _ _ none; deciding = inr none })
+    rw (← c.self.view_is) (record { verdict = allowed_if_none _ _ none; deciding = inr none })
 
 pub returns-in-None-clause-visits : goal.returns-in-None-clause-visits
 returns-in-None-clause-visits c = grind (arith, length-map)

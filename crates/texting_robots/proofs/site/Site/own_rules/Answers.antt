@@ -1,6 +1,6 @@
 use Rattle.std.proofs.{Common.Some, Common.append_assoc, Common.◌∙◌, lemmas.List.Elements.All-push}
 use Rattle.texting_robots.specs.{Pattern.IsOverlong, Rules.PlacedRule}
-use Rattle.texting_robots.proofs.{RulesLemmas.given_none, SiteOwnLemmas.rejected_at}
+use Rattle.texting_robots.proofs.{RulesLemmas.none_if_empty, SiteOwnLemmas.rejected_at}
 use Rattle.texting_robots.proofs.site.Site.own_rules.Goals as goal
 
 pub loop-rule-preserved : goal.loop-rule-preserved
@@ -25,4 +25,4 @@ returns-in-Err-clause-rejected c =
 pub returns-in-Err-clause-without_memory : goal.returns-in-Err-clause-without_memory
 returns-in-Err-clause-without_memory c = λ none.
     let next = c.in-Some.ensures.steps in
-    let wrong = given_none (Some c.in-Some.rule) _ _ (rw next at c.loop-rule.invariant.rules ∙ none) in cc
+    let wrong = none_if_empty (Some c.in-Some.rule) _ _ (rw next at c.loop-rule.invariant.rules ∙ none) in cc

@@ -2,7 +2,7 @@ use Rattle.std.proofs.Common.{List, IsPermutation, refl, rules, subst}
 use Rattle.std.proofs.lemmas.Bool.{false≢true}
 use Rattle.texting_robots.specs.Executable.{file_lines, sitemaps_in}
 use Rattle.texting_robots.specs.{Pattern.IsOverlong, Rules.PlacedRule, Rules.Rule}
-use Rattle.texting_robots.proofs.MainTheoremLemmas.{no_rules_of, read_delay, robot_of}
+use Rattle.texting_robots.proofs.MainTheoremLemmas.{no_rules_of, read_delay, computed_robot}
 use Rattle.texting_robots.proofs.RulesLemmas.{none_unplaced}
 use Rattle.texting_robots.proofs.site.Site.robot_without_sitemaps.Goals as goal
 
@@ -11,7 +11,7 @@ returns-clause-robot c =
     let none = none_unplaced (λ (rule : Rule). IsOverlong rule.0) _ c.in_ok-rules.ensures.accepted in (
       search rules,
       sitemaps_in (file_lines c.args.self.now),
-      robot_of c.args.agent.now c.args.self.now _ (record {
+      computed_robot c.args.agent.now c.args.self.now _ (record {
         delay = read_delay _ _ _ c.delay.ensures;
         sitemaps = refl;
         rules = subst (λ (all : List PlacedRule). IsPermutation all c.sorted.result)

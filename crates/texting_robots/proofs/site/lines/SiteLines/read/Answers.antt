@@ -7,8 +7,8 @@ use Rattle.texting_robots.specs.{Executable.file_lines, Group.is_agent, Line.Lin
 use Rattle.texting_robots.specs.Internal.{Cut.empty_lines, Cut.read_as, Line.line_of, Line.lines_of}
 use Rattle.texting_robots.specs.Internal.Site.{count_after, early_after, joins_after, line_at, group_after}
 use Rattle.texting_robots.proofs.EmptyLemmas.{agents_past, delay_past, named_past, sitemaps_past, tagged_past}
-use Rattle.texting_robots.proofs.{CutFromFront.bodies_nil, LineLemmas.front_read}
-use Rattle.texting_robots.proofs.RulesLemmas.{before_agents, given_more}
+use Rattle.texting_robots.proofs.{CutFromFront.bodies_nil, LineLemmas.without_bom_map}
+use Rattle.texting_robots.proofs.RulesLemmas.{before_agents, append_option}
 use Rattle.texting_robots.proofs.SiteLemmas.{agents_more, early_more}
 use Rattle.texting_robots.proofs.site.lines.SiteLines.read.Goals as goal
 
@@ -19,7 +19,7 @@ loop-rest-init c =
     let lines = file_lines text in
     let first = c.without_bom-rest.ensures in
     let left : lines_of (read_as true c.without_bom-rest.result.now) ≡ lines =
-    ap (λ t. lines_of (read_as true t)) first.value ∙ ap lines_of (front_read text) in
+    ap (λ t. lines_of (read_as true t)) first.value ∙ ap lines_of (without_bom_map text) in
     let last = λ (front : List LineValue). cond (list_any is_agent lines)
     (last_or None (filter_map delay_in front)) None in
     let (front, end) = first.end in
@@ -91,11 +91,11 @@ loop-rest-preserved c =
         length-drop k after,
       );
       lines_are = rw (← tagged_past true number after group joins)
-          (given_more _ _ _ _ added.lines ∙ rw next at so_far.lines_are);
+          (append_option _ _ _ _ added.lines ∙ rw next at so_far.lines_are);
       names_are = rw (← named_past true number after group joins count)
-          (given_more _ _ _ _ added.names ∙ rw next at so_far.names_are);
+          (append_option _ _ _ _ added.names ∙ rw next at so_far.names_are);
       sitemaps_are = rw (← sitemaps_past true number after)
-          (given_more _ _ _ _ added.sitemaps ∙ rw next at so_far.sitemaps_are);
+          (append_option _ _ _ _ added.sitemaps ∙ rw next at so_far.sitemaps_are);
       agents = rw (← agents_past true number after)
           (agents_more begun (line_of body) (lines_of (read_as true after)) ∙ rw next at so_far.agents);
       early = rw (← delay_past true number after (early_after begun early (line_of body)))
