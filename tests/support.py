@@ -95,7 +95,7 @@ PHRASES = {
     "long": "a pattern with $ longer than 4,096 bytes isn't supported; shorten it",
     "token": "a crawler's name is a product token without a version, such as Googlebot",
     "url": "this is neither a path that starts with / nor a valid http:// or https:// URL",
-    "word": "this is neither a path that starts with / nor a URL; for a crawler, write --agent NAME, for a file of URLs --urls FILE, for a level --strict=LEVEL",
+    "word": "this is neither a path that starts with / nor a URL; for a crawler, write --agent NAME, for a file of URLs --urls-from FILE, for a level --strict=LEVEL",
     "segment": "URL has a . or .. segment or a #, which crawlers resolve or drop; write the path that they ask for",
     "space": "white space in a URL; write it as %20, and another URL or a comment on a line of its own",
     "usage": "usage: robots_audit [OPTIONS] FILE [URL]..",
@@ -147,12 +147,12 @@ for row in ALL_WARNINGS:
 
 FORMATS = re.findall(r'"(\w+)"', re.search(r"const NAMES: [^=]*= &\[(.*?)\];", (CRATES / "audit_core/src/request.rt").read_text(), re.S)[1])
 OF_A_URL = {"url-not-normal"}
-OF_A_CRAWLER = {"vendor-group", "ignores-star"}
+OF_A_CRAWLER = {"vendor-group", "ignored-star"}
 OF_GROUP = {"vendor-group"}
 FIELDS = ("User-agent", "Allow", "Disallow", "Sitemap", "Crawl-delay")
-OF_RULES = {"replaces-star"}
-OF_SIZE = {"two-delays", "repeated-rule"}
-OF_CLOSED = {"closes-everything", "closes-home-page"}
+OF_RULES = {"group-without-star-rules"}
+OF_SIZE = {"repeated-delay", "repeated-rule"}
+OF_CLOSED = {"closed-site", "closed-home-page"}
 OF_A_LINE = {"allowed-and-disallowed", "empty-disallow", "sitemap-denied", "repeated-sitemap"}
 NEEDLESS = ["never", "nothing", "allowed", "covered"]  # in the order of the messages of `needless-rule`
 WORDS = {"space", "comma", "tag", "invisible", "=", "??", "nothing"}  # each in one message of a name, or in an earlier one than in others

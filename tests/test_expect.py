@@ -83,7 +83,7 @@ def test_an_empty_file(tmp_path):
     assert outcome(check(tmp_path, b"allow GPTBot /tea", file="robots.txt")) == (0, "1 expectation holds\n", "")
 
 
-@pytest.mark.parametrize("more", ["/a", "--agent=Ferris", "--urls=list.txt", "--denied", "-q", "--html", "--date=x", "--color=auto", "--strict", "--needless", "--only=missing-slash", "--ignore=missing-slash"])
+@pytest.mark.parametrize("more", ["/a", "--agent=Ferris", "--urls-from=list.txt", "--denied", "-q", "--html", "--date=x", "--color=auto", "--strict", "--needless", "--only=missing-slash", "--ignore=missing-slash"])
 def test_other_arguments_conflict(tmp_path, more):
     result = check(tmp_path, b"allow Googlebot /", more)
     assert (result.status, result.out) == (2, "") and "cannot be used with" in result.err

@@ -57,7 +57,7 @@ pub record IsListed (format : Format) (is_rejected has_passed : Bool) (answer : 
   pub unwarned : answer.outcome.is_warned ≡ false
   pub silent : string_bytes answer.outcome.warnings ≡ []
 
--- with `--verdicts`, all is well if for no crawler a verdict changes
+-- with `--only-verdicts`, all is well if for no crawler a verdict changes
 abbrev pub has_passed : (verdicts_only : Bool) → ComparisonValue → Bool
 has_passed verdicts_only comparison =
     if verdicts_only then keeps_verdicts comparison else differs_nowhere comparison

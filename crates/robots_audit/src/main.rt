@@ -100,13 +100,13 @@ fn read_robots(rt: &HostRuntime, name: &str) -> Result<Vec<u8>, Error> {
 }
 
 fn url_text(rt: &HostRuntime, matches: &ArgMatches<'_>) -> Result<Vec<u8>, Error> {
-    match matches.get_str("urls") {
+    match matches.get_str("urls-from") {
         Some(name) => read(rt, Some(name)),
         None => Ok(Vec::new(rt.alloc())),
     }
 }
 
-/// The request with the URLs in this text, if that is of a file of `--urls`, which has this name.
+/// The request with the URLs in this text, if that is of a file of `--urls-from`, which has this name.
 fn extended<'a>(
     alloc: Global,
     request: Request<'a>,
@@ -126,7 +126,7 @@ fn audit(rt: &HostRuntime, matches: &ArgMatches<'_>, has_colors: bool) -> Result
 {
     let request = requested(rt.alloc(), matches, has_colors)?;
     let text = url_text(rt, matches)?;
-    let whole = extended(rt.alloc(), request, matches.get_str("urls"), &text)?;
+    let whole = extended(rt.alloc(), request, matches.get_str("urls-from"), &text)?;
     audited(rt.alloc(), &whole, &read(rt, whole.file)?)
 }
 
@@ -148,7 +148,7 @@ fn compared(rt: &HostRuntime, matches: &ArgMatches<'_>, older: &str) -> Result<A
 {
     let request = requested(rt.alloc(), matches, false)?;
     let text = url_text(rt, matches)?;
-    let whole = extended(rt.alloc(), request, matches.get_str("urls"), &text)?;
+    let whole = extended(rt.alloc(), request, matches.get_str("urls-from"), &text)?;
     let name = whole.file.unwrap_or("-");
     let old = read_robots(rt, older)?;
     let new = read_robots(rt, name)?;
@@ -162,7 +162,7 @@ fn compared(rt: &HostRuntime, matches: &ArgMatches<'_>, older: &str) -> Result<A
         &whole,
         old_file,
         new_file,
-        matches.get_flag("verdicts"),
+        matches.get_flag("only-verdicts"),
     )
 }
 

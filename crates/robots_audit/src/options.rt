@@ -37,7 +37,7 @@ struct Parameter {
     excludes: &'static [&'static [&'static str]],
 }
 
-const OF_QUERIES: &[&str] = &["url", "agent", "known", "urls"];
+const OF_QUERIES: &[&str] = &["url", "agent", "known-crawlers", "urls-from"];
 
 /// The options of an audit that are about warnings and the form of the report.
 const OF_AUDITS: &[&str] = &[
@@ -66,9 +66,9 @@ const PARAMETERS: &[Parameter] = &[
         excludes: &[],
     },
     Parameter {
-        id: "urls",
+        id: "urls-from",
         short: None,
-        long: Some("urls"),
+        long: Some("urls-from"),
         value: Value::Text("FILE"),
         help: "Check or compare the URLs in this file too, one per line (-: standard input)",
         excludes: &[],
@@ -91,9 +91,9 @@ const PARAMETERS: &[Parameter] = &[
         excludes: &[],
     },
     Parameter {
-        id: "known",
+        id: "known-crawlers",
         short: None,
-        long: Some("known"),
+        long: Some("known-crawlers"),
         value: Value::Absent,
         help: "Report on * and all crawlers that this program knows, such as Googlebot and GPTBot",
         excludes: &[&["agent"]],
@@ -193,7 +193,7 @@ const PARAMETERS: &[Parameter] = &[
         short: None,
         long: Some("ignore"),
         value: Value::Repeated("NAME"),
-        help: "Leave out warnings with this name, not one of --only; may be repeated",
+        help: "Leave out all warnings with this name, also errors; none that --only has; may be repeated",
         excludes: &[],
     },
     Parameter {
@@ -214,9 +214,9 @@ const PARAMETERS: &[Parameter] = &[
         excludes: &[&["expect"], OF_AUDITS],
     },
     Parameter {
-        id: "verdicts",
+        id: "only-verdicts",
         short: None,
-        long: Some("verdicts"),
+        long: Some("only-verdicts"),
         value: Value::AbsentWith("compare"),
         help: "With --compare: exit with status 1 only if the verdict of a URL may change",
         excludes: &[],

@@ -2,8 +2,9 @@
 use Rattle.std.specs.Prelude.{[], ◌≡◌, ℕ, Bool, IsTrue, Any, List, ◌∷◌, Some, None, Option}
 use Rattle.std.specs.Prelude.{MatchOption, ⊤, false, if◌then◌else◌, true}
 use Rattle.texting_robots.specs.Callers.{LineValue}
-use Rattle.robots_warnings.specs.declared.table.Cause.{Cause, TheVariants.ClosesEverything}
-use Rattle.robots_warnings.specs.declared.table.Cause.TheVariants.{ClosesSite, EmptyDisallow, UrlNotNormal}
+use Rattle.robots_warnings.specs.declared.table.Cause.{Cause, TheVariants.ClosedSite}
+use Rattle.robots_warnings.specs.declared.table.Cause.TheVariants.{ClosedSiteToOthers, EmptyDisallow}
+use Rattle.robots_warnings.specs.declared.table.Cause.TheVariants.{UrlNotNormal}
 use Rattle.robots_warnings.specs.{Closed.line_closing_site, Conflicts.overrules_for_one}
 use Rattle.robots_warnings.specs.{Message.WarningValue}
 use Rattle.robots_warnings.specs.{Targets.has_odd_target}
@@ -24,8 +25,8 @@ HasEach is_reason IsIn found = (number : ℕ) → IsIn number → Any (IsAbout i
 
 -- that a line closes a site
 abbrev pub is_closing_cause : Cause → Bool
-is_closing_cause ClosesSite = true
-is_closing_cause ClosesEverything = true
+is_closing_cause ClosedSite = true
+is_closing_cause ClosedSiteToOthers = true
 is_closing_cause other = false
 
 -- if there is a line, there is such a warning about it
