@@ -8,7 +8,7 @@ use crate::compared::{Compared, UrlChange, are_none};
 use crate::every_url::{Example, Verdicts, is_same};
 use crate::vendor::is_same_at_vendor;
 use audit_core::audit::AgentAudit;
-use audit_core::findings::{Findings, add, message};
+use audit_core::findings::{Findings, Subject, add, message};
 use audit_core::group::{AtVendor, Group};
 use audit_core::reach::Reach;
 use audit_core::texts::{DelayOrNone, Fetched, Rejected};
@@ -63,7 +63,8 @@ fn add_groups(
     }
     let (old, new) = (group_name(agent, older), group_name(agent, newer));
     let message = message(alloc, format_args!("crawler {agent}: group {old} -> {new}"));
-    add(alloc, found, Level::Note, None, "group", message)
+    let subject = Subject::crawler(agent, None);
+    add(alloc, found, Level::Note, subject, "group", message)
 }
 
 fn add_delays(
@@ -78,7 +79,8 @@ fn add_delays(
     }
     let (old, new) = (DelayOrNone(older), DelayOrNone(newer));
     let message = message(alloc, format_args!("crawler {agent}: delay {old} -> {new}"));
-    add(alloc, found, Level::Note, None, "delay", message)
+    let subject = Subject::crawler(agent, None);
+    add(alloc, found, Level::Note, subject, "delay", message)
 }
 
 fn add_rules(
@@ -96,12 +98,12 @@ fn add_rules(
     for rule in rules {
         let kind = if rule.is_allow { "Allow" } else { "Disallow" };
         let (pattern, number) = (rule.pattern.as_str(), rule.line);
-        let line = if is_added { Some(number) } else { None };
+        let subject = Subject::crawler(agent, if is_added { Some(number) } else { None });
         let message = message(
             alloc,
             format_args!("crawler {agent}: {sign} {kind}: {pattern} (line {number})"),
         );
-        add(alloc, found, Level::Note, line, name, message)?;
+        add(alloc, found, Level::Note, subject, name, message)?;
     }
     Ok(())
 }
@@ -180,7 +182,11 @@ fn add_url(
         alloc,
         format_args!("crawler {agent} {url}: {old} -> {new}{effect}{vendors}"),
     );
-    add(alloc, found, level, newer.line, name, message)
+    let subject = Subject {
+        url: Some(url.as_bytes()),
+        ..Subject::crawler(agent, newer.line)
+    };
+    add(alloc, found, level, subject, name, message)
 }
 
 pub(crate) fn is_rejected(compared: &Compared<'_>) -> bool
@@ -269,19 +275,25 @@ impl<'a> fmt::Display for Change<'a> {
 fn add_change(
     alloc: Global,
     found: &mut Findings,
+    agent: &str,
     newer: Reach,
     verdicts: &Verdicts,
     message: Result<Line, fmt::Error>,
 ) -> fmt::Result {
-    let (level, line, name) = match verdicts {
+    let subject = Subject::crawler(agent, None);
+    let (level, subject, name) = match verdicts {
         Verdicts::Other(example) => {
-            let level = change_level(newer, example);
-            (level, example.newer.line, "verdicts")
+            let subject = Subject {
+                line: example.newer.line,
+                url: Some(example.path.as_bytes()),
+                ..subject
+            };
+            (change_level(newer, example), subject, "verdicts")
         }
-        Verdicts::Same => (Level::Note, None, "same-verdicts"),
-        Verdicts::Undecided => (Level::Note, None, "undecided-verdicts"),
+        Verdicts::Same => (Level::Note, subject, "same-verdicts"),
+        Verdicts::Undecided => (Level::Note, subject, "undecided-verdicts"),
     };
-    add(alloc, found, level, line, name, message)
+    add(alloc, found, level, subject, name, message)
 }
 
 /// Of the group that the vendor applies to the crawler: this one, if it is another than here.
@@ -309,7 +321,7 @@ fn add_at_vendor(alloc: Global, found: &mut Findings, compared: &Compared<'_>) -
         alloc,
         format_args!("crawler {agent}, whose vendor applies the group {old} -> {new}: {change}"),
     );
-    add_change(alloc, found, Reach::Part, &vendor.verdicts, message)
+    add_change(alloc, found, agent, Reach::Part, &vendor.verdicts, message)
 }
 
 /// Adds what becomes of the verdicts of all URLs, if something differs for the crawler.
@@ -330,7 +342,14 @@ fn add_verdicts(alloc: Global, found: &mut Findings, compared: &Compared<'_>) ->
     };
     let vendors = vendors_of(compared);
     let message = message(alloc, format_args!("crawler {agent}: {change}{vendors}"));
-    add_change(alloc, found, newer.reach, &compared.verdicts, message)?;
+    add_change(
+        alloc,
+        found,
+        agent,
+        newer.reach,
+        &compared.verdicts,
+        message,
+    )?;
     add_at_vendor(alloc, found, compared)
 }
 
@@ -351,7 +370,8 @@ fn add_rejection(
     };
     let reason = Rejected { agent, line };
     let message = message(alloc, format_args!("the {version} file is {reason}"));
-    add(alloc, found, Level::Error, place, name, message)
+    let subject = Subject::crawler(agent, place);
+    add(alloc, found, Level::Error, subject, name, message)
 }
 
 /// Adds what a section says of a crawler.

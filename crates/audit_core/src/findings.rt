@@ -8,7 +8,7 @@ use robots_warnings::warning::Warning;
 use safe_output::level::Level;
 use safe_output::report::Line;
 use safe_output::sanitize::push_sanitized;
-use std::alloc::Global;
+use std::alloc::{AllocError, Global};
 use std::fmt;
 use std::fmt::Write;
 
@@ -19,9 +19,48 @@ pub struct Finding {
     pub line: Option<usize>,
     pub name: &'static str,
     pub message: String,
+    pub agent: Option<String>,
+    pub url: Option<String>,
 }
 
 pub type Findings = Vec<Finding>;
+
+/// What a finding is about.
+#[derive(Clone, Copy)]
+pub struct Subject<'a> {
+    pub line: Option<usize>,
+    pub agent: Option<&'a str>,
+    /// Any text, if it is that of a sitemap.
+    pub url: Option<&'a [u8]>,
+}
+
+impl<'a> Subject<'a> {
+    pub fn line(line: Option<usize>) -> Self {
+        Subject {
+            line,
+            agent: None,
+            url: None,
+        }
+    }
+
+    pub fn crawler(agent: &'a str, line: Option<usize>) -> Self {
+        Subject {
+            agent: Some(agent),
+            ..Subject::line(line)
+        }
+    }
+
+    fn of(warning: &Warning<'a>) -> Self {
+        let line = warning.line;
+        match warning.about {
+            Some(agent) if warning.kind() == "crawler" => Subject::crawler(agent, line),
+            about => Subject {
+                url: about.map(|url| url.as_bytes()),
+                ..Subject::line(line)
+            },
+        }
+    }
+}
 
 /// A finding's message, for `add`.
 pub fn message<M: fmt::Display + Drop>(alloc: Global, text: M) -> Result<Line, fmt::Error> {
@@ -30,25 +69,38 @@ pub fn message<M: fmt::Display + Drop>(alloc: Global, text: M) -> Result<Line, f
     Ok(message)
 }
 
+fn sanitized(alloc: Global, bytes: &[u8]) -> Result<String, AllocError> {
+    let mut text = String::new(alloc);
+    push_sanitized(&mut text, bytes)?;
+    Ok(text)
+}
+
+fn sanitized_if_given(alloc: Global, bytes: Option<&[u8]>) -> Result<Option<String>, AllocError> {
+    match bytes {
+        Some(bytes) => Ok(Some(sanitized(alloc, bytes)?)),
+        None => Ok(None),
+    }
+}
+
 /// In the message, the start of a command of a workflow is escaped, too. Its error is returned.
 pub fn add(
     alloc: Global,
     found: &mut Findings,
     level: Level,
-    line: Option<usize>,
+    subject: Subject<'_>,
     name: &'static str,
     message: Result<Line, fmt::Error>,
 ) -> fmt::Result
     ensures { OnOk result (0 < length found.new.items) }
 {
-    let text = message?;
-    let mut message = String::new(alloc);
-    push_sanitized(&mut message, text.as_str().as_bytes())?;
+    let agent = subject.agent.map(|agent| agent.as_bytes());
     let finding = Finding {
         level,
-        line,
+        line: subject.line,
         name,
-        message,
+        message: sanitized(alloc, message?.as_str().as_bytes())?,
+        agent: sanitized_if_given(alloc, agent)?,
+        url: sanitized_if_given(alloc, subject.url)?,
     };
     match found.push(finding) {
         Ok(()) => Ok(()),
@@ -65,16 +117,20 @@ fn add_agent(alloc: Global, found: &mut Findings, agent: &AgentAudit<'_>) -> fmt
             alloc,
             found,
             Level::Error,
-            agent.rejected,
+            Subject::crawler(name, agent.rejected),
             "rejected",
             message,
         )?;
     }
     for verdict in &agent.verdicts {
-        let (line, url) = (verdict.decision.line, verdict.url);
+        let url = verdict.url;
+        let subject = Subject {
+            url: Some(url.as_bytes()),
+            ..Subject::crawler(name, verdict.decision.line)
+        };
         if !verdict.decision.allowed {
             let message = message(alloc, format_args!("{name} may not fetch {url}{vendor}"));
-            add(alloc, found, Level::Error, line, "denied", message)?;
+            add(alloc, found, Level::Error, subject, "denied", message)?;
         }
     }
     Ok(())
@@ -88,7 +144,7 @@ fn add_warning(
 ) -> fmt::Result {
     let (level, name) = (warning.cause.level(), warning.cause.name());
     let message = message(alloc, Message(warning, together));
-    add(alloc, found, level, warning.line, name, message)
+    add(alloc, found, level, Subject::of(warning), name, message)
 }
 
 /// The errors among the warnings, or the other warnings.

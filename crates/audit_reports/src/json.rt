@@ -6,7 +6,7 @@ use crate::object::Object;
 use audit_core::audit::{AgentAudit, Audit, Verdict};
 use audit_core::findings::{Finding, warnings_found};
 use audit_core::group::{AtVendor, Group};
-use audit_core::rows::{comment_of, kind_text, membership_word};
+use audit_core::rows::{comment_of, field_text, membership_word};
 use audit_core::sitemaps::sitemaps_of;
 use audit_core::texts::may_fetch;
 use rfc9309::conformance::Conformance;
@@ -36,6 +36,13 @@ fn sanitized_json(alloc: Global, bytes: &[u8]) -> Result<Value, AllocError> {
     let mut text = String::new(alloc);
     push_sanitized(&mut text, bytes)?;
     Ok(Value::String(text))
+}
+
+fn name_json(alloc: Global, name: Option<&str>) -> Result<Value, AllocError> {
+    match name {
+        Some(name) => sanitized_json(alloc, name.as_bytes()),
+        None => Ok(Value::Null),
+    }
 }
 
 /// These bytes, or null if there are none.
@@ -101,12 +108,12 @@ impl<'a> Json for AgentAudit<'a> {
         let vendor = Value::try_from_str(alloc, vendor_word(self.vendor));
         let object = Object::new(alloc)
             .with("agent", sanitized_json(alloc, self.agent.as_bytes()))?
-            .with("delay", Ok(Value::from(self.delay)))?
+            .with("delay_microseconds", Ok(Value::from(self.delay)))?
             .with("group", group_json(alloc, self))?
             .with("may_fetch", fetch_json(alloc, self))?
-            .with("rejected", Ok(Value::from(self.rejected)))?
+            .with("rejected_line", Ok(Value::from(self.rejected)))?
             .with("rules", Ok(Value::from(self.rules)))?
-            .with("vendor", vendor)?
+            .with("vendor_group", vendor)?
             .with("verdicts", list_json(alloc, &self.verdicts))?;
         Ok(object.value())
     }
@@ -130,9 +137,9 @@ impl<'a> Json for LabeledLine<'a> {
         let membership = membership_word(self.membership);
         let object = Object::new(alloc)
             .with("comment", text_json(alloc, comment))?
-            .with("kind", Value::try_from_str(alloc, kind_text(self.line)))?
+            .with("field", Value::try_from_str(alloc, field_text(self.line)))?
+            .with("line", Ok(Value::from(self.number)))?
             .with("membership", Value::try_from_str(alloc, membership))?
-            .with("number", Ok(Value::from(self.number)))?
             .with("value", value_json(alloc, self.line))?;
         Ok(object.value())
     }
@@ -147,10 +154,12 @@ impl<'a> Json for &'a [u8] {
 impl Json for Finding {
     fn json(&self, alloc: Global) -> Result<Value, AllocError> {
         let object = Object::new(alloc)
+            .with("agent", name_json(alloc, self.agent.as_deref()))?
             .with("level", Value::try_from_str(alloc, self.level.word()))?
             .with("line", Ok(Value::from(self.line)))?
             .with("name", Value::try_from_str(alloc, self.name))?
-            .with("text", Value::try_from_str(alloc, &self.message))?;
+            .with("text", Value::try_from_str(alloc, &self.message))?
+            .with("url", name_json(alloc, self.url.as_deref()))?;
         Ok(object.value())
     }
 }
@@ -171,15 +180,6 @@ fn rows_json(
     }
 }
 
-/// True if this is known of the file, or else null.
-fn known_json(is_known: bool) -> Value {
-    if is_known {
-        Value::Bool(true)
-    } else {
-        Value::Null
-    }
-}
-
 /// The line that keeps a file from the standard's grammar, or else from verdicts that are the standard's.
 fn other_line_json(syntax: Conformance) -> Value {
     match syntax {
@@ -195,16 +195,16 @@ fn audit_json(
     audit: &Audit<'_>,
     found: &[Finding],
 ) -> Result<Value, AllocError> {
-    let has_syntax = known_json(audit.syntax.has_syntax());
-    let has_verdicts = known_json(audit.syntax.has_verdicts());
+    let has_syntax = Value::Bool(audit.syntax.has_syntax());
+    let has_verdicts = Value::Bool(audit.syntax.has_verdicts());
     let object = Object::new(alloc)
         .with("agents", list_json(alloc, &audit.agents))?
+        .with("findings", list_json(alloc, found))?
         .with("has_rfc_9309_syntax", Ok(has_syntax))?
         .with("has_rfc_9309_verdicts", Ok(has_verdicts))?
         .with("lines", rows_json(alloc, has_rows, &audit.labels))?
         .with("rfc_9309_line", Ok(other_line_json(audit.syntax)))?
-        .with("sitemaps", sitemaps_json(alloc, &audit.labels))?
-        .with("warnings", list_json(alloc, found))?;
+        .with("sitemaps", sitemaps_json(alloc, &audit.labels))?;
     Ok(object.value())
 }
 
@@ -218,36 +218,58 @@ pub(crate) fn json_line(alloc: Global, value: &Value) -> Result<String, fmt::Err
     Ok(out.into_string())
 }
 
+/// The first member of a report, since those of an object are in the order of their names.
+const FORMAT: &str = "{\"format\":1,";
+
+fn report_line(alloc: Global, value: &Value) -> Result<String, fmt::Error>
+    ensures { IfOk result (λ text. IsReport (string_bytes text)) }
+{
+    let text = value.to_string(alloc)?;
+    let mut out = Report::new(alloc);
+    out.write_str(FORMAT)?;
+    out.write_str(text.strip_prefix("{").unwrap_or(&text))?;
+    out.end_line()?;
+    Ok(out.into_string())
+}
+
 /// The audit as one line of JSON.
 pub fn json_text(alloc: Global, has_rows: bool, audit: &Audit<'_>) -> Result<String, fmt::Error>
     ensures { IfOk result (λ text. IsReport (string_bytes text)) }
 {
     let found = warnings_found(alloc, &audit.warnings)?;
-    json_line(alloc, &audit_json(alloc, has_rows, audit, &found)?)
+    report_line(alloc, &audit_json(alloc, has_rows, audit, &found)?)
 }
 
-/// The name of a file, what was found in it, and the name of an older version, or null if that is empty.
+/// The names of the files of a report.
+#[derive(Clone, Copy)]
+pub struct Names<'a> {
+    pub file: &'a str,
+    /// The file of expectations.
+    pub expectations: Option<&'a str>,
+    /// The older version.
+    pub old: Option<&'a str>,
+}
+
 fn findings_json(
     alloc: Global,
-    file: &str,
-    old: &str,
+    names: Names<'_>,
     findings: &[Finding],
 ) -> Result<Value, AllocError> {
     let object = Object::new(alloc)
-        .with("file", sanitized_json(alloc, file.as_bytes()))?
+        .with("expectations", name_json(alloc, names.expectations))?
+        .with("file", sanitized_json(alloc, names.file.as_bytes()))?
         .with("findings", list_json(alloc, findings))?
-        .with("old", text_json(alloc, old.as_bytes()))?;
+        .with("old", name_json(alloc, names.old))?;
     Ok(object.value())
 }
 
-/// The findings about the file with this name, as one line.
+/// A report on these files as one line.
 pub fn findings_text(
     alloc: Global,
-    file: &str,
-    old: &str,
+    names: Names<'_>,
     findings: &[Finding],
 ) -> Result<String, fmt::Error>
     ensures { IfOk result (λ text. IsReport (string_bytes text)) }
 {
-    json_line(alloc, &findings_json(alloc, file, old, findings)?)
+    report_line(alloc, &findings_json(alloc, names, findings)?)
 }

@@ -137,8 +137,17 @@ fn checked(rt: &HostRuntime, matches: &ArgMatches<'_>, expected: &str) -> Result
 {
     check_files(matches)?;
     let text = read(rt, Some(expected))?;
-    let file = read_robots(rt, matches.get_str("file").unwrap_or("-"))?;
-    expectations(rt.alloc(), format_of(matches), expected, &text, &file)
+    let name = file_read(matches.get_str("file"));
+    let file = read_robots(rt, name.unwrap_or("-"))?;
+    let expected_file = NamedFile {
+        name: expected,
+        bytes: &text,
+    };
+    let robots = NamedFile {
+        name: name.unwrap_or("robots.txt"),
+        bytes: &file,
+    };
+    expectations(rt.alloc(), format_of(matches), expected_file, robots)
 }
 
 /// Compares the file `older` with the file that the arguments name.

@@ -18,7 +18,7 @@ use audit_core::request::{Format, Request};
 use audit_expect::expectations::check;
 use audit_reports::denied::{Totals, shown, totals_of};
 use audit_reports::github::github_text;
-use audit_reports::json::{findings_text, json_text};
+use audit_reports::json::{Names, findings_text, json_text};
 use audit_reports::page::page_text;
 use audit_reports::report::{write_report, write_totals, write_warnings};
 use audit_reports::sarif::sarif_text;
@@ -130,13 +130,12 @@ fn compared_for<'a>(
     compare(alloc, &request.agents, &request.urls, older, newer)
 }
 
-/// The answer in this format: a report as text, or findings in the file with this name; an empty `old` is no
-/// file.
+/// The answer in this format: a report as text, or findings. Their lines are those of the file of
+/// expectations, if there is one.
 fn listed(
     alloc: Global,
     format: Format,
-    file: &str,
-    old: &str,
+    names: Names<'_>,
     reported: (Report, Findings),
     is_rejected: bool,
     has_passed: bool,
@@ -146,8 +145,8 @@ fn listed(
     let (text, found) = reported;
     let report = match format {
         Format::Text => text.into_string().into_bytes(),
-        Format::Json => findings_text(alloc, file, old, &found)?.into_bytes(),
-        Format::Github => annotations(alloc, file, &found)?,
+        Format::Json => findings_text(alloc, names, &found)?.into_bytes(),
+        Format::Github => annotations(alloc, names.expectations.unwrap_or(names.file), &found)?,
         Format::Html | Format::Sarif => return Err(Error::Format),
     };
     let outcome = Outcome {
@@ -188,25 +187,33 @@ pub fn comparison<'a>(
 {
     let compared = compared_for(alloc, request, older, newer)?;
     let (is_rejected, has_passed) = (rejects_one(&compared), has_passed(verdicts_only, &compared));
-    let (format, name, old) = (request.format, request.shown_name(), older.name);
+    let names = Names {
+        file: request.shown_name(),
+        expectations: None,
+        old: Some(older.name),
+    };
     let found = reported(alloc, &compared)?;
-    Ok(listed(alloc, format, name, old, found, is_rejected, has_passed)?)
+    Ok(listed(alloc, request.format, names, found, is_rejected, has_passed)?)
 }
 
-/// Checks the expectations in a text, of a file with this name, against a robots.txt file, and writes the
-/// report. The errors are those of `check`, and `Error::Format` if the format is one of audits alone.
+/// Checks the expectations in a text against a robots.txt file, and writes the report. The errors are those of
+/// `check`, and `Error::Format` if the format is one of audits alone.
 pub fn expectations(
     alloc: Global,
     format: Format,
-    name: &str,
-    text: &[u8],
-    file: &[u8],
+    expected: NamedFile<'_>,
+    robots: NamedFile<'_>,
 ) -> Result<Answer, Error>
-    ensures { IfOk result (IsExpected format text.now file.now) }
+    ensures { IfOk result (IsExpected format expected.entry.bytes.now robots.entry.bytes.now) }
 {
-    let found = check(alloc, name, text, file)?;
+    let names = Names {
+        file: robots.name,
+        expectations: Some(expected.name),
+        old: None,
+    };
+    let found = check(alloc, expected.name, expected.bytes, robots.bytes)?;
     let has_passed = found.1.is_empty();
-    Ok(listed(alloc, format, name, "", found, false, has_passed)?)
+    Ok(listed(alloc, format, names, found, false, has_passed)?)
 }
 
 /// The error for a file that can't be opened or read, for this reason.

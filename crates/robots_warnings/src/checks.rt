@@ -100,7 +100,7 @@ pub(crate) fn rule_checks(value: &[u8]) -> [Check; 17] {
     let is_other = is_regex | has_tag(value);
     let has_odd_byte = has_odd_character(value) & !(is_quoted(value) | is_other);
     let (several, seems_several) = several_values(value);
-    let is_one = has_several_directives(value) | has_equals;
+    let is_explained = has_several_directives(value) | has_equals;
     [
         (Cause::RuleNotUtf8, !is_utf8(value)),
         (Cause::EqualsInRule, is_odd & has_equals),
@@ -118,7 +118,7 @@ pub(crate) fn rule_checks(value: &[u8]) -> [Check; 17] {
         (Cause::EscapedWildcard, has_wildcard(value)),
         (Cause::DotSegment, has_dot_segment(value)),
         (Cause::QuestionMarks, has_question_marks(value)),
-        (several, (is_utf8(value) & seems_several) & !is_one),
+        (several, (is_utf8(value) & seems_several) & !is_explained),
     ]
 }
 
