@@ -63,7 +63,7 @@ fn add_groups(
     }
     let (old, new) = (group_name(agent, older), group_name(agent, newer));
     let message = message(alloc, format_args!("crawler {agent}: group {old} -> {new}"));
-    let subject = Subject::crawler(agent, None);
+    let subject = Subject(None, Some(agent), None);
     add(alloc, found, Level::Note, subject, "group", message)
 }
 
@@ -79,7 +79,7 @@ fn add_delays(
     }
     let (old, new) = (DelayOrNone(older), DelayOrNone(newer));
     let message = message(alloc, format_args!("crawler {agent}: delay {old} -> {new}"));
-    let subject = Subject::crawler(agent, None);
+    let subject = Subject(None, Some(agent), None);
     add(alloc, found, Level::Note, subject, "delay", message)
 }
 
@@ -98,7 +98,8 @@ fn add_rules(
     for rule in rules {
         let kind = if rule.is_allow { "Allow" } else { "Disallow" };
         let (pattern, number) = (rule.pattern.as_str(), rule.line);
-        let subject = Subject::crawler(agent, if is_added { Some(number) } else { None });
+        let line = if is_added { Some(number) } else { None };
+        let subject = Subject(line, Some(agent), None);
         let message = message(
             alloc,
             format_args!("crawler {agent}: {sign} {kind}: {pattern} (line {number})"),
@@ -182,10 +183,7 @@ fn add_url(
         alloc,
         format_args!("crawler {agent} {url}: {old} -> {new}{effect}{vendors}"),
     );
-    let subject = Subject {
-        url: Some(url.as_bytes()),
-        ..Subject::crawler(agent, newer.line)
-    };
+    let subject = Subject(newer.line, Some(agent), Some(url.as_bytes()));
     add(alloc, found, level, subject, name, message)
 }
 
@@ -280,19 +278,15 @@ fn add_change(
     verdicts: &Verdicts,
     message: Result<Line, fmt::Error>,
 ) -> fmt::Result {
-    let subject = Subject::crawler(agent, None);
-    let (level, subject, name) = match verdicts {
+    let (level, line, url, name) = match verdicts {
         Verdicts::Other(example) => {
-            let subject = Subject {
-                line: example.newer.line,
-                url: Some(example.path.as_bytes()),
-                ..subject
-            };
-            (change_level(newer, example), subject, "verdicts")
+            let (level, path) = (change_level(newer, example), example.path.as_bytes());
+            (level, example.newer.line, Some(path), "verdicts")
         }
-        Verdicts::Same => (Level::Note, subject, "same-verdicts"),
-        Verdicts::Undecided => (Level::Note, subject, "undecided-verdicts"),
+        Verdicts::Same => (Level::Note, None, None, "same-verdicts"),
+        Verdicts::Undecided => (Level::Note, None, None, "undecided-verdicts"),
     };
+    let subject = Subject(line, Some(agent), url);
     add(alloc, found, level, subject, name, message)
 }
 
@@ -370,7 +364,7 @@ fn add_rejection(
     };
     let reason = Rejected { agent, line };
     let message = message(alloc, format_args!("the {version} file is {reason}"));
-    let subject = Subject::crawler(agent, place);
+    let subject = Subject(place, Some(agent), None);
     add(alloc, found, Level::Error, subject, name, message)
 }
 

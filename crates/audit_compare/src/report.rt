@@ -30,10 +30,7 @@ fn add_sitemaps(
     sitemaps: &[&[u8]],
 ) -> fmt::Result {
     for sitemap in sitemaps {
-        let subject = Subject {
-            url: Some(*sitemap),
-            ..Subject::line(None)
-        };
+        let subject = Subject(None, None, Some(*sitemap));
         let sitemap = Untrusted(*sitemap);
         let message = message(alloc, format_args!("sitemap {what}: {sitemap}"));
         add(alloc, found, Level::Note, subject, name, message)?;
@@ -68,7 +65,7 @@ fn add_emptied(
         return Ok(());
     }
     let message = message(alloc, "no directive of the new file is read");
-    let subject = Subject::line(None);
+    let subject = Subject(None, None, None);
     add(alloc, found, Level::Warning, subject, "empty", message)
 }
 

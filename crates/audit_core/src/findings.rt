@@ -25,42 +25,9 @@ pub struct Finding {
 
 pub type Findings = Vec<Finding>;
 
-/// What a finding is about.
+/// What a finding is about: a line, a crawler, and a URL or a sitemap.
 #[derive(Clone, Copy)]
-pub struct Subject<'a> {
-    pub line: Option<usize>,
-    pub agent: Option<&'a str>,
-    /// Any text, if it is that of a sitemap.
-    pub url: Option<&'a [u8]>,
-}
-
-impl<'a> Subject<'a> {
-    pub fn line(line: Option<usize>) -> Self {
-        Subject {
-            line,
-            agent: None,
-            url: None,
-        }
-    }
-
-    pub fn crawler(agent: &'a str, line: Option<usize>) -> Self {
-        Subject {
-            agent: Some(agent),
-            ..Subject::line(line)
-        }
-    }
-
-    fn of(warning: &Warning<'a>) -> Self {
-        let line = warning.line;
-        match warning.about {
-            Some(agent) if warning.kind() == "crawler" => Subject::crawler(agent, line),
-            about => Subject {
-                url: about.map(|url| url.as_bytes()),
-                ..Subject::line(line)
-            },
-        }
-    }
-}
+pub struct Subject<'a>(pub Option<usize>, pub Option<&'a str>, pub Option<&'a [u8]>);
 
 /// A finding's message, for `add`.
 pub fn message<M: fmt::Display + Drop>(alloc: Global, text: M) -> Result<Line, fmt::Error> {
@@ -75,13 +42,6 @@ fn sanitized(alloc: Global, bytes: &[u8]) -> Result<String, AllocError> {
     Ok(text)
 }
 
-fn sanitized_if_given(alloc: Global, bytes: Option<&[u8]>) -> Result<Option<String>, AllocError> {
-    match bytes {
-        Some(bytes) => Ok(Some(sanitized(alloc, bytes)?)),
-        None => Ok(None),
-    }
-}
-
 /// In the message, the start of a command of a workflow is escaped, too. Its error is returned.
 pub fn add(
     alloc: Global,
@@ -93,14 +53,16 @@ pub fn add(
 ) -> fmt::Result
     ensures { OnOk result (0 < length found.new.items) }
 {
-    let agent = subject.agent.map(|agent| agent.as_bytes());
+    let Subject(line, agent, url) = subject;
     let finding = Finding {
         level,
-        line: subject.line,
+        line,
         name,
         message: sanitized(alloc, message?.as_str().as_bytes())?,
-        agent: sanitized_if_given(alloc, agent)?,
-        url: sanitized_if_given(alloc, subject.url)?,
+        agent: agent
+            .map(|name| sanitized(alloc, name.as_bytes()))
+            .transpose()?,
+        url: url.map(|url| sanitized(alloc, url)).transpose()?,
     };
     match found.push(finding) {
         Ok(()) => Ok(()),
@@ -117,17 +79,14 @@ fn add_agent(alloc: Global, found: &mut Findings, agent: &AgentAudit<'_>) -> fmt
             alloc,
             found,
             Level::Error,
-            Subject::crawler(name, agent.rejected),
+            Subject(agent.rejected, Some(name), None),
             "rejected",
             message,
         )?;
     }
     for verdict in &agent.verdicts {
-        let url = verdict.url;
-        let subject = Subject {
-            url: Some(url.as_bytes()),
-            ..Subject::crawler(name, verdict.decision.line)
-        };
+        let (line, url) = (verdict.decision.line, verdict.url);
+        let subject = Subject(line, Some(name), Some(url.as_bytes()));
         if !verdict.decision.allowed {
             let message = message(alloc, format_args!("{name} may not fetch {url}{vendor}"));
             add(alloc, found, Level::Error, subject, "denied", message)?;
@@ -143,8 +102,14 @@ fn add_warning(
     warning: &Warning<'_>,
 ) -> fmt::Result {
     let (level, name) = (warning.cause.level(), warning.cause.name());
+    let (line, about) = (warning.line, warning.about);
+    let subject = if warning.kind() == "crawler" {
+        Subject(line, about, None)
+    } else {
+        Subject(line, None, about.map(|url| url.as_bytes()))
+    };
     let message = message(alloc, Message(warning, together));
-    add(alloc, found, level, Subject::of(warning), name, message)
+    add(alloc, found, level, subject, name, message)
 }
 
 /// The errors among the warnings, or the other warnings.

@@ -252,10 +252,8 @@ fn add_if_failing(
         target: &target,
     };
     write_failure(report, &failure)?;
-    let subject = Subject {
-        url: Some(expectation.url.as_bytes()),
-        ..Subject::crawler(expectation.agent, Some(expectation.number))
-    };
+    let (line, agent) = (Some(expectation.number), Some(expectation.agent));
+    let subject = Subject(line, agent, Some(expectation.url.as_bytes()));
     let message = message(alloc, failure);
     Ok(add(alloc, found, Level::Error, subject, "expectation", message)?)
 }

@@ -38,9 +38,9 @@ fn sanitized_json(alloc: Global, bytes: &[u8]) -> Result<Value, AllocError> {
     Ok(Value::String(text))
 }
 
-fn name_json(alloc: Global, name: Option<&str>) -> Result<Value, AllocError> {
-    match name {
-        Some(name) => sanitized_json(alloc, name.as_bytes()),
+fn optional_json(alloc: Global, text: Option<&str>) -> Result<Value, AllocError> {
+    match text {
+        Some(text) => sanitized_json(alloc, text.as_bytes()),
         None => Ok(Value::Null),
     }
 }
@@ -81,14 +81,6 @@ fn vendor_word(vendor: AtVendor) -> &'static str {
     }
 }
 
-/// What the crawler may fetch: null for a part of all URLs, and if it isn't decided.
-fn fetch_json(alloc: Global, audit: &AgentAudit<'_>) -> Result<Value, AllocError> {
-    match may_fetch(audit.rejected, audit.vendor, audit.reach) {
-        Some(word) => Value::try_from_str(alloc, word),
-        None => Ok(Value::Null),
-    }
-}
-
 impl Json for &'static str {
     fn json(&self, alloc: Global) -> Result<Value, AllocError> {
         Value::try_from_str(alloc, self)
@@ -98,22 +90,22 @@ impl Json for &'static str {
 fn group_json(alloc: Global, audit: &AgentAudit<'_>) -> Result<Value, AllocError> {
     let object = Object::new(alloc)
         .with("ignored_by", list_json(alloc, &audit.ignored_by))?
-        .with("kind", Value::try_from_str(alloc, group_word(audit.group)))?
+        .text("kind", group_word(audit.group))?
         .with("line", Ok(Value::from(audit.group_line)))?;
     Ok(object.value())
 }
 
 impl<'a> Json for AgentAudit<'a> {
     fn json(&self, alloc: Global) -> Result<Value, AllocError> {
-        let vendor = Value::try_from_str(alloc, vendor_word(self.vendor));
+        let fetched = may_fetch(self.rejected, self.vendor, self.reach);
         let object = Object::new(alloc)
             .with("agent", sanitized_json(alloc, self.agent.as_bytes()))?
             .with("delay_microseconds", Ok(Value::from(self.delay)))?
             .with("group", group_json(alloc, self))?
-            .with("may_fetch", fetch_json(alloc, self))?
+            .with("may_fetch", optional_json(alloc, fetched))?
             .with("rejected_line", Ok(Value::from(self.rejected)))?
             .with("rules", Ok(Value::from(self.rules)))?
-            .with("vendor_group", vendor)?
+            .text("vendor_group", vendor_word(self.vendor))?
             .with("verdicts", list_json(alloc, &self.verdicts))?;
         Ok(object.value())
     }
@@ -134,12 +126,11 @@ fn value_json(alloc: Global, line: Line<'_>) -> Result<Value, AllocError> {
 impl<'a> Json for LabeledLine<'a> {
     fn json(&self, alloc: Global) -> Result<Value, AllocError> {
         let comment = comment_of(self.line, self.body);
-        let membership = membership_word(self.membership);
         let object = Object::new(alloc)
             .with("comment", text_json(alloc, comment))?
-            .with("field", Value::try_from_str(alloc, field_text(self.line)))?
+            .text("field", field_text(self.line))?
             .with("line", Ok(Value::from(self.number)))?
-            .with("membership", Value::try_from_str(alloc, membership))?
+            .text("membership", membership_word(self.membership))?
             .with("value", value_json(alloc, self.line))?;
         Ok(object.value())
     }
@@ -154,18 +145,14 @@ impl<'a> Json for &'a [u8] {
 impl Json for Finding {
     fn json(&self, alloc: Global) -> Result<Value, AllocError> {
         let object = Object::new(alloc)
-            .with("agent", name_json(alloc, self.agent.as_deref()))?
-            .with("level", Value::try_from_str(alloc, self.level.word()))?
+            .with("agent", optional_json(alloc, self.agent.as_deref()))?
+            .text("level", self.level.word())?
             .with("line", Ok(Value::from(self.line)))?
-            .with("name", Value::try_from_str(alloc, self.name))?
-            .with("text", Value::try_from_str(alloc, &self.message))?
-            .with("url", name_json(alloc, self.url.as_deref()))?;
+            .text("name", self.name)?
+            .text("text", &self.message)?
+            .with("url", optional_json(alloc, self.url.as_deref()))?;
         Ok(object.value())
     }
-}
-
-fn sitemaps_json(alloc: Global, labels: &[LabeledLine<'_>]) -> Result<Value, AllocError> {
-    list_json(alloc, &sitemaps_of(alloc, labels)?)
 }
 
 fn rows_json(
@@ -197,6 +184,7 @@ fn audit_json(
 ) -> Result<Value, AllocError> {
     let has_syntax = Value::Bool(audit.syntax.has_syntax());
     let has_verdicts = Value::Bool(audit.syntax.has_verdicts());
+    let sitemaps = sitemaps_of(alloc, &audit.labels)?;
     let object = Object::new(alloc)
         .with("agents", list_json(alloc, &audit.agents))?
         .with("findings", list_json(alloc, found))?
@@ -204,29 +192,20 @@ fn audit_json(
         .with("has_rfc_9309_verdicts", Ok(has_verdicts))?
         .with("lines", rows_json(alloc, has_rows, &audit.labels))?
         .with("rfc_9309_line", Ok(other_line_json(audit.syntax)))?
-        .with("sitemaps", sitemaps_json(alloc, &audit.labels))?;
+        .with("sitemaps", list_json(alloc, &sitemaps))?;
     Ok(object.value())
 }
 
-/// A value as one line.
-pub(crate) fn json_line(alloc: Global, value: &Value) -> Result<String, fmt::Error>
-    ensures { IfOk result (λ text. IsReport (string_bytes text)) }
-{
-    let mut out = Report::new(alloc);
-    out.write_str(&value.to_string(alloc)?)?;
-    out.end_line()?;
-    Ok(out.into_string())
-}
-
-/// The first member of a report, since those of an object are in the order of their names.
+/// The start of a report, since the other members of an object are in the order of their names.
 const FORMAT: &str = "{\"format\":1,";
 
-fn report_line(alloc: Global, value: &Value) -> Result<String, fmt::Error>
+/// An object as one line with this start, after which its first member comes.
+pub(crate) fn json_line(alloc: Global, start: &str, object: &Value) -> Result<String, fmt::Error>
     ensures { IfOk result (λ text. IsReport (string_bytes text)) }
 {
-    let text = value.to_string(alloc)?;
+    let text = object.to_string(alloc)?;
     let mut out = Report::new(alloc);
-    out.write_str(FORMAT)?;
+    out.write_str(start)?;
     out.write_str(text.strip_prefix("{").unwrap_or(&text))?;
     out.end_line()?;
     Ok(out.into_string())
@@ -237,17 +216,23 @@ pub fn json_text(alloc: Global, has_rows: bool, audit: &Audit<'_>) -> Result<Str
     ensures { IfOk result (λ text. IsReport (string_bytes text)) }
 {
     let found = warnings_found(alloc, &audit.warnings)?;
-    report_line(alloc, &audit_json(alloc, has_rows, audit, &found)?)
+    let object = audit_json(alloc, has_rows, audit, &found)?;
+    json_line(alloc, FORMAT, &object)
 }
 
 /// The names of the files of a report.
 #[derive(Clone, Copy)]
 pub struct Names<'a> {
     pub file: &'a str,
-    /// The file of expectations.
     pub expectations: Option<&'a str>,
-    /// The older version.
     pub old: Option<&'a str>,
+}
+
+impl<'a> Names<'a> {
+    /// Of the file whose lines the findings have.
+    pub fn of_lines(self) -> &'a str {
+        self.expectations.unwrap_or(self.file)
+    }
 }
 
 fn findings_json(
@@ -256,10 +241,10 @@ fn findings_json(
     findings: &[Finding],
 ) -> Result<Value, AllocError> {
     let object = Object::new(alloc)
-        .with("expectations", name_json(alloc, names.expectations))?
+        .with("expectations", optional_json(alloc, names.expectations))?
         .with("file", sanitized_json(alloc, names.file.as_bytes()))?
         .with("findings", list_json(alloc, findings))?
-        .with("old", name_json(alloc, names.old))?;
+        .with("old", optional_json(alloc, names.old))?;
     Ok(object.value())
 }
 
@@ -271,5 +256,5 @@ pub fn findings_text(
 ) -> Result<String, fmt::Error>
     ensures { IfOk result (λ text. IsReport (string_bytes text)) }
 {
-    report_line(alloc, &findings_json(alloc, names, findings)?)
+    json_line(alloc, FORMAT, &findings_json(alloc, names, findings)?)
 }

@@ -34,6 +34,7 @@ use audit_core::not_robots::check_content;
 use audit_core::request::Request;
 use audit_expect::url_list::with_urls;
 use audit_reports::explain::{explain, list_warnings};
+use audit_reports::json::Names;
 use clap::ArgMatches;
 use clap::error::ErrorKind as WordsKind;
 use safe_output::report::Report;
@@ -139,15 +140,12 @@ fn checked(rt: &HostRuntime, matches: &ArgMatches<'_>, expected: &str) -> Result
     let text = read(rt, Some(expected))?;
     let name = file_read(matches.get_str("file"));
     let file = read_robots(rt, name.unwrap_or("-"))?;
-    let expected_file = NamedFile {
-        name: expected,
-        bytes: &text,
+    let names = Names {
+        file: name.unwrap_or("robots.txt"),
+        expectations: Some(expected),
+        old: None,
     };
-    let robots = NamedFile {
-        name: name.unwrap_or("robots.txt"),
-        bytes: &file,
-    };
-    expectations(rt.alloc(), format_of(matches), expected_file, robots)
+    expectations(rt.alloc(), format_of(matches), names, &text, &file)
 }
 
 /// Compares the file `older` with the file that the arguments name.

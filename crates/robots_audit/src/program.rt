@@ -130,8 +130,7 @@ fn compared_for<'a>(
     compare(alloc, &request.agents, &request.urls, older, newer)
 }
 
-/// The answer in this format: a report as text, or findings. Their lines are those of the file of
-/// expectations, if there is one.
+/// The answer in this format: a report as text, or findings.
 fn listed(
     alloc: Global,
     format: Format,
@@ -146,7 +145,7 @@ fn listed(
     let report = match format {
         Format::Text => text.into_string().into_bytes(),
         Format::Json => findings_text(alloc, names, &found)?.into_bytes(),
-        Format::Github => annotations(alloc, names.expectations.unwrap_or(names.file), &found)?,
+        Format::Github => annotations(alloc, names.of_lines(), &found)?,
         Format::Html | Format::Sarif => return Err(Error::Format),
     };
     let outcome = Outcome {
@@ -201,17 +200,13 @@ pub fn comparison<'a>(
 pub fn expectations(
     alloc: Global,
     format: Format,
-    expected: NamedFile<'_>,
-    robots: NamedFile<'_>,
+    names: Names<'_>,
+    text: &[u8],
+    file: &[u8],
 ) -> Result<Answer, Error>
-    ensures { IfOk result (IsExpected format expected.entry.bytes.now robots.entry.bytes.now) }
+    ensures { IfOk result (IsExpected format text.now file.now) }
 {
-    let names = Names {
-        file: robots.name,
-        expectations: Some(expected.name),
-        old: None,
-    };
-    let found = check(alloc, expected.name, expected.bytes, robots.bytes)?;
+    let found = check(alloc, names.of_lines(), text, file)?;
     let has_passed = found.1.is_empty();
     Ok(listed(alloc, format, names, found, false, has_passed)?)
 }
