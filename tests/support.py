@@ -350,9 +350,9 @@ def json_of(case):
             ignored_by = IGNORING if ", ignored" in more else []
             own = {key: int(number) for key, number in re.findall(r", (delay|rejected) (\d+)", more)}
             agents.append({
-                "agent": name, "delay": own.get("delay"), "group": {"ignored_by": ignored_by, "kind": group, "line": place and int(place)},
-                "may_fetch": None if fetch == "null" else fetch, "rejected": own.get("rejected"), "rules": int(rules),
-                "vendor": (re.search(r", vendor (\w+)", more) or ["", "same"])[1], "verdicts": [],
+                "agent": name, "delay_microseconds": own.get("delay"), "group": {"ignored_by": ignored_by, "kind": group, "line": place and int(place)},
+                "may_fetch": None if fetch == "null" else fetch, "rejected_line": own.get("rejected"), "rules": int(rules),
+                "vendor_group": (re.search(r", vendor (\w+)", more) or ["", "same"])[1], "verdicts": [],
             })  # fmt: skip
         elif kind in ("allow", "deny"):
             agents[-1]["verdicts"].append({"allowed": kind == "allow", "line": None if first == "-" else int(first), "url": value})
@@ -360,14 +360,18 @@ def json_of(case):
             sitemaps.append(line.removeprefix("sitemap "))
         elif line != "no rows":
             shown = int(value) if first == "crawl-delay" else value
-            rows.append({"comment": None, "kind": first, "membership": kind, "number": len(rows) + 1, "value": shown})
+            rows.append({"comment": None, "field": first, "line": len(rows) + 1, "membership": kind, "value": shown})
     standard, _, place = case.get("rfc", "").rpartition(" ")
-    has_verdicts, place = place == "verdicts" or None, int(place) if place.isdecimal() else None
-    warnings = map(parts_of, warnings_of(case))
+    has_verdicts, place = place == "verdicts", int(place) if place.isdecimal() else None
+    findings = []
+    for line, name, level, text in map(parts_of, warnings_of(case)):
+        about = dict(re.findall("^(crawler|URL) '(.*?)': ", text))
+        own = {"level": level, "line": int(line) if line else None, "name": name, "text": text}
+        findings.append({"agent": about.get("crawler"), **own, "url": about.get("URL")})
     report = {
-        "agents": agents, "has_rfc_9309_syntax": has_verdicts or standard == "syntax" or None, "has_rfc_9309_verdicts": has_verdicts,
+        "format": 1, "agents": agents, "findings": findings,
+        "has_rfc_9309_syntax": has_verdicts or standard == "syntax", "has_rfc_9309_verdicts": has_verdicts,
         "lines": rows if rows or "no rows" in case["json"] else None, "rfc_9309_line": place, "sitemaps": sitemaps,
-        "warnings": [{"level": level, "line": int(line) if line else None, "name": name, "text": text} for line, name, level, text in warnings],
     }  # fmt: skip
     return json.dumps(report, ensure_ascii=False, separators=(",", ":")).encode() + b"\n"
 

@@ -177,6 +177,7 @@ def test_every_url(tmp_path, old, new, text, level):
     assert (result.status, result.out.splitlines()[-1]) == (1, line)
     (found,) = [it for it in json.loads(for_ferris(tmp_path, old, new, "--json").out)["findings"] if it["text"] == line]
     assert (found["name"], found["level"]) == ("same-verdicts" if text.startswith("no") else "verdicts", level)
+    assert (found["agent"], found["url"]) == ("Ferris", (re.search("for example (.*?): ", text) or [None, None])[1])
 
 
 def test_verdicts_alone_decide_the_status(tmp_path):

@@ -239,7 +239,7 @@ def check(make, model):
     wanted = [sorted(map(parts_of, model(*file))) for file in files]
     names = {name for some in wanted for _, name, *_ in some}
     for (text, args), some in zip(files, wanted):
-        warnings = json.loads(run("robots_audit", ["--json", "-", *args], text.encode("utf-8", "surrogateescape")).out)["warnings"]
+        warnings = json.loads(run("robots_audit", ["--json", "-", *args], text.encode("utf-8", "surrogateescape")).out)["findings"]
         assert some == sorted((str(it["line"] or ""), it["name"], it["level"], it["text"]) for it in warnings if it["name"] in names), f"{args}\n{text}"
 
 
