@@ -304,18 +304,15 @@ fn add_at_vendor(alloc: Global, found: &mut Findings, compared: &Compared<'_>) -
     let Some(vendor) = &compared.vendor else {
         return Ok(());
     };
-    let change = Change {
-        reach: None,
-        verdicts: &vendor.verdicts,
-    };
+    let (agent, reach, verdicts) = (compared.agent, None, &vendor.verdicts);
+    let change = Change { reach, verdicts };
     let old = name_at_vendor(&compared.older, &vendor.older);
     let new = name_at_vendor(&compared.newer, &vendor.newer);
-    let agent = compared.agent;
     let message = message(
         alloc,
         format_args!("crawler {agent}, whose vendor applies the group {old} -> {new}: {change}"),
     );
-    add_change(alloc, found, agent, Reach::Part, &vendor.verdicts, message)
+    add_change(alloc, found, agent, Reach::Part, verdicts, message)
 }
 
 /// Adds what becomes of the verdicts of all URLs, if something differs for the crawler.
@@ -330,20 +327,10 @@ fn add_verdicts(alloc: Global, found: &mut Findings, compared: &Compared<'_>) ->
         let was = Fetched(older.reach, &older.allows);
         Some((was, Fetched(newer.reach, &newer.allows)))
     };
-    let change = Change {
-        reach,
-        verdicts: &compared.verdicts,
-    };
-    let vendors = vendors_of(compared);
+    let (verdicts, vendors) = (&compared.verdicts, vendors_of(compared));
+    let change = Change { reach, verdicts };
     let message = message(alloc, format_args!("crawler {agent}: {change}{vendors}"));
-    add_change(
-        alloc,
-        found,
-        agent,
-        newer.reach,
-        &compared.verdicts,
-        message,
-    )?;
+    add_change(alloc, found, agent, newer.reach, verdicts, message)?;
     add_at_vendor(alloc, found, compared)
 }
 
