@@ -157,10 +157,10 @@ fn listed(
     Ok(Answer { report, outcome })
 }
 
-fn has_passed(verdicts_only: bool, compared: &Comparison<'_>) -> bool
-    ensures { result ≡ has_passed verdicts_only compared.now }
+fn has_passed(only_verdicts: bool, compared: &Comparison<'_>) -> bool
+    ensures { result ≡ has_passed only_verdicts compared.now }
 {
-    if verdicts_only {
+    if only_verdicts {
         keeps_verdicts(compared)
     } else {
         differs_nowhere(compared)
@@ -179,13 +179,13 @@ pub fn comparison<'a>(
     request: &Request<'a>,
     older: NamedFile<'a>,
     newer: NamedFile<'a>,
-    verdicts_only: bool,
+    only_verdicts: bool,
 ) -> Result<Answer, Error>
-    ensures { IfOk result (IsCompared verdicts_only (requested_by request.now) older.entry.bytes.now
+    ensures { IfOk result (IsCompared only_verdicts (requested_by request.now) older.entry.bytes.now
         newer.entry.bytes.now) }
 {
     let compared = compared_for(alloc, request, older, newer)?;
-    let (is_rejected, has_passed) = (rejects_one(&compared), has_passed(verdicts_only, &compared));
+    let (is_rejected, has_passed) = (rejects_one(&compared), has_passed(only_verdicts, &compared));
     let names = Names {
         file: request.shown_name(),
         expectations: None,
