@@ -51,35 +51,21 @@ fn group_name<'a>(agent: &'a str, group: Group) -> &'a str {
     }
 }
 
-fn add_groups(
-    alloc: Global,
-    found: &mut Findings,
-    agent: &str,
-    older: Group,
-    newer: Group,
-) -> fmt::Result {
-    if is_same_group(older, newer) {
-        return Ok(());
-    }
-    let (old, new) = (group_name(agent, older), group_name(agent, newer));
-    let message = message(alloc, format_args!("crawler {agent}: group {old} -> {new}"));
+/// Adds another group, and another delay.
+fn add_group(alloc: Global, found: &mut Findings, compared: &Compared<'_>) -> fmt::Result {
+    let (agent, older, newer) = (compared.agent, &compared.older, &compared.newer);
     let subject = Subject(None, Some(agent), None);
-    add(alloc, found, Level::Note, subject, "group", message)
-}
-
-fn add_delays(
-    alloc: Global,
-    found: &mut Findings,
-    agent: &str,
-    older: Option<u64>,
-    newer: Option<u64>,
-) -> fmt::Result {
-    if older == newer {
+    if !is_same_group(older.group, newer.group) {
+        let old = group_name(agent, older.group);
+        let new = group_name(agent, newer.group);
+        let message = message(alloc, format_args!("crawler {agent}: group {old} -> {new}"));
+        add(alloc, found, Level::Note, subject, "group", message)?;
+    }
+    if older.delay == newer.delay {
         return Ok(());
     }
-    let (old, new) = (DelayOrNone(older), DelayOrNone(newer));
+    let (old, new) = (DelayOrNone(older.delay), DelayOrNone(newer.delay));
     let message = message(alloc, format_args!("crawler {agent}: delay {old} -> {new}"));
-    let subject = Subject(None, Some(agent), None);
     add(alloc, found, Level::Note, subject, "delay", message)
 }
 
@@ -369,10 +355,7 @@ fn add_section(
             add_rejection(alloc, found, agent, true, newer.rejected)
         }
         _ if is_rejected(compared) => Ok(()),
-        Section::Groups => {
-            add_groups(alloc, found, agent, older.group, newer.group)?;
-            add_delays(alloc, found, agent, older.delay, newer.delay)
-        }
+        Section::Groups => add_group(alloc, found, compared),
         Section::Rules => {
             add_rules(alloc, found, agent, false, &compared.rules.removed)?;
             add_rules(alloc, found, agent, true, &compared.rules.added)

@@ -36,7 +36,7 @@ pub fn message<M: fmt::Display + Drop>(alloc: Global, text: M) -> Result<Line, f
     Ok(message)
 }
 
-fn sanitized(alloc: Global, bytes: &[u8]) -> Result<String, AllocError> {
+pub fn sanitized(alloc: Global, bytes: &[u8]) -> Result<String, AllocError> {
     let mut text = String::new(alloc);
     push_sanitized(&mut text, bytes)?;
     Ok(text)

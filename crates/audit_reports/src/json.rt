@@ -4,14 +4,13 @@ ghost use Rattle.safe_output.specs.Text.{IsReport};
 
 use crate::object::Object;
 use audit_core::audit::{AgentAudit, Audit, Verdict};
-use audit_core::findings::{Finding, warnings_found};
+use audit_core::findings::{Finding, sanitized, warnings_found};
 use audit_core::group::{AtVendor, Group};
 use audit_core::rows::{comment_of, field_text, membership_word};
 use audit_core::sitemaps::sitemaps_of;
 use audit_core::texts::may_fetch;
 use rfc9309::conformance::Conformance;
 use safe_output::report::Report;
-use safe_output::sanitize::push_sanitized;
 use serde_json::Value;
 use std::alloc::{AllocError, Global};
 use std::fmt;
@@ -33,9 +32,7 @@ pub(crate) fn list_json<T: Json>(alloc: Global, items: &[T]) -> Result<Value, Al
 }
 
 fn sanitized_json(alloc: Global, bytes: &[u8]) -> Result<Value, AllocError> {
-    let mut text = String::new(alloc);
-    push_sanitized(&mut text, bytes)?;
-    Ok(Value::String(text))
+    Ok(Value::String(sanitized(alloc, bytes)?))
 }
 
 fn optional_json(alloc: Global, text: Option<&str>) -> Result<Value, AllocError> {
@@ -182,16 +179,18 @@ fn audit_json(
     audit: &Audit<'_>,
     found: &[Finding],
 ) -> Result<Value, AllocError> {
-    let has_syntax = Value::Bool(audit.syntax.has_syntax());
-    let has_verdicts = Value::Bool(audit.syntax.has_verdicts());
+    let syntax = audit.syntax;
     let sitemaps = sitemaps_of(alloc, &audit.labels)?;
     let object = Object::new(alloc)
         .with("agents", list_json(alloc, &audit.agents))?
         .with("findings", list_json(alloc, found))?
-        .with("has_rfc_9309_syntax", Ok(has_syntax))?
-        .with("has_rfc_9309_verdicts", Ok(has_verdicts))?
+        .with("has_rfc_9309_syntax", Ok(Value::Bool(syntax.has_syntax())))?
+        .with(
+            "has_rfc_9309_verdicts",
+            Ok(Value::Bool(syntax.has_verdicts())),
+        )?
         .with("lines", rows_json(alloc, has_rows, &audit.labels))?
-        .with("rfc_9309_line", Ok(other_line_json(audit.syntax)))?
+        .with("rfc_9309_line", Ok(other_line_json(syntax)))?
         .with("sitemaps", list_json(alloc, &sitemaps))?;
     Ok(object.value())
 }
