@@ -95,7 +95,7 @@ PHRASES = {
     "long": "a pattern with $ longer than 4,096 bytes isn't supported; shorten it",
     "token": "a crawler's name is a product token without a version, such as Googlebot",
     "url": "this is neither a path that starts with / nor a valid http:// or https:// URL",
-    "word": "this is neither a path that starts with / nor a URL; for a crawler, write --agent NAME, for a file of URLs --urls FILE, for a level --strict=LEVEL",
+    "word": "this is neither a path that starts with / nor a URL; for a crawler, write --agent NAME, for a file of URLs --urls-from FILE, for a level --strict=LEVEL",
     "segment": "URL has a . or .. segment or a #, which crawlers resolve or drop; write the path that they ask for",
     "space": "white space in a URL; write it as %20, and another URL or a comment on a line of its own",
     "usage": "usage: robots_audit [OPTIONS] FILE [URL]..",
@@ -147,12 +147,12 @@ for row in ALL_WARNINGS:
 
 FORMATS = re.findall(r'"(\w+)"', re.search(r"const NAMES: [^=]*= &\[(.*?)\];", (CRATES / "audit_core/src/request.rt").read_text(), re.S)[1])
 OF_A_URL = {"url-not-normal"}
-OF_A_CRAWLER = {"vendor-group", "ignores-star"}
+OF_A_CRAWLER = {"vendor-group", "ignored-star"}
 OF_GROUP = {"vendor-group"}
 FIELDS = ("User-agent", "Allow", "Disallow", "Sitemap", "Crawl-delay")
-OF_RULES = {"replaces-star"}
-OF_SIZE = {"two-delays", "repeated-rule"}
-OF_CLOSED = {"closes-everything", "closes-home-page"}
+OF_RULES = {"group-without-star-rules"}
+OF_SIZE = {"repeated-delay", "repeated-rule"}
+OF_CLOSED = {"closed-site", "closed-home-page"}
 OF_A_LINE = {"allowed-and-disallowed", "empty-disallow", "sitemap-denied", "repeated-sitemap"}
 NEEDLESS = ["never", "nothing", "allowed", "covered"]  # in the order of the messages of `needless-rule`
 WORDS = {"space", "comma", "tag", "invisible", "=", "??", "nothing"}  # each in one message of a name, or in an earlier one than in others
@@ -350,9 +350,9 @@ def json_of(case):
             ignored_by = IGNORING if ", ignored" in more else []
             own = {key: int(number) for key, number in re.findall(r", (delay|rejected) (\d+)", more)}
             agents.append({
-                "agent": name, "delay": own.get("delay"), "group": {"ignored_by": ignored_by, "kind": group, "line": place and int(place)},
-                "may_fetch": None if fetch == "null" else fetch, "rejected": own.get("rejected"), "rules": int(rules),
-                "vendor": (re.search(r", vendor (\w+)", more) or ["", "same"])[1], "verdicts": [],
+                "agent": name, "delay_microseconds": own.get("delay"), "group": {"ignored_by": ignored_by, "kind": group, "line": place and int(place)},
+                "may_fetch": None if fetch == "null" else fetch, "rejected_line": own.get("rejected"), "rules": int(rules),
+                "vendor_group": (re.search(r", vendor (\w+)", more) or ["", "same"])[1], "verdicts": [],
             })  # fmt: skip
         elif kind in ("allow", "deny"):
             agents[-1]["verdicts"].append({"allowed": kind == "allow", "line": None if first == "-" else int(first), "url": value})
@@ -360,14 +360,18 @@ def json_of(case):
             sitemaps.append(line.removeprefix("sitemap "))
         elif line != "no rows":
             shown = int(value) if first == "crawl-delay" else value
-            rows.append({"comment": None, "kind": first, "membership": kind, "number": len(rows) + 1, "value": shown})
+            rows.append({"comment": None, "field": first, "line": len(rows) + 1, "membership": kind, "value": shown})
     standard, _, place = case.get("rfc", "").rpartition(" ")
-    has_verdicts, place = place == "verdicts" or None, int(place) if place.isdecimal() else None
-    warnings = map(parts_of, warnings_of(case))
+    has_verdicts, place = place == "verdicts", int(place) if place.isdecimal() else None
+    findings = []
+    for line, name, level, text in map(parts_of, warnings_of(case)):
+        about = dict(re.findall("^(crawler|URL) '(.*?)': ", text))
+        own = {"level": level, "line": int(line) if line else None, "name": name, "text": text}
+        findings.append({"agent": about.get("crawler"), **own, "url": about.get("URL")})
     report = {
-        "agents": agents, "has_rfc_9309_syntax": has_verdicts or standard == "syntax" or None, "has_rfc_9309_verdicts": has_verdicts,
+        "format": 1, "agents": agents, "findings": findings,
+        "has_rfc_9309_syntax": has_verdicts or standard == "syntax", "has_rfc_9309_verdicts": has_verdicts,
         "lines": rows if rows or "no rows" in case["json"] else None, "rfc_9309_line": place, "sitemaps": sitemaps,
-        "warnings": [{"level": level, "line": int(line) if line else None, "name": name, "text": text} for line, name, level, text in warnings],
     }  # fmt: skip
     return json.dumps(report, ensure_ascii=False, separators=(",", ":")).encode() + b"\n"
 

@@ -20,7 +20,7 @@ VERDICT_INPUT = (CRATES / "robots_verdict/stdin").read_bytes()
 AUDIT_INPUT = (CRATES / "robots_audit/stdin").read_bytes()
 AUDIT_ARGS = (CRATES / "robots_audit/args").read_text().splitlines()
 VERDICT = Result(0, (CRATES / "robots_verdict/stdout").read_bytes(), "")
-AUDIT_WARNINGS = warning_lines(["nul-ends-line", "5 several-values space", "6 rule-not-utf-8", "11 noindex-line", "2 rule-before-user-agent"], agent="Ferris")
+AUDIT_WARNINGS = warning_lines(["nul-in-line", "5 several-values space", "6 rule-not-utf-8", "11 noindex-line", "2 rule-before-user-agent"], agent="Ferris")
 AUDIT = Result(1, (CRATES / "robots_audit/stdout").read_bytes(), AUDIT_WARNINGS)
 URLS = ["https://example.com/b", "/a%20b/c"]
 OLDER = ROOT / "examples/robots.txt"
@@ -108,13 +108,13 @@ AUDIT_RUNS = {
     "a named file": ["--agent", "Ferris", CRATES / "robots_audit/stdin", *URLS],
     "each agent": ["-", *URLS],
     "agents by name": ["--agent", "Ferris", "--agent", "other", "-", *URLS],
-    "URLs in a file": ["--urls", LIST, "--denied", "--agent", "Ferris", "-", *URLS],
+    "URLs in a file": ["--urls-from", LIST, "--denied", "--agent", "Ferris", "-", *URLS],
     "a page about each agent": ["--html", "-", *URLS],
     "a comparison": ["--compare", OLDER, "-", *URLS],
     "a comparison as JSON": ["--compare", OLDER, "--json", "-", *URLS],
     "a comparison as annotations": ["--compare", OLDER, "--format", "github", "-", *URLS],
     "a comparison as a page": ["--compare", OLDER, "--format", "html", "-", *URLS],
-    "a comparison with URLs in a file": ["--compare", OLDER, "--urls", LIST, "--agent", "Ferris", "-", *URLS],
+    "a comparison with URLs in a file": ["--compare", OLDER, "--urls-from", LIST, "--agent", "Ferris", "-", *URLS],
     "expectations": ["--expect", EXPECTED, "-"],
     "expectations as JSON": ["--expect", EXPECTED, "--json", "-"],
     "expectations as annotations": ["--expect", EXPECTED, "--format", "github", "-"],
@@ -176,7 +176,7 @@ def test_robots_audit_reports_a_failed_read(failing_heap, long_file, is_named):
 
 
 OTHER_FILES = {
-    "URLs": (["--urls"], b"/a\n" * 50_000),
+    "URLs": (["--urls-from"], b"/a\n" * 50_000),
     "expectations": (["--expect"], b"allow Ferris /\n" + b"#" * 200_000),
     "an older version": (["--compare"], AUDIT_INPUT + b"#" * 200_000),
 }
@@ -380,7 +380,7 @@ LARGE = b"#" * 2**26
 OF_LARGE_FILES = {
     "robots.txt": (["-q", "--agent=a", "LARGE", "/b"], b"Disallow: /\n", DENIED),
     "standard input": (["-q", "--agent=a", "-", "/b"], b"Disallow: /\n", DENIED),
-    "URLs": (["-q", "SMALL", "--agent=a", "--urls", "LARGE"], b"/b\n", DENIED + OTHER + "0 allowed, 1 denied\n"),
+    "URLs": (["-q", "SMALL", "--agent=a", "--urls-from", "LARGE"], b"/b\n", DENIED + OTHER + "0 allowed, 1 denied\n"),
     "expectations": (["SMALL", "--expect", "LARGE"], b"allow a /b\n", "LARGE:1: a must be allowed /b, but line 1 denies it\n"),
     "an older version": (["SMALL", "--compare", "LARGE", "--agent=a", "/b"], b"Allow: /\n", "crawler a /b: allow 1 -> deny 1, closed\n"),
 }

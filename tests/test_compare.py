@@ -91,16 +91,16 @@ def test_urls_in_a_file(tmp_path):
 crawler Googlebot /cart: allow -> deny 6, closed
 crawler Googlebot https://shop.example/search/milk: deny 2 -> allow, opened
 """
-    assert reported(compare(tmp_path, OLD, NEW, "--urls", "list.txt", "--agent=Googlebot", "/search/tea")) == (1, GOOGLEBOT + lines, "")
+    assert reported(compare(tmp_path, OLD, NEW, "--urls-from", "list.txt", "--agent=Googlebot", "/search/tea")) == (1, GOOGLEBOT + lines, "")
 
 
 def test_urls_from_standard_input(tmp_path):
     (tmp_path / "new.txt").write_bytes(NEW)
-    result = compare(tmp_path, OLD, b"/search/tea\n", "--urls", "-", "--agent=GPTBot", file="new.txt")
+    result = compare(tmp_path, OLD, b"/search/tea\n", "--urls-from", "-", "--agent=GPTBot", file="new.txt")
     assert reported(result, new="new.txt") == (0, OTHERS, "")
 
 
-@pytest.mark.parametrize("words", [["--compare", "old.txt", "--urls", "-", "-"], ["--compare", "-", "--urls", "-", "new.txt"], ["--compare", "-", "--urls", "list.txt", "-"]])
+@pytest.mark.parametrize("words", [["--compare", "old.txt", "--urls-from", "-", "-"], ["--compare", "-", "--urls-from", "-", "new.txt"], ["--compare", "-", "--urls-from", "list.txt", "-"]])
 def test_standard_input_is_read_once(tmp_path, words):
     for name in ("old.txt", "new.txt", "list.txt"):
         (tmp_path / name).write_bytes(b"/a\n")
@@ -177,15 +177,16 @@ def test_every_url(tmp_path, old, new, text, level):
     assert (result.status, result.out.splitlines()[-1]) == (1, line)
     (found,) = [it for it in json.loads(for_ferris(tmp_path, old, new, "--json").out)["findings"] if it["text"] == line]
     assert (found["name"], found["level"]) == ("same-verdicts" if text.startswith("no") else "verdicts", level)
+    assert (found["agent"], found["url"]) == ("Ferris", (re.search("for example (.*?): ", text) or [None, None])[1])
 
 
 def test_verdicts_alone_decide_the_status(tmp_path):
     for old, new, text, _ in EVERY_URL.values():
-        assert for_ferris(tmp_path, old, new, "--verdicts").status == (not text.startswith("no"))
-    assert for_ferris(tmp_path, OLD, OLD + b"Sitemap: /s\nUser-agent: Ferris\nAllow: /search/tea\nDisallow: /search\n", "--verdicts").status == 0
-    assert compare(tmp_path, OLD, NEW, "--verdicts").status == 1
-    assert for_ferris(tmp_path, OLD, TOO_LONG, "--verdicts").status == 2
-    alone = run("robots_audit", ["--verdicts", "-"], OLD)
+        assert for_ferris(tmp_path, old, new, "--only-verdicts").status == (not text.startswith("no"))
+    assert for_ferris(tmp_path, OLD, OLD + b"Sitemap: /s\nUser-agent: Ferris\nAllow: /search/tea\nDisallow: /search\n", "--only-verdicts").status == 0
+    assert compare(tmp_path, OLD, NEW, "--only-verdicts").status == 1
+    assert for_ferris(tmp_path, OLD, TOO_LONG, "--only-verdicts").status == 2
+    alone = run("robots_audit", ["--only-verdicts", "-"], OLD)
     assert (alone.status, alone.out) == (2, "") and "--compare <OLD>" in alone.err
 
 
@@ -193,7 +194,7 @@ def test_verdicts_alone_decide_the_status(tmp_path):
 def test_a_rule_of_many_stars(tmp_path, stars, status, said):
     """A star at its end changes nothing. Of hundreds of stars that is found, of thousands it isn't."""
     rule = b"Disallow: /" + stars * b"a*" + b"b"
-    result = for_ferris(tmp_path, rule, rule + b"*", "--verdicts")
+    result = for_ferris(tmp_path, rule, rule + b"*", "--only-verdicts")
     assert (result.status, result.out.splitlines()[-1]) == (status, f"crawler Ferris: {said}")
 
 
@@ -203,7 +204,7 @@ def test_kinds_in_turn(tmp_path):
         b"".join(b"%s: /*%c1*%c2%s\n" % (b"Allow" if letter % 2 else b"Disallow", letter, letter, end) for letter in b"abcdefghijklmnopqrstuvwx")
         for end in (b"", b"*")
     )
-    result = for_ferris(tmp_path, old, new, "--verdicts")
+    result = for_ferris(tmp_path, old, new, "--only-verdicts")
     assert (result.status, result.out.splitlines()[-1]) == (0, "crawler Ferris: no URL's verdict changes")
 
 

@@ -167,14 +167,15 @@ def test_documents_name_functions_and_lemmas_that_exist(name):
 def test_documents_name_warnings_and_options_that_exist(name):
     """Others are field names, Debian's packages, and options of pytest and bench/compare.py."""
     names = set(re.findall(r"`(?!python3-)([a-z0-9]+(?:-[a-z0-9]+)+)`", DOCUMENTS[name]))
-    assert names <= {*WARNINGS, *FINDINGS, "allow-all", "by-rules", "crawl-delay", "deny-all", "site-map", "user-agent"}
+    assert names <= {*WARNINGS, *FINDINGS, "allow-all", "crawl-delay", "deny-all", "depends-on-rules", "only-what-lines-allow", "site-map", "user-agent"}
     options = set(re.findall(r"`(?:robots_audit )?(--[a-z-]+)", DOCUMENTS[name])) - {"--lf", "--google", "--results"}
     assert options <= set(re.findall(r"`(--[a-z-]+)", "".join(row[0] for row in tables(PROGRAMS))))
 
 
 def test_documents_are_short():
     limits = {"README.md": 7_000, "bindings/python/README.md": 6_000, "bindings/rust/README.md": 5_000}
-    assert all(len(PAGES[name].encode()) <= limit for name, limit in limits.items()) and sum(len(text.encode()) for text in PAGES.values()) <= 100_000
+    assert all(len(PAGES[name].encode()) <= limit for name, limit in limits.items())
+    assert sum(len(text.encode()) for name, text in PAGES.items() if name != "CHANGELOG.md") <= 99_100
 
 
 @pytest.mark.parametrize("name", PAGES)

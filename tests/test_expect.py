@@ -58,7 +58,8 @@ def test_any_crawler(tmp_path, robots, text, names, why):
     assert (names_in(told), lines[len(told) :]) == (names[:5], others if names else ["1 expectation holds\n"])
     assert not names or told[0].endswith(f", but {why}\n")
     findings = json.loads(found.out)["findings"]
-    assert (names_in(it["text"] for it in findings), {it["line"] for it in findings} <= {2}) == (names, True)
+    assert names_in(it["text"] for it in findings) == [it["agent"] for it in findings] == names
+    assert {(it["line"], it["url"]) for it in findings} <= {(2, text.split()[2].decode())}
     assert result.status == found.status == (1 if names else 0)
 
 
@@ -83,7 +84,7 @@ def test_an_empty_file(tmp_path):
     assert outcome(check(tmp_path, b"allow GPTBot /tea", file="robots.txt")) == (0, "1 expectation holds\n", "")
 
 
-@pytest.mark.parametrize("more", ["/a", "--agent=Ferris", "--urls=list.txt", "--denied", "-q", "--html", "--date=x", "--color=auto", "--strict", "--needless", "--only=missing-slash", "--ignore=missing-slash"])
+@pytest.mark.parametrize("more", ["/a", "--agent=Ferris", "--urls-from=list.txt", "--denied", "-q", "--html", "--date=x", "--color=auto", "--strict", "--needless", "--only=missing-slash", "--ignore=missing-slash"])
 def test_other_arguments_conflict(tmp_path, more):
     result = check(tmp_path, b"allow Googlebot /", more)
     assert (result.status, result.out) == (2, "") and "cannot be used with" in result.err

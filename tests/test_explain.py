@@ -81,7 +81,7 @@ def test_each_warning_with_a_proved_sentence_is_stated():
 
 
 @pytest.mark.parametrize("option", [["--list-warnings"], ["--explain", "missing-slash"]], ids=["list", "explain"])
-@pytest.mark.parametrize("more", ["robots.txt", "-q", "--json", "--format=text", "--html", "--date=x", "--agent=x", "--urls=x", "--denied", "--color=auto", "--strict", "--needless", "--only=x", "--ignore=x", "--expect=x", "--compare=x"])
+@pytest.mark.parametrize("more", ["robots.txt", "-q", "--json", "--format=text", "--html", "--date=x", "--agent=x", "--urls-from=x", "--denied", "--color=auto", "--strict", "--needless", "--only=x", "--ignore=x", "--expect=x", "--compare=x"])
 def test_other_arguments_conflict(option, more):
     result = run("robots_audit", [*option, more])
     assert (result.status, result.out) == (2, "") and "cannot be used with" in result.err

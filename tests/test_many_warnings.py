@@ -21,7 +21,7 @@ def test_the_file_is_named(tmp_path):
     assert result.err == f"{listed}a%07.txt: warning: and 1 more [allowed-and-disallowed]\na%07.txt: 21 warnings\n"
 
 
-@pytest.mark.parametrize("more", [[], ["--only=needless-rule"], ["--ignore=one-line"], ["--denied", "/x"]])
+@pytest.mark.parametrize("more", [[], ["--only=needless-rule"], ["--ignore=several-directives"], ["--denied", "/x"]])
 def test_needless_rules_are_one_message(more):
     counts = "50 notes in 1 message (rules for crawlers other than Other are only checked for being needless)"
     assert audit(NEEDLESS, "-q", "--agent=Other", "--needless", *more).err == f"robots.txt:3: note: {TOGETHER} [needless-rule]\nrobots.txt: {counts}\n"
@@ -40,7 +40,7 @@ def test_needless_rules_are_one_row_of_a_page():
 
 def test_a_file_of_a_hundred_closed_groups():
     err = audit("".join(f"User-agent: bot-{chr(97 + n // 10)}{chr(97 + n % 10)}\nDisallow: /\n\n" for n in range(100)), "-q").err.splitlines()
-    closed = [line for line in err if line.endswith("[closes-everything]")]
+    closed = [line for line in err if line.endswith("[closed-site]")]
     assert len(closed) == 1 and closed[0].startswith("robots.txt:2: note: ") and " (also for other crawlers, in lines 5, 8, 11 and 96 more) [" in closed[0]
     assert err[-1] == "robots.txt: 100 notes in 1 message"
 

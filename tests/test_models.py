@@ -109,7 +109,7 @@ def of_closed(agents, named, own, sitemaps):
 
     let_in = any(it in low and site(it) < 1 for it in LARGE)
     home = lambda it: closing(own(it), *[lambda path: matches(path, "/")] * 2) if is_major(it, False) and site(it) == 0 else None
-    for name, of in ("closes-everything", site), ("closes-home-page", home):
+    for name, of in ("closed-site", site), ("closed-home-page", home):
         found = {}
         for agent in agents:
             found.setdefault(of(agent), []).append(agent)
@@ -150,7 +150,7 @@ def of_groups(text, args):
         group, is_other = at_vendor(agent, named) or ("", False)
         if is_other:
             name = f" '{KNOWN[agent.lower()][0]}'" * (len(agents) > 1)
-            yield f"vendor-group{name} {KNOWN[agent.lower()][1]}" if group else f"ignores-star{name}"
+            yield f"vendor-group{name} {KNOWN[agent.lower()][1]}" if group else f"ignored-star{name}"
 
 
 def octets(text):
@@ -189,7 +189,7 @@ def of_ignored(line):
 def of_lines(text, args):
     for no, line, it, kind, value in parsed(text):
         after = line.split("#")[0].partition(":")[2]
-        found = [re.search(INNER, after) and "one-line", kind == "x" and of_ignored(line)]
+        found = [re.search(INNER, after) and "several-directives", kind == "x" and of_ignored(line)]
         if kind != "x":
             found += [it[1].lower() not in USUAL and "nonstandard-field", ":" not in it[2] and "missing-colon"]
             found += [kind != "c" and ":" in it[2] and it[3].strip(" \t") not in ("", value) and "space-around-value"]
@@ -210,7 +210,7 @@ def group_file(r):
         value = {"User-agent": r.choice(some), "Sitemap": f"https://a.b{r.choice(['/feed', '/m?n=1', '', '/', '/s'])}", "Crawl-delay": "1"}
         lines += [f"{kind}: {value.get(kind) or r.choice(paths)}"] * (kind != "User-agent" or lines[0] != "Disallow: /")
     two = [word for it in r.sample([*some, *AGENTS], 2) if "/" not in it for word in ("--agent", it)]
-    return "\n".join([*lines, ""]), r.choice([[], [], two, two[:2], ["--known"]])
+    return "\n".join([*lines, ""]), r.choice([[], [], two, two[:2], ["--known-crawlers"]])
 
 
 FIELDS = [*NAMES, *map(str.title, NAMES), *IGNORED, "", "Disallow\u200b", "User-agent\u200b", "Host", "Host", "\xe9llow"]
@@ -239,7 +239,7 @@ def check(make, model):
     wanted = [sorted(map(parts_of, model(*file))) for file in files]
     names = {name for some in wanted for _, name, *_ in some}
     for (text, args), some in zip(files, wanted):
-        warnings = json.loads(run("robots_audit", ["--json", "-", *args], text.encode("utf-8", "surrogateescape")).out)["warnings"]
+        warnings = json.loads(run("robots_audit", ["--json", "-", *args], text.encode("utf-8", "surrogateescape")).out)["findings"]
         assert some == sorted((str(it["line"] or ""), it["name"], it["level"], it["text"]) for it in warnings if it["name"] in names), f"{args}\n{text}"
 
 

@@ -28,7 +28,7 @@ def report_on(file, *options):
 def found_in(lines):
     """The numbers of the lines that are reported."""
     file = lines if isinstance(lines, bytes) else "\n".join(lines).encode()
-    return [it["line"] for it in report_on(file, "--needless", "--only", "needless-rule")["warnings"]]
+    return [it["line"] for it in report_on(file, "--needless", "--only", "needless-rule")["findings"]]
 
 
 def verdicts_on(lines):
@@ -51,7 +51,7 @@ def results_of(file):
     """The sitemaps; and each crawler's delay, rejection and verdicts."""
     report = report_on(file)
     agents = [
-        (it["delay"], it["rejected"] is None, [verdict["allowed"] for verdict in it["verdicts"]]) for it in report["agents"]
+        (it["delay_microseconds"], it["rejected_line"] is None, [verdict["allowed"] for verdict in it["verdicts"]]) for it in report["agents"]
     ]
     return report["sitemaps"], agents
 

@@ -162,11 +162,11 @@ def rows_of(found):
     """The rows that the lines and the warnings of a report have."""
     rows = []
     for line in found["lines"]:
-        value = delay(line["value"]) if line["kind"] == "crawl-delay" else line["value"] or ""
+        value = delay(line["value"]) if line["field"] == "crawl-delay" else line["value"] or ""
         value += f"  {line['comment']}" if line["comment"] else ""
-        cells = [str(line["number"]), line["membership"], line["kind"], value]
-        rows.append(({"id": f"L{line['number']}", "class": line["membership"]}, cells))
-        rows += [({"class": it["level"]}, [words(it)]) for it in in_order(found["warnings"]) if it["line"] == line["number"]]
+        cells = [str(line["line"]), line["membership"], line["field"], value]
+        rows.append(({"id": f"L{line['line']}", "class": line["membership"]}, cells))
+        rows += [({"class": it["level"]}, [words(it)]) for it in in_order(found["findings"]) if it["line"] == line["line"]]
     return rows
 
 
@@ -213,7 +213,7 @@ CRAWLERS = """
 <tr><th scope="row"><code dir="ltr">Long</code></th><td>Long, <a href="#L4">line 4</a>; rejected: <a href="#L5">line 5</a></td>
 <td>1</td><td>none</td><td class="some">not decided</td></tr>
 <tr><th scope="row"><code dir="ltr">B</code></th><td>* (B has no group of its own), <a href="#L1">line 1</a></td>
-<td>1</td><td>2.5 s</td><td class="by-rules">what its rules allow</td>
+<td>1</td><td>2.5 s</td><td class="depends-on-rules">what its rules allow</td>
 <td class="denied"><code dir="ltr">/b</code>denied, <a href="#L2">line 2</a></td></tr></tbody></table></div><h2>File</h2>
 """
 
@@ -241,7 +241,7 @@ def test_page_has_the_lines_and_warnings_of_the_json():
     elements, found = elements_of(*FERRIS, *URLS), audit(*FERRIS, *URLS)
     rows = rows_of(found)
     assert len(rows) > len(found["lines"]) and [row for row in children(elements, "tr") if row[0]] == rows
-    assert texts(elements, "li") == [*joined(found["warnings"]), *found["sitemaps"]]
+    assert texts(elements, "li") == [*joined(found["findings"]), *found["sitemaps"]]
 
 
 @pytest.mark.parametrize("file, sentence", [
@@ -307,7 +307,7 @@ def test_page_has_the_numbers_of_warnings():
     for file in (EXAMPLE, b"User-agent: *\nDisallow: a\nDisallow: b\nhello\n", b"hello\n", b"User-agent: *\nDisallow: /a"):
         listed = run("robots_audit", ["-"], file).err.splitlines()
         numbers = listed[-1].removeprefix("robots.txt: ").split(" in ")[0].replace(", ", "") if listed else "none"
-        assert entries_of("-", file=file)["Findings"] == numbers + "".join(joined(audit("-", file=file)["warnings"]))
+        assert entries_of("-", file=file)["Findings"] == numbers + "".join(joined(audit("-", file=file)["findings"]))
 
 
 @pytest.mark.parametrize("agents", [["-"], FERRIS], ids=["all crawlers", "one crawler"])

@@ -99,7 +99,7 @@ def test_results():
 
 @pytest.mark.parametrize("url", ["/b{0}", "/b[ok](https://evil.example)", "/b\\[ok](1)", "/b{{}}\\\\[]\u00fc\u20ac\U0001f600"])
 def test_texts_are_neither_placeholders_nor_links(url):
-    assert list(results(log("--agent=Ferris", "-", url, "--only=one-line", status=1))) == [("error", "denied", f"Ferris may not fetch {url}", "robots.txt", 3)]
+    assert list(results(log("--agent=Ferris", "-", url, "--only=several-directives", status=1))) == [("error", "denied", f"Ferris may not fetch {url}", "robots.txt", 3)]
 
 
 def test_rejected_file():

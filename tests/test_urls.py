@@ -1,4 +1,4 @@
-"""`robots_audit --urls` and `--denied`: which URLs are checked and listed, and how many are allowed and denied."""
+"""`robots_audit --urls-from` and `--denied`: which URLs are checked and listed, and how many are allowed and denied."""
 
 import json
 
@@ -34,7 +34,7 @@ def report(text, words="syntax 9"):
 def check(folder, text, agent, *args, robots=ROBOTS):
     """The result for a text of URLs, in a file `list.txt`."""
     (folder / "list.txt").write_bytes(text)
-    return run("robots_audit", ["-q", "--urls", "list.txt", "--agent", agent, "-", *args], robots, cwd=folder)
+    return run("robots_audit", ["-q", "--urls-from", "list.txt", "--agent", agent, "-", *args], robots, cwd=folder)
 
 
 @pytest.mark.parametrize("text, lines", LISTED.values(), ids=LISTED)
@@ -91,7 +91,7 @@ def test_urls_with_a_comma(tmp_path):
 
 def test_urls_from_standard_input(tmp_path):
     (tmp_path / "robots.txt").write_bytes(ROBOTS)
-    result = run("robots_audit", ["-q", "robots.txt", "--urls", "-", "--agent", "GPTBot"], b"/a\n/b\n", cwd=tmp_path)
+    result = run("robots_audit", ["-q", "robots.txt", "--urls-from", "-", "--agent", "GPTBot"], b"/a\n/b\n", cwd=tmp_path)
     assert (result.status, result.out) == (1, report("group: GPTBot\ndelay: none\nallow 6 /a\ndeny 5 /b\n1 allowed, 1 denied\n"))
 
 
@@ -117,7 +117,7 @@ UNREAD = {
 }
 
 
-@pytest.mark.parametrize("args", [["NAME"], ["--urls", "NAME", "-"], ["--expect", "NAME", "-"], ["--compare", "NAME", "-"]], ids=["FILE", "--urls", "--expect", "--compare"])
+@pytest.mark.parametrize("args", [["NAME"], ["--urls-from", "NAME", "-"], ["--expect", "NAME", "-"], ["--compare", "NAME", "-"]], ids=["FILE", "--urls-from", "--expect", "--compare"])
 @pytest.mark.parametrize("name, shown", UNREAD.values(), ids=UNREAD)
 def test_file_that_cannot_be_read(tmp_path, args, name, shown):
     result = run("robots_audit", [name if word == "NAME" else word for word in args], ROBOTS, cwd=tmp_path)

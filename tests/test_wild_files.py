@@ -16,7 +16,7 @@ def warnings(file, for_all):
     row = FILES[file]
     crawler = [] if for_all else ["--agent", row.get("agent", "Googlebot")]
     urls = [f"https://example.com{path}" for path in row.get("urls", ["/"])]
-    return json.loads(run("robots_audit", ["--json", *crawler, WILD / file, *urls]).out)["warnings"]
+    return json.loads(run("robots_audit", ["--json", *crawler, WILD / file, *urls]).out)["findings"]
 
 
 @each_file

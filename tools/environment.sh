@@ -1,8 +1,8 @@
 # For `./check` and `./test`: finds the tools that the tests need, and installs what is missing, as root on Debian by apt-get; else
 # Python's packages from PyPI, into a virtual environment outside the repository. Sets `python`.
 venv=${XDG_CACHE_HOME:-$HOME/.cache}/texting_robots/venv
-needed='pytest tomllib xdist' for_python='aiohttp cffi distributed mypy pip scrapy setuptools wheel'
-packages=(gcc libc6-dev make mypy python3-{aiohttp,cffi,dev,distributed,pip,pytest,pytest-xdist,scrapy,setuptools,venv,wheel})
+needed='pytest tomllib xdist' for_python='aiohttp cffi distributed jsonschema mypy pip scrapy setuptools wheel'
+packages=(gcc libc6-dev make mypy python3-{aiohttp,cffi,dev,distributed,jsonschema,pip,pytest,pytest-xdist,scrapy,setuptools,venv,wheel})
 
 # Sets `python` to a Python that has these modules, if there is one beside a C compiler.
 find_tools() {

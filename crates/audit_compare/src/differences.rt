@@ -8,7 +8,7 @@ use crate::compared::{Compared, UrlChange, are_none};
 use crate::every_url::{Example, Verdicts, is_same};
 use crate::vendor::is_same_at_vendor;
 use audit_core::audit::AgentAudit;
-use audit_core::findings::{Findings, add, message};
+use audit_core::findings::{Findings, Subject, add, message};
 use audit_core::group::{AtVendor, Group};
 use audit_core::reach::Reach;
 use audit_core::texts::{DelayOrNone, Fetched, Rejected};
@@ -51,34 +51,22 @@ fn group_name<'a>(agent: &'a str, group: Group) -> &'a str {
     }
 }
 
-fn add_groups(
-    alloc: Global,
-    found: &mut Findings,
-    agent: &str,
-    older: Group,
-    newer: Group,
-) -> fmt::Result {
-    if is_same_group(older, newer) {
+/// Adds another group, and another delay.
+fn add_group(alloc: Global, found: &mut Findings, compared: &Compared<'_>) -> fmt::Result {
+    let (agent, older, newer) = (compared.agent, &compared.older, &compared.newer);
+    let subject = Subject(None, Some(agent), None);
+    if !is_same_group(older.group, newer.group) {
+        let old = group_name(agent, older.group);
+        let new = group_name(agent, newer.group);
+        let message = message(alloc, format_args!("crawler {agent}: group {old} -> {new}"));
+        add(alloc, found, Level::Note, subject, "group", message)?;
+    }
+    if older.delay == newer.delay {
         return Ok(());
     }
-    let (old, new) = (group_name(agent, older), group_name(agent, newer));
-    let message = message(alloc, format_args!("crawler {agent}: group {old} -> {new}"));
-    add(alloc, found, Level::Note, None, "group", message)
-}
-
-fn add_delays(
-    alloc: Global,
-    found: &mut Findings,
-    agent: &str,
-    older: Option<u64>,
-    newer: Option<u64>,
-) -> fmt::Result {
-    if older == newer {
-        return Ok(());
-    }
-    let (old, new) = (DelayOrNone(older), DelayOrNone(newer));
+    let (old, new) = (DelayOrNone(older.delay), DelayOrNone(newer.delay));
     let message = message(alloc, format_args!("crawler {agent}: delay {old} -> {new}"));
-    add(alloc, found, Level::Note, None, "delay", message)
+    add(alloc, found, Level::Note, subject, "delay", message)
 }
 
 fn add_rules(
@@ -97,11 +85,12 @@ fn add_rules(
         let kind = if rule.is_allow { "Allow" } else { "Disallow" };
         let (pattern, number) = (rule.pattern.as_str(), rule.line);
         let line = if is_added { Some(number) } else { None };
+        let subject = Subject(line, Some(agent), None);
         let message = message(
             alloc,
             format_args!("crawler {agent}: {sign} {kind}: {pattern} (line {number})"),
         );
-        add(alloc, found, Level::Note, line, name, message)?;
+        add(alloc, found, Level::Note, subject, name, message)?;
     }
     Ok(())
 }
@@ -180,7 +169,8 @@ fn add_url(
         alloc,
         format_args!("crawler {agent} {url}: {old} -> {new}{effect}{vendors}"),
     );
-    add(alloc, found, level, newer.line, name, message)
+    let subject = Subject(newer.line, Some(agent), Some(url.as_bytes()));
+    add(alloc, found, level, subject, name, message)
 }
 
 pub(crate) fn is_rejected(compared: &Compared<'_>) -> bool
@@ -267,19 +257,21 @@ impl<'a> fmt::Display for Change<'a> {
 fn add_change(
     alloc: Global,
     found: &mut Findings,
+    agent: &str,
     newer: Reach,
     verdicts: &Verdicts,
     message: Result<Line, fmt::Error>,
 ) -> fmt::Result {
-    let (level, line, name) = match verdicts {
+    let (level, line, url, name) = match verdicts {
         Verdicts::Other(example) => {
-            let level = change_level(newer, example);
-            (level, example.newer.line, "verdicts")
+            let (level, path) = (change_level(newer, example), example.path.as_bytes());
+            (level, example.newer.line, Some(path), "verdicts")
         }
-        Verdicts::Same => (Level::Note, None, "same-verdicts"),
-        Verdicts::Undecided => (Level::Note, None, "undecided-verdicts"),
+        Verdicts::Same => (Level::Note, None, None, "same-verdicts"),
+        Verdicts::Undecided => (Level::Note, None, None, "undecided-verdicts"),
     };
-    add(alloc, found, level, line, name, message)
+    let subject = Subject(line, Some(agent), url);
+    add(alloc, found, level, subject, name, message)
 }
 
 /// Of the group that the vendor applies to the crawler: this one, if it is another than here.
@@ -296,18 +288,15 @@ fn add_at_vendor(alloc: Global, found: &mut Findings, compared: &Compared<'_>) -
     let Some(vendor) = &compared.vendor else {
         return Ok(());
     };
-    let change = Change {
-        reach: None,
-        verdicts: &vendor.verdicts,
-    };
+    let (agent, reach, verdicts) = (compared.agent, None, &vendor.verdicts);
+    let change = Change { reach, verdicts };
     let old = name_at_vendor(&compared.older, &vendor.older);
     let new = name_at_vendor(&compared.newer, &vendor.newer);
-    let agent = compared.agent;
     let message = message(
         alloc,
         format_args!("crawler {agent}, whose vendor applies the group {old} -> {new}: {change}"),
     );
-    add_change(alloc, found, Reach::Part, &vendor.verdicts, message)
+    add_change(alloc, found, agent, Reach::Part, verdicts, message)
 }
 
 /// Adds what becomes of the verdicts of all URLs, if something differs for the crawler.
@@ -322,13 +311,10 @@ fn add_verdicts(alloc: Global, found: &mut Findings, compared: &Compared<'_>) ->
         let was = Fetched(older.reach, &older.allows);
         Some((was, Fetched(newer.reach, &newer.allows)))
     };
-    let change = Change {
-        reach,
-        verdicts: &compared.verdicts,
-    };
-    let vendors = vendors_of(compared);
+    let (verdicts, vendors) = (&compared.verdicts, vendors_of(compared));
+    let change = Change { reach, verdicts };
     let message = message(alloc, format_args!("crawler {agent}: {change}{vendors}"));
-    add_change(alloc, found, newer.reach, &compared.verdicts, message)?;
+    add_change(alloc, found, agent, newer.reach, verdicts, message)?;
     add_at_vendor(alloc, found, compared)
 }
 
@@ -349,7 +335,8 @@ fn add_rejection(
     };
     let reason = Rejected { agent, line };
     let message = message(alloc, format_args!("the {version} file is {reason}"));
-    add(alloc, found, Level::Error, place, name, message)
+    let subject = Subject(place, Some(agent), None);
+    add(alloc, found, Level::Error, subject, name, message)
 }
 
 /// Adds what a section says of a crawler.
@@ -366,10 +353,7 @@ fn add_section(
             add_rejection(alloc, found, agent, true, newer.rejected)
         }
         _ if is_rejected(compared) => Ok(()),
-        Section::Groups => {
-            add_groups(alloc, found, agent, older.group, newer.group)?;
-            add_delays(alloc, found, agent, older.delay, newer.delay)
-        }
+        Section::Groups => add_group(alloc, found, compared),
         Section::Rules => {
             add_rules(alloc, found, agent, false, &compared.rules.removed)?;
             add_rules(alloc, found, agent, true, &compared.rules.added)

@@ -2,7 +2,7 @@
 use crate::compare::{Comparison, Side};
 use crate::compared::Compared;
 use crate::differences::{Section, add_crawler, is_unchanged, unchanged_words};
-use audit_core::findings::{Findings, add, message};
+use audit_core::findings::{Findings, Subject, add, message};
 use safe_output::level::Level;
 use safe_output::report::{Report, Untrusted};
 use std::alloc::Global;
@@ -29,9 +29,10 @@ fn add_sitemaps(
     sitemaps: &[&[u8]],
 ) -> fmt::Result {
     for sitemap in sitemaps {
+        let subject = Subject(None, None, Some(*sitemap));
         let sitemap = Untrusted(*sitemap);
         let message = message(alloc, format_args!("sitemap {what}: {sitemap}"));
-        add(alloc, found, Level::Note, None, name, message)?;
+        add(alloc, found, Level::Note, subject, name, message)?;
     }
     Ok(())
 }
@@ -63,7 +64,8 @@ fn add_emptied(
         return Ok(());
     }
     let message = message(alloc, "no directive of the new file is read");
-    add(alloc, found, Level::Warning, None, "empty", message)
+    let subject = Subject(None, None, None);
+    add(alloc, found, Level::Warning, subject, "empty", message)
 }
 
 /// What formats other than text have.

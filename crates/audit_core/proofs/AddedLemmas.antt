@@ -121,10 +121,10 @@ each_chosen is_reason IsIn name named only ignored found has shown =
     each_stays is_reason IsIn found (filter test found) (λ warning reason among.
     to_filter test found warning among (ap (is_chosen only ignored) (named warning.cause reason) ∙ shown)) has
 
-closing_name : (cause : Cause) → is_closing_cause cause ≡ true → name_of cause ≡ codes "closes-everything"
+closing_name : (cause : Cause) → is_closing_cause cause ≡ true → name_of cause ≡ codes "closed-site"
 unfolding name_of
-closing_name causes.ClosesSite is = refl
-closing_name causes.ClosesEverything is = refl
+closing_name causes.ClosedSite is = refl
+closing_name causes.ClosedSiteToOthers is = refl
 closing_name cause is = absurd (false≢true is)
 
 empty_name : (cause : Cause) → is_empty_cause cause ≡ true → name_of cause ≡ codes "empty-disallow"
@@ -198,7 +198,7 @@ module _ (agents urls : List (List ℕ)) (file : List ℕ) (labels : List Label)
       × (flat_map needless_line new
       ≡ (if is_chosen only ignored (codes "needless-rule") then lines else []))
       × All (Contains new) (chosen only ignored (flat_map url_warnings urls))
-      × (is_chosen only ignored (codes "closes-everything") ≡ true → HasClosed agents (lines_read file) new)
+      × (is_chosen only ignored (codes "closed-site") ≡ true → HasClosed agents (lines_read file) new)
       × (is_chosen only ignored (codes "empty-disallow") ≡ true
       → HasOverruling (is_empty_at labels) agents (lines_read file) new)
   chosen_so only ignored lines found new is same =
@@ -210,7 +210,7 @@ module _ (agents urls : List (List ℕ)) (file : List ℕ) (labels : List Label)
             (name_is warning.cause needless)) found
             ∙ ap (λ (lines : List ℕ). if shown then lines else []) is.in_lines,
         told_chosen test found (flat_map url_warnings urls) is.told,
-        each_chosen is_closing_cause (ClosesToOne agents (lines_read file)) (codes "closes-everything")
+        each_chosen is_closing_cause (ClosesToOne agents (lines_read file)) (codes "closed-site")
             closing_name only ignored found is.closed,
         each_chosen is_empty_cause IsOverruling (codes "empty-disallow") empty_name only ignored found
             is.overruling,

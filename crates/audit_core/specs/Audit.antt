@@ -160,7 +160,7 @@ pub record IsAuditOf (requested : RequestValue) (file : List ℕ) (audit : Audit
   pub told : All (Contains audit.warnings)
       (chosen requested.only requested.ignored (flat_map url_warnings requested.urls))
   -- the line that closes the site to a crawler has a warning
-  pub closed : is_chosen requested.only requested.ignored (codes "closes-everything") ≡ true
+  pub closed : is_chosen requested.only requested.ignored (codes "closed-site") ≡ true
       → HasClosed (agents_requested requested.agents (lines_read file)) (lines_read file) audit.warnings
   -- an empty Disallow that overrules a Disallow for a crawler has a warning
   pub overruling : is_chosen requested.only requested.ignored (codes "empty-disallow") ≡ true

@@ -7,8 +7,8 @@ use Rattle.audit_core.specs.declared.reach.Reach.TheVariants.{Everything, Listed
 abbrev pub reach_word : Reach → List ℕ
 reach_word Everything = codes "everything"
 reach_word Nothing = codes "nothing"
-reach_word Listed = codes "listed"
-reach_word Part = codes "by-rules"
+reach_word Listed = codes "only-what-lines-allow"
+reach_word Part = codes "depends-on-rules"
 
 -- the text for a crawler that may fetch everything or nothing; that for another isn't specified
 abbrev pub all_or_nothing : Reach → Option (List ℕ)

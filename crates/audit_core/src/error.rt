@@ -13,7 +13,7 @@ use std::alloc::{AllocError, AllocFailed, Global};
 use std::fmt;
 use std::fmt::Write;
 
-/// What is wrong with a line of the file of `--expect` or `--urls`, with a crawler's name or a URL in
+/// What is wrong with a line of the file of `--expect` or `--urls-from`, with a crawler's name or a URL in
 /// arguments, or with a file that can't be a robots.txt file.
 #[derive(Clone, Copy)]
 pub enum Flaw {
@@ -173,7 +173,7 @@ fn flaw_text(flaw: Flaw) -> &'static str {
             "this is neither a path that starts with / nor a valid http:// or https:// URL",
         Flaw::Name =>
             "this is neither a path that starts with / nor a URL; for a crawler, write --agent NAME, for a \
-            file of URLs --urls FILE, for a level --strict=LEVEL",
+            file of URLs --urls-from FILE, for a level --strict=LEVEL",
         Flaw::Path =>
             "URL has a . or .. segment or a #, which crawlers resolve or drop; write the path that they ask \
             for",
@@ -255,7 +255,7 @@ fn write_reason(out: &mut Report, error: &Error) -> fmt::Result {
         Error::Usage => write!(out, ": missing FILE{USAGE}"),
         Error::NoUrl => write!(
             out,
-            ": --denied needs URLs, as arguments or by --urls FILE{USAGE}"
+            ": --denied needs URLs, as arguments or by --urls-from FILE{USAGE}"
         ),
         Error::NotUtf8 => write!(out, ": arguments must be valid UTF-8{USAGE}"),
         Error::UnknownWarning(name, near) => write_unknown(out, name, *near),

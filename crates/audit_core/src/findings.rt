@@ -8,7 +8,7 @@ use robots_warnings::warning::Warning;
 use safe_output::level::Level;
 use safe_output::report::Line;
 use safe_output::sanitize::push_sanitized;
-use std::alloc::Global;
+use std::alloc::{AllocError, Global};
 use std::fmt;
 use std::fmt::Write;
 
@@ -19,9 +19,15 @@ pub struct Finding {
     pub line: Option<usize>,
     pub name: &'static str,
     pub message: String,
+    pub agent: Option<String>,
+    pub url: Option<String>,
 }
 
 pub type Findings = Vec<Finding>;
+
+/// What a finding is about: a line, a crawler, and a URL or a sitemap.
+#[derive(Clone, Copy)]
+pub struct Subject<'a>(pub Option<usize>, pub Option<&'a str>, pub Option<&'a [u8]>);
 
 /// A finding's message, for `add`.
 pub fn message<M: fmt::Display + Drop>(alloc: Global, text: M) -> Result<Line, fmt::Error> {
@@ -30,25 +36,33 @@ pub fn message<M: fmt::Display + Drop>(alloc: Global, text: M) -> Result<Line, f
     Ok(message)
 }
 
+pub fn sanitized(alloc: Global, bytes: &[u8]) -> Result<String, AllocError> {
+    let mut text = String::new(alloc);
+    push_sanitized(&mut text, bytes)?;
+    Ok(text)
+}
+
 /// In the message, the start of a command of a workflow is escaped, too. Its error is returned.
 pub fn add(
     alloc: Global,
     found: &mut Findings,
     level: Level,
-    line: Option<usize>,
+    subject: Subject<'_>,
     name: &'static str,
     message: Result<Line, fmt::Error>,
 ) -> fmt::Result
     ensures { OnOk result (0 < length found.new.items) }
 {
-    let text = message?;
-    let mut message = String::new(alloc);
-    push_sanitized(&mut message, text.as_str().as_bytes())?;
+    let Subject(line, agent, url) = subject;
     let finding = Finding {
         level,
         line,
         name,
-        message,
+        message: sanitized(alloc, message?.as_str().as_bytes())?,
+        agent: agent
+            .map(|name| sanitized(alloc, name.as_bytes()))
+            .transpose()?,
+        url: url.map(|url| sanitized(alloc, url)).transpose()?,
     };
     match found.push(finding) {
         Ok(()) => Ok(()),
@@ -65,16 +79,17 @@ fn add_agent(alloc: Global, found: &mut Findings, agent: &AgentAudit<'_>) -> fmt
             alloc,
             found,
             Level::Error,
-            agent.rejected,
+            Subject(agent.rejected, Some(name), None),
             "rejected",
             message,
         )?;
     }
     for verdict in &agent.verdicts {
         let (line, url) = (verdict.decision.line, verdict.url);
+        let subject = Subject(line, Some(name), Some(url.as_bytes()));
         if !verdict.decision.allowed {
             let message = message(alloc, format_args!("{name} may not fetch {url}{vendor}"));
-            add(alloc, found, Level::Error, line, "denied", message)?;
+            add(alloc, found, Level::Error, subject, "denied", message)?;
         }
     }
     Ok(())
@@ -87,8 +102,14 @@ fn add_warning(
     warning: &Warning<'_>,
 ) -> fmt::Result {
     let (level, name) = (warning.cause.level(), warning.cause.name());
+    let (line, about) = (warning.line, warning.about);
+    let subject = if warning.kind() == "crawler" {
+        Subject(line, about, None)
+    } else {
+        Subject(line, None, about.map(|url| url.as_bytes()))
+    };
     let message = message(alloc, Message(warning, together));
-    add(alloc, found, level, warning.line, name, message)
+    add(alloc, found, level, subject, name, message)
 }
 
 /// The errors among the warnings, or the other warnings.

@@ -21,7 +21,7 @@ fn mark_of(membership: Membership) -> &'static str {
 }
 
 /// The name of the line's directive, or `empty` or `ignored`.
-pub fn kind_text(line: Line<'_>) -> &'static str {
+pub fn field_text(line: Line<'_>) -> &'static str {
     match line {
         Line::UserAgent(_) => "user-agent",
         Line::Allow(_) => "allow",
@@ -52,12 +52,12 @@ pub fn comment_of<'a>(line: Line<'_>, body: &'a [u8]) -> &'a [u8] {
     }
 }
 
-/// [`kind_text`] for people: what is read as an Allow may be an empty Disallow.
-pub fn shown_kind(labeled: &LabeledLine<'_>) -> &'static str {
+/// [`field_text`] for people: what is read as an Allow may be an empty Disallow.
+pub fn shown_field(labeled: &LabeledLine<'_>) -> &'static str {
     if is_empty_disallow(labeled.line, labeled.body) {
         "disallow"
     } else {
-        kind_text(labeled.line)
+        field_text(labeled.line)
     }
 }
 
@@ -91,12 +91,12 @@ impl<'a> fmt::Display for Shown<'a> {
 fn write_row(out: &mut Report, width: usize, labeled: &LabeledLine<'_>) -> fmt::Result {
     let (number, mark) = (labeled.number, mark_of(labeled.membership));
     write!(out, "{number:>width$} {mark} ")?;
-    let kind = shown_kind(labeled);
+    let field = shown_field(labeled);
     if has_value(labeled.line) {
         let value = Shown(labeled.line, labeled.body);
-        write!(out, "{kind:<12}{value}")?;
+        write!(out, "{field:<12}{value}")?;
     } else {
-        out.write_str(kind)?;
+        out.write_str(field)?;
     }
     let comment = comment_of(labeled.line, labeled.body);
     if !comment.is_empty() {

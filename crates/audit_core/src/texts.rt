@@ -20,8 +20,8 @@ fn reach_word(reach: Reach) -> &'static str
     match reach {
         Reach::Everything => "everything",
         Reach::Nothing => "nothing",
-        Reach::Listed => "listed",
-        Reach::Part => "by-rules",
+        Reach::Listed => "only-what-lines-allow",
+        Reach::Part => "depends-on-rules",
     }
 }
 

@@ -1,5 +1,5 @@
-//! The errors for a file of `--expect` or `--urls` that can't be used, as lines are malformed or there are no
-//! entries.
+//! The errors for a file of `--expect` or `--urls-from` that can't be used, as lines are malformed or there
+//! are no entries.
 ghost use Rattle.std.specs.Prelude.{◌≡◌, OnOk, length};
 
 use audit_core::error::{EntryKind, Error, MalformedLine};

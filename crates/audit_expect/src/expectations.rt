@@ -12,7 +12,7 @@ use crate::expect::{Expectation, expectations_in, is_any};
 use crate::patterns::OnPaths;
 use audit_core::audit::Crawler;
 use audit_core::error::{EntryKind, Error};
-use audit_core::findings::{Findings, add, message};
+use audit_core::findings::{Findings, Subject, add, message};
 use audit_core::target::asked_target;
 use robots_warnings::crawlers::{meant, row_at};
 use robots_warnings::read::FileRead;
@@ -245,15 +245,17 @@ fn add_if_failing(
     if !fails(checked) {
         return Ok(());
     }
-    let target = asked_target(alloc, checked.expectation.url)?;
+    let expectation = &checked.expectation;
+    let target = asked_target(alloc, expectation.url)?;
     let failure = Failure {
         checked,
         target: &target,
     };
     write_failure(report, &failure)?;
-    let line = Some(checked.expectation.number);
+    let (line, agent) = (Some(expectation.number), Some(expectation.agent));
+    let subject = Subject(line, agent, Some(expectation.url.as_bytes()));
     let message = message(alloc, failure);
-    Ok(add(alloc, found, Level::Error, line, "expectation", message)?)
+    Ok(add(alloc, found, Level::Error, subject, "expectation", message)?)
 }
 
 fn failures<'a>(

@@ -1,5 +1,5 @@
 //! Files with a line for each URL: the expectations of `--expect`, with the report on them, and the URLs of
-//! `--urls`.
+//! `--urls-from`.
 #![tactic(auto)]
 
 mod any;

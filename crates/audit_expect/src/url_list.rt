@@ -1,4 +1,4 @@
-//! The URLs in the file of `--urls`, one per line, and those in arguments.
+//! The URLs in the file of `--urls-from`, one per line, and those in arguments.
 
 use crate::entries::{Line, check_lines, without_entries};
 use crate::expect::is_path_or_url;

@@ -4,14 +4,13 @@ ghost use Rattle.safe_output.specs.Text.{IsReport};
 
 use crate::object::Object;
 use audit_core::audit::{AgentAudit, Audit, Verdict};
-use audit_core::findings::{Finding, warnings_found};
+use audit_core::findings::{Finding, sanitized, warnings_found};
 use audit_core::group::{AtVendor, Group};
-use audit_core::rows::{comment_of, kind_text, membership_word};
+use audit_core::rows::{comment_of, field_text, membership_word};
 use audit_core::sitemaps::sitemaps_of;
 use audit_core::texts::may_fetch;
 use rfc9309::conformance::Conformance;
 use safe_output::report::Report;
-use safe_output::sanitize::push_sanitized;
 use serde_json::Value;
 use std::alloc::{AllocError, Global};
 use std::fmt;
@@ -33,9 +32,14 @@ pub(crate) fn list_json<T: Json>(alloc: Global, items: &[T]) -> Result<Value, Al
 }
 
 fn sanitized_json(alloc: Global, bytes: &[u8]) -> Result<Value, AllocError> {
-    let mut text = String::new(alloc);
-    push_sanitized(&mut text, bytes)?;
-    Ok(Value::String(text))
+    Ok(Value::String(sanitized(alloc, bytes)?))
+}
+
+fn optional_json(alloc: Global, text: Option<&str>) -> Result<Value, AllocError> {
+    match text {
+        Some(text) => sanitized_json(alloc, text.as_bytes()),
+        None => Ok(Value::Null),
+    }
 }
 
 /// The bytes as a sanitized text, or null if there are none.
@@ -74,14 +78,6 @@ fn vendor_word(vendor: AtVendor) -> &'static str {
     }
 }
 
-/// What the crawler may fetch: null for a part of all URLs, and if it isn't decided.
-fn fetch_json(alloc: Global, audit: &AgentAudit<'_>) -> Result<Value, AllocError> {
-    match may_fetch(audit.rejected, audit.vendor, audit.reach) {
-        Some(word) => Value::try_from_str(alloc, word),
-        None => Ok(Value::Null),
-    }
-}
-
 impl Json for &'static str {
     fn json(&self, alloc: Global) -> Result<Value, AllocError> {
         Value::try_from_str(alloc, self)
@@ -91,22 +87,22 @@ impl Json for &'static str {
 fn group_json(alloc: Global, audit: &AgentAudit<'_>) -> Result<Value, AllocError> {
     let object = Object::new(alloc)
         .with("ignored_by", list_json(alloc, &audit.ignored_by))?
-        .with("kind", Value::try_from_str(alloc, group_word(audit.group)))?
+        .text("kind", group_word(audit.group))?
         .with("line", Ok(Value::from(audit.group_line)))?;
     Ok(object.value())
 }
 
 impl<'a> Json for AgentAudit<'a> {
     fn json(&self, alloc: Global) -> Result<Value, AllocError> {
-        let vendor = Value::try_from_str(alloc, vendor_word(self.vendor));
+        let fetched = may_fetch(self.rejected, self.vendor, self.reach);
         let object = Object::new(alloc)
             .with("agent", sanitized_json(alloc, self.agent.as_bytes()))?
-            .with("delay", Ok(Value::from(self.delay)))?
+            .with("delay_microseconds", Ok(Value::from(self.delay)))?
             .with("group", group_json(alloc, self))?
-            .with("may_fetch", fetch_json(alloc, self))?
-            .with("rejected", Ok(Value::from(self.rejected)))?
+            .with("may_fetch", optional_json(alloc, fetched))?
+            .with("rejected_line", Ok(Value::from(self.rejected)))?
             .with("rules", Ok(Value::from(self.rules)))?
-            .with("vendor", vendor)?
+            .text("vendor_group", vendor_word(self.vendor))?
             .with("verdicts", list_json(alloc, &self.verdicts))?;
         Ok(object.value())
     }
@@ -127,12 +123,11 @@ fn value_json(alloc: Global, line: Line<'_>) -> Result<Value, AllocError> {
 impl<'a> Json for LabeledLine<'a> {
     fn json(&self, alloc: Global) -> Result<Value, AllocError> {
         let comment = comment_of(self.line, self.body);
-        let membership = membership_word(self.membership);
         let object = Object::new(alloc)
             .with("comment", text_json(alloc, comment))?
-            .with("kind", Value::try_from_str(alloc, kind_text(self.line)))?
-            .with("membership", Value::try_from_str(alloc, membership))?
-            .with("number", Ok(Value::from(self.number)))?
+            .text("field", field_text(self.line))?
+            .with("line", Ok(Value::from(self.number)))?
+            .text("membership", membership_word(self.membership))?
             .with("value", value_json(alloc, self.line))?;
         Ok(object.value())
     }
@@ -147,16 +142,14 @@ impl<'a> Json for &'a [u8] {
 impl Json for Finding {
     fn json(&self, alloc: Global) -> Result<Value, AllocError> {
         let object = Object::new(alloc)
-            .with("level", Value::try_from_str(alloc, self.level.word()))?
+            .with("agent", optional_json(alloc, self.agent.as_deref()))?
+            .text("level", self.level.word())?
             .with("line", Ok(Value::from(self.line)))?
-            .with("name", Value::try_from_str(alloc, self.name))?
-            .with("text", Value::try_from_str(alloc, &self.message))?;
+            .text("name", self.name)?
+            .text("text", &self.message)?
+            .with("url", optional_json(alloc, self.url.as_deref()))?;
         Ok(object.value())
     }
-}
-
-fn sitemaps_json(alloc: Global, labels: &[LabeledLine<'_>]) -> Result<Value, AllocError> {
-    list_json(alloc, &sitemaps_of(alloc, labels)?)
 }
 
 fn rows_json(
@@ -168,15 +161,6 @@ fn rows_json(
         list_json(alloc, labels)
     } else {
         Ok(Value::Null)
-    }
-}
-
-/// True if this is known of the file, or else null.
-fn known_json(is_known: bool) -> Value {
-    if is_known {
-        Value::Bool(true)
-    } else {
-        Value::Null
     }
 }
 
@@ -195,25 +179,33 @@ fn audit_json(
     audit: &Audit<'_>,
     found: &[Finding],
 ) -> Result<Value, AllocError> {
-    let has_syntax = known_json(audit.syntax.has_syntax());
-    let has_verdicts = known_json(audit.syntax.has_verdicts());
+    let syntax = audit.syntax;
+    let sitemaps = sitemaps_of(alloc, &audit.labels)?;
     let object = Object::new(alloc)
         .with("agents", list_json(alloc, &audit.agents))?
-        .with("has_rfc_9309_syntax", Ok(has_syntax))?
-        .with("has_rfc_9309_verdicts", Ok(has_verdicts))?
+        .with("findings", list_json(alloc, found))?
+        .with("has_rfc_9309_syntax", Ok(Value::Bool(syntax.has_syntax())))?
+        .with(
+            "has_rfc_9309_verdicts",
+            Ok(Value::Bool(syntax.has_verdicts())),
+        )?
         .with("lines", rows_json(alloc, has_rows, &audit.labels))?
-        .with("rfc_9309_line", Ok(other_line_json(audit.syntax)))?
-        .with("sitemaps", sitemaps_json(alloc, &audit.labels))?
-        .with("warnings", list_json(alloc, found))?;
+        .with("rfc_9309_line", Ok(other_line_json(syntax)))?
+        .with("sitemaps", list_json(alloc, &sitemaps))?;
     Ok(object.value())
 }
 
-/// A value as one line.
-pub(crate) fn json_line(alloc: Global, value: &Value) -> Result<String, fmt::Error>
+/// The start of a report, since the other members of an object are in the order of their names.
+const FORMAT: &str = "{\"format\":1,";
+
+/// An object as one line with this start, after which its first member comes.
+pub(crate) fn json_line(alloc: Global, start: &str, object: &Value) -> Result<String, fmt::Error>
     ensures { IfOk result (λ text. IsReport (string_bytes text)) }
 {
+    let text = object.to_string(alloc)?;
     let mut out = Report::new(alloc);
-    out.write_str(&value.to_string(alloc)?)?;
+    out.write_str(start)?;
+    out.write_str(text.strip_prefix("{").unwrap_or(&text))?;
     out.end_line()?;
     Ok(out.into_string())
 }
@@ -223,31 +215,45 @@ pub fn json_text(alloc: Global, has_rows: bool, audit: &Audit<'_>) -> Result<Str
     ensures { IfOk result (λ text. IsReport (string_bytes text)) }
 {
     let found = warnings_found(alloc, &audit.warnings)?;
-    json_line(alloc, &audit_json(alloc, has_rows, audit, &found)?)
+    let object = audit_json(alloc, has_rows, audit, &found)?;
+    json_line(alloc, FORMAT, &object)
 }
 
-/// The name of a file, what was found in it, and the name of an older version, or null if that is empty.
+/// The names of the files of a report.
+#[derive(Clone, Copy)]
+pub struct Names<'a> {
+    pub file: &'a str,
+    pub expectations: Option<&'a str>,
+    pub old: Option<&'a str>,
+}
+
+impl<'a> Names<'a> {
+    /// Of the file whose lines the findings have.
+    pub fn of_lines(self) -> &'a str {
+        self.expectations.unwrap_or(self.file)
+    }
+}
+
 fn findings_json(
     alloc: Global,
-    file: &str,
-    old: &str,
+    names: Names<'_>,
     findings: &[Finding],
 ) -> Result<Value, AllocError> {
     let object = Object::new(alloc)
-        .with("file", sanitized_json(alloc, file.as_bytes()))?
+        .with("expectations", optional_json(alloc, names.expectations))?
+        .with("file", sanitized_json(alloc, names.file.as_bytes()))?
         .with("findings", list_json(alloc, findings))?
-        .with("old", text_json(alloc, old.as_bytes()))?;
+        .with("old", optional_json(alloc, names.old))?;
     Ok(object.value())
 }
 
-/// The findings about the file with this name, as one line.
+/// A report on these files as one line.
 pub fn findings_text(
     alloc: Global,
-    file: &str,
-    old: &str,
+    names: Names<'_>,
     findings: &[Finding],
 ) -> Result<String, fmt::Error>
     ensures { IfOk result (λ text. IsReport (string_bytes text)) }
 {
-    json_line(alloc, &findings_json(alloc, file, old, findings)?)
+    json_line(alloc, FORMAT, &findings_json(alloc, names, findings)?)
 }

@@ -29,6 +29,11 @@ impl Object {
         Ok(object)
     }
 
+    pub(crate) fn text(self, name: &str, text: &str) -> Result<Self, AllocError> {
+        let value = Value::try_from_str(self.alloc, text);
+        self.with(name, value)
+    }
+
     pub(crate) fn value(self) -> Value {
         Value::Object(self.members)
     }

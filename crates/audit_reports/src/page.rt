@@ -46,7 +46,7 @@ fn is_robots_file(audit: &Audit<'_>) -> bool {
     has_directive(&audit.labels)
         && !audit.warnings.iter().any(|found| matches!(
             found.cause,
-            Cause::LooksLikeHtml | Cause::LooksLikeUtf16
+            Cause::HtmlPage | Cause::Utf16Text
         ))
 }
 

@@ -153,7 +153,7 @@ impl Json for SarifRule {
             .with("defaultConfiguration", with_one(alloc, "level", level))?
             .with("fullDescription", message_json(alloc, self.text))?
             .with("help", help_json(alloc, self.example))?
-            .with("id", Value::try_from_str(alloc, self.name))?
+            .text("id", self.name)?
             .with("shortDescription", message_json(alloc, self.text))?;
         Ok(object.value())
     }
@@ -176,10 +176,10 @@ fn locations_json(alloc: Global, uri: &str, line: Option<usize>) -> Result<Value
 
 fn result_json(alloc: Global, uri: &str, finding: &Finding) -> Result<Value, AllocError> {
     let object = Object::new(alloc)
-        .with("level", Value::try_from_str(alloc, finding.level.word()))?
+        .text("level", finding.level.word())?
         .with("locations", locations_json(alloc, uri, finding.line))?
         .with("message", message_json(alloc, &finding.message))?
-        .with("ruleId", Value::try_from_str(alloc, finding.name))?;
+        .text("ruleId", finding.name)?;
     Ok(object.value())
 }
 
@@ -194,9 +194,9 @@ fn results_json(alloc: Global, uri: &str, findings: &[Finding]) -> Result<Value,
 fn tool_json(alloc: Global) -> Result<Value, AllocError> {
     let rules = all_rules(alloc)?;
     let driver = Object::new(alloc)
-        .with("name", Value::try_from_str(alloc, "robots_audit"))?
+        .text("name", "robots_audit")?
         .with("rules", list_json(alloc, &rules))?
-        .with("version", Value::try_from_str(alloc, VERSION))?
+        .text("version", VERSION)?
         .value();
     with_one(alloc, "driver", Ok(driver))
 }
@@ -211,9 +211,9 @@ fn run_json(alloc: Global, uri: &str, findings: &[Finding]) -> Result<Value, All
 fn log_json(alloc: Global, uri: &str, findings: &[Finding]) -> Result<Value, AllocError> {
     let schema = "https://json.schemastore.org/sarif-2.1.0.json";
     let object = Object::new(alloc)
-        .with("$schema", Value::try_from_str(alloc, schema))?
+        .text("$schema", schema)?
         .with("runs", array_of_one(alloc, run_json(alloc, uri, findings)))?
-        .with("version", Value::try_from_str(alloc, "2.1.0"))?;
+        .text("version", "2.1.0")?;
     Ok(object.value())
 }
 
@@ -222,5 +222,6 @@ pub fn sarif_text(alloc: Global, file: &str, audit: &Audit<'_>) -> Result<String
     ensures { IfOk result (λ text. IsReport (string_bytes text)) }
 {
     let findings = findings_of(alloc, audit, false)?;
-    json_line(alloc, &log_json(alloc, &uri_of(alloc, file)?, &findings)?)
+    let log = log_json(alloc, &uri_of(alloc, file)?, &findings)?;
+    json_line(alloc, "{", &log)
 }

@@ -32,12 +32,12 @@ pub audit_answers : (requested : RequestValue) (file : List ℕ) (result : Resul
 audit_answers requested file result is =
     IfOk-weaker result _ Answers (λ answer is. inr (inl (requested, file, is))) is
 
-pub comparison_answers : (verdicts_only : Bool) (requested : RequestValue) (older newer : List ℕ)
-    (result : Result Answer Error) → IfOk result (IsCompared verdicts_only requested older newer)
+pub comparison_answers : (only_verdicts : Bool) (requested : RequestValue) (older newer : List ℕ)
+    (result : Result Answer Error) → IfOk result (IsCompared only_verdicts requested older newer)
     → IfOk result Answers
-comparison_answers verdicts_only requested older newer result is =
+comparison_answers only_verdicts requested older newer result is =
     IfOk-weaker result _ Answers
-    (λ answer is. inr (inr (inl (verdicts_only, requested, older, newer, is)))) is
+    (λ answer is. inr (inr (inl (only_verdicts, requested, older, newer, is)))) is
 
 pub expectations_answer : (format : Format) (text file : List ℕ) (result : Result Answer Error)
     → IfOk result (IsExpected format text file) → IfOk result Answers
@@ -66,7 +66,7 @@ answer_safe answer (inr (inl (requested, file, is))) = record {
   report = (requested.format, is.report);
   warnings = shown_colored requested.has_colors _ is.outcome.warnings;
 }
-answer_safe answer (inr (inr (inl (verdicts_only, requested, older, newer, is)))) =
+answer_safe answer (inr (inr (inl (only_verdicts, requested, older, newer, is)))) =
     listed_safe _ _ _ answer is.listed
 answer_safe answer (inr (inr (inr (format, text, file, is)))) = listed_safe _ _ _ answer is.listed
 

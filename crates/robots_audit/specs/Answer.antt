@@ -57,17 +57,17 @@ pub record IsListed (format : Format) (is_rejected has_passed : Bool) (answer : 
   pub unwarned : answer.outcome.is_warned ≡ false
   pub silent : string_bytes answer.outcome.warnings ≡ []
 
--- with `--verdicts`, all is well if for no crawler a verdict changes
-abbrev pub has_passed : (verdicts_only : Bool) → ComparisonValue → Bool
-has_passed verdicts_only comparison =
-    if verdicts_only then keeps_verdicts comparison else differs_nowhere comparison
+-- with `--only-verdicts`, all is well if for no crawler a verdict changes
+abbrev pub has_passed : (only_verdicts : Bool) → ComparisonValue → Bool
+has_passed only_verdicts comparison =
+    if only_verdicts then keeps_verdicts comparison else differs_nowhere comparison
 
 -- the answer to a comparison of two files with these bytes
-pub record IsCompared (verdicts_only : Bool) (requested : RequestValue) (older newer : List ℕ)
+pub record IsCompared (only_verdicts : Bool) (requested : RequestValue) (older newer : List ℕ)
     (answer : Answer) : Type 0 where
   pub comparison : ComparisonValue
   pub of : IsComparison requested.agents requested.urls older newer comparison
-  pub listed : IsListed requested.format (rejects_one comparison) (has_passed verdicts_only comparison) answer
+  pub listed : IsListed requested.format (rejects_one comparison) (has_passed only_verdicts comparison) answer
 
 -- the answer to the expectations in a text, checked against a file; a rejected file is a failure
 pub record IsExpected (format : Format) (text file : List ℕ) (answer : Answer) : Type 0 where
@@ -85,8 +85,8 @@ abbrev pub Answers : Answer → Type 0
 Answers answer =
     IsText answer
     ⊎ (((requested : RequestValue) × (file : List ℕ) × IsAudited requested file answer)
-    ⊎ (((verdicts_only : Bool) × (requested : RequestValue) × (older newer : List ℕ)
-    × IsCompared verdicts_only requested older newer answer)
+    ⊎ (((only_verdicts : Bool) × (requested : RequestValue) × (older newer : List ℕ)
+    × IsCompared only_verdicts requested older newer answer)
     ⊎ ((format : Format) × (text file : List ℕ) × IsExpected format text file answer)))
 
 -- ---- what no request and no file can change

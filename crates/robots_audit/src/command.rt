@@ -25,9 +25,9 @@ it, or, with a $ at its end, all that end there, except /robots.txt; a * in it i
 single path means that path. A crawler that ignores *, as AdsBot-Google does, has to pass with that group and
 without.
 
-With --expect, give only FILE; with --compare only FILE, URLs, --urls, --agent, --known and --verdicts; with
-either also --json, --github or --format; with --list-warnings or --explain nothing else. With --denied, give
-URLs or --urls.
+With --expect, give only FILE; with --compare only FILE, URLs, --urls-from, --agent, --known-crawlers and
+--only-verdicts; with either also --json, --github or --format; with --list-warnings or --explain nothing
+else. With --denied, give URLs or --urls-from.
 
 Exit status, the first that applies; without --strict, warnings change nothing, even of level error:
   2  if the program couldn't do its work, or the file is rejected for a crawler (with --expect: 1)
@@ -38,7 +38,7 @@ Exit status, the first that applies; without --strict, warnings change nothing, 
 Examples:
   robots_audit robots.txt
   curl -fsSL https://example.com/robots.txt | robots_audit --agent Googlebot - /search
-  robots_audit --denied --urls urls.txt robots.txt
+  robots_audit --denied --urls-from urls.txt robots.txt
   robots_audit --compare old.txt robots.txt /search /products/tea
   robots_audit --expect expect.txt robots.txt
   robots_audit --strict=error robots.txt > /dev/null";
@@ -68,7 +68,7 @@ fn is_stdin(name: Option<&str>) -> bool {
 
 /// The robots.txt file and one of the others, or URLs and an older version.
 fn reads_stdin_twice(matches: &ArgMatches<'_>) -> bool {
-    let urls = is_stdin(matches.get_str("urls"));
+    let urls = is_stdin(matches.get_str("urls-from"));
     let expected = is_stdin(matches.get_str("expect"));
     let older = is_stdin(matches.get_str("compare"));
     let has_no_file = file_read(matches.get_str("file")).is_none();
@@ -77,7 +77,7 @@ fn reads_stdin_twice(matches: &ArgMatches<'_>) -> bool {
 
 /// Fails if FILE is missing, if standard input would be read twice, or if `--denied` has no URL to list.
 pub fn check_files(matches: &ArgMatches<'_>) -> Result<(), Error> {
-    let has_urls = matches.get_str("url").is_some() || matches.get_str("urls").is_some();
+    let has_urls = matches.get_str("url").is_some() || matches.get_str("urls-from").is_some();
     match matches.get_str("file") {
         None => Err(Error::Usage),
         Some(_) if reads_stdin_twice(matches) => Err(Error::StdinTwice),
@@ -142,7 +142,7 @@ fn known_names(alloc: Global) -> Result<Vec<&'static str>, AllocError> {
 
 /// Fails with the first name that no crawler has.
 fn agents_of<'a>(alloc: Global, matches: &ArgMatches<'a>) -> Result<Vec<&'a str>, Error> {
-    let agents = if matches.get_flag("known") {
+    let agents = if matches.get_flag("known-crawlers") {
         known_names(alloc)?
     } else {
         values_of(alloc, matches, "agent")?
@@ -202,7 +202,7 @@ pub fn requested<'a>(
         only,
         ignored,
         is_denied_only,
-        has_totals: is_denied_only || matches.get_str("urls").is_some(),
+        has_totals: is_denied_only || matches.get_str("urls-from").is_some(),
         has_needless,
     })
 }

@@ -34,6 +34,7 @@ use audit_core::not_robots::check_content;
 use audit_core::request::Request;
 use audit_expect::url_list::with_urls;
 use audit_reports::explain::{explain, list_warnings};
+use audit_reports::json::Names;
 use clap::ArgMatches;
 use clap::error::ErrorKind as WordsKind;
 use safe_output::report::Report;
@@ -101,13 +102,13 @@ fn read_robots(rt: &HostRuntime, name: &str) -> Result<Vec<u8>, Error> {
 }
 
 fn url_text(rt: &HostRuntime, matches: &ArgMatches<'_>) -> Result<Vec<u8>, Error> {
-    match matches.get_str("urls") {
+    match matches.get_str("urls-from") {
         Some(name) => read(rt, Some(name)),
         None => Ok(Vec::new(rt.alloc())),
     }
 }
 
-/// The request with the URLs in this text, if that is of a file of `--urls`, which has this name.
+/// The request with the URLs in this text, if that is of a file of `--urls-from`, which has this name.
 fn extended<'a>(
     alloc: Global,
     request: Request<'a>,
@@ -127,7 +128,7 @@ fn audit(rt: &HostRuntime, matches: &ArgMatches<'_>, has_colors: bool) -> Result
 {
     let request = requested(rt.alloc(), matches, has_colors)?;
     let text = url_text(rt, matches)?;
-    let whole = extended(rt.alloc(), request, matches.get_str("urls"), &text)?;
+    let whole = extended(rt.alloc(), request, matches.get_str("urls-from"), &text)?;
     audited(rt.alloc(), &whole, &read(rt, whole.file)?)
 }
 
@@ -138,8 +139,14 @@ fn checked(rt: &HostRuntime, matches: &ArgMatches<'_>, expected: &str) -> Result
 {
     check_files(matches)?;
     let text = read(rt, Some(expected))?;
-    let file = read_robots(rt, matches.get_str("file").unwrap_or("-"))?;
-    expectations(rt.alloc(), format_of(matches), expected, &text, &file)
+    let name = file_read(matches.get_str("file"));
+    let file = read_robots(rt, name.unwrap_or("-"))?;
+    let names = Names {
+        file: name.unwrap_or("robots.txt"),
+        expectations: Some(expected),
+        old: None,
+    };
+    expectations(rt.alloc(), format_of(matches), names, &text, &file)
 }
 
 /// Compares the file `older` with the file that the arguments name.
@@ -149,7 +156,7 @@ fn compared(rt: &HostRuntime, matches: &ArgMatches<'_>, older: &str) -> Result<A
 {
     let request = requested(rt.alloc(), matches, false)?;
     let text = url_text(rt, matches)?;
-    let whole = extended(rt.alloc(), request, matches.get_str("urls"), &text)?;
+    let whole = extended(rt.alloc(), request, matches.get_str("urls-from"), &text)?;
     let name = whole.file.unwrap_or("-");
     let old = read_robots(rt, older)?;
     let new = read_robots(rt, name)?;
@@ -163,7 +170,7 @@ fn compared(rt: &HostRuntime, matches: &ArgMatches<'_>, older: &str) -> Result<A
         &whole,
         old_file,
         new_file,
-        matches.get_flag("verdicts"),
+        matches.get_flag("only-verdicts"),
     )
 }
 

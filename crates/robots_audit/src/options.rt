@@ -8,10 +8,15 @@ use std::alloc::{AllocError, Global};
 #[derive(Clone, Copy)]
 enum Value {
     Absent,
+    /// And the option has this short name.
+    AbsentAs(char),
+    /// That of an argument, and not of an option.
+    Argument(&'static str),
+    /// Those of an argument.
+    Arguments(&'static str),
     Text(&'static str),
     /// The option needs this other one, which follows what the text is called.
     TextWith(&'static str, &'static str),
-    Texts(&'static str),
     /// The option needs this other one.
     AbsentWith(&'static str),
     /// A text each time that the option is given.
@@ -25,12 +30,10 @@ enum Value {
     OneOfAfterEquals(&'static str, &'static [&'static str], &'static str),
 }
 
-/// An option, or an argument, which has neither a short nor a long name.
+/// An option or an argument.
 struct Parameter {
-    /// The name by which its values are read.
+    /// The name by which its values are read, and the long one of an option.
     id: &'static str,
-    short: Option<char>,
-    long: Option<&'static str>,
     value: Value,
     help: &'static str,
     /// Lists of options and arguments that can't be given with it, by their ids. Of two that exclude each
@@ -38,7 +41,7 @@ struct Parameter {
     excludes: &'static [&'static [&'static str]],
 }
 
-const OF_QUERIES: &[&str] = &["url", "agent", "known", "urls"];
+const OF_QUERIES: &[&str] = &["url", "agent", "known-crawlers", "urls-from"];
 
 /// The options of an audit that are about warnings and the form of the report.
 const OF_AUDITS: &[&str] = &[
@@ -52,113 +55,85 @@ const OF_FILES: &[&str] = &["file", "format", "json", "github", "expect", "compa
 const PARAMETERS: &[Parameter] = &[
     Parameter {
         id: "file",
-        short: None,
-        long: None,
-        value: Value::Text("FILE"),
+        value: Value::Argument("FILE"),
         help: "The robots.txt file (-: standard input); left out with --list-warnings and --explain",
         excludes: &[],
     },
     Parameter {
         id: "url",
-        short: None,
-        long: None,
-        value: Value::Texts("URL"),
+        value: Value::Arguments("URL"),
         help: "URLs or paths to check",
         excludes: &[],
     },
     Parameter {
-        id: "urls",
-        short: None,
-        long: Some("urls"),
+        id: "urls-from",
         value: Value::Text("FILE"),
         help: "Check or compare the URLs in this file too, one per line (-: standard input)",
         excludes: &[],
     },
     Parameter {
         id: "denied",
-        short: None,
-        long: Some("denied"),
         value: Value::Absent,
         help: "List only the URLs that are denied and, in text, crawlers with such URLs or a rejected file",
         excludes: &[],
     },
     Parameter {
         id: "agent",
-        short: None,
-        long: Some("agent"),
         value: Value::RepeatedAs("NAME", "user-agent"),
         help: "Report on this crawler, * for any without a group of its own; may be repeated (default: * and \
             every crawler that FILE names)",
         excludes: &[],
     },
     Parameter {
-        id: "known",
-        short: None,
-        long: Some("known"),
+        id: "known-crawlers",
         value: Value::Absent,
         help: "Report on * and all crawlers that this program knows, such as Googlebot and GPTBot",
         excludes: &[&["agent"]],
     },
     Parameter {
         id: "quiet",
-        short: Some('q'),
-        long: Some("quiet"),
-        value: Value::Absent,
+        value: Value::AbsentAs('q'),
         help: "With one --agent: don't list the lines of the file (\"lines\" of JSON is null)",
         excludes: &[],
     },
     Parameter {
         id: "format",
-        short: None,
-        long: Some("format"),
         value: Value::OneOf("FORMAT", Format::NAMES),
         help: "How to write the report (default: text)",
         excludes: &[],
     },
     Parameter {
         id: "json",
-        short: None,
-        long: Some("json"),
         value: Value::Absent,
         help: "The same as --format json",
         excludes: &[&["format"]],
     },
     Parameter {
         id: "html",
-        short: None,
-        long: Some("html"),
         value: Value::Absent,
         help: "The same as --format html",
         excludes: &[&["format", "json"]],
     },
     Parameter {
         id: "github",
-        short: None,
-        long: Some("github"),
         value: Value::Absent,
         help: "The same as --format github",
         excludes: &[&["format", "json", "html"]],
     },
     Parameter {
         id: "sarif",
-        short: None,
-        long: Some("sarif"),
         value: Value::Absent,
         help: "The same as --format sarif",
         excludes: &[&["format", "json", "html", "github"]],
     },
     Parameter {
         id: "date",
-        short: None,
-        long: Some("date"),
         value: Value::TextWith("TEXT", "html"),
         help: "With --html: write this date on the page",
         excludes: &[&["format", "json"]],
     },
     Parameter {
         id: "color",
-        short: None,
-        long: Some("color"),
         value: Value::OneOf("WHEN", &["auto", "always", "never"]),
         help: "Color the levels of warnings; auto (default): on a terminal, unless NO_COLOR isn't empty or \
             TERM is dumb",
@@ -166,8 +141,6 @@ const PARAMETERS: &[Parameter] = &[
     },
     Parameter {
         id: "strict",
-        short: None,
-        long: Some("strict"),
         value: Value::OneOfAfterEquals("LEVEL", &["error", "warning", "note"], "warning"),
         help: "Exit with status 3 if there is a warning at this level (default: warning) or a more serious \
             one; LEVEL needs the =",
@@ -175,32 +148,24 @@ const PARAMETERS: &[Parameter] = &[
     },
     Parameter {
         id: "needless",
-        short: None,
-        long: Some("needless"),
         value: Value::Absent,
         help: "Warn also of rules that aren't needed, as --only needless-rule does",
         excludes: &[],
     },
     Parameter {
         id: "only",
-        short: None,
-        long: Some("only"),
         value: Value::Repeated("NAME"),
         help: "Give only warnings with this name; may be repeated",
         excludes: &[],
     },
     Parameter {
         id: "ignore",
-        short: None,
-        long: Some("ignore"),
         value: Value::Repeated("NAME"),
-        help: "Leave out warnings with this name, not one of --only; may be repeated",
+        help: "Leave out all warnings with this name, also errors; none that --only has; may be repeated",
         excludes: &[],
     },
     Parameter {
         id: "expect",
-        short: None,
-        long: Some("expect"),
         value: Value::Text("FILE"),
         help: "Check instead the lines \"allow AGENT URL\", \"deny AGENT URL\", \"allow-all AGENT PATTERN\" \
             and \"deny-all AGENT PATTERN\" of this file (-: standard input)",
@@ -208,46 +173,35 @@ const PARAMETERS: &[Parameter] = &[
     },
     Parameter {
         id: "compare",
-        short: None,
-        long: Some("compare"),
         value: Value::Text("OLD"),
         help: "Report instead what differs from OLD (-: standard input) to FILE",
         excludes: &[&["expect"], OF_AUDITS],
     },
     Parameter {
-        id: "verdicts",
-        short: None,
-        long: Some("verdicts"),
+        id: "only-verdicts",
         value: Value::AbsentWith("compare"),
         help: "With --compare: exit with status 1 only if the verdict of a URL may change",
         excludes: &[],
     },
     Parameter {
         id: "list-warnings",
-        short: None,
-        long: Some("list-warnings"),
         value: Value::Absent,
         help: "List all warnings with their levels and messages",
         excludes: &[OF_QUERIES, OF_AUDITS, OF_FILES],
     },
     Parameter {
         id: "explain",
-        short: None,
-        long: Some("explain"),
         value: Value::Text("NAME"),
         help: "Show the level, the message and an example of the warning with this name",
         excludes: &[OF_QUERIES, OF_AUDITS, OF_FILES, &["list-warnings"]],
     },
 ];
 
-fn with_names<'a>(arg: Arg<'a>, short: Option<char>, long: Option<&'a str>) -> Arg<'a> {
-    let arg = match short {
-        Some(short) => arg.short(short),
-        None => arg,
-    };
-    match long {
-        Some(long) => arg.long(long),
-        None => arg,
+fn named<'a>(arg: Arg<'a>, id: &'a str, value: Value) -> Arg<'a> {
+    match value {
+        Value::Argument(_) | Value::Arguments(_) => arg,
+        Value::AbsentAs(short) => arg.short(short).long(id),
+        _ => arg.long(id),
     }
 }
 
@@ -268,11 +222,11 @@ fn after_equals<'a>(arg: Arg<'a>, missing: &'a str) -> Arg<'a> {
 
 fn with_value<'a>(arg: Arg<'a>, value: Value) -> Result<Arg<'a>, AllocError> {
     Ok(match value {
-        Value::Absent => arg.action(ArgAction::SetTrue),
+        Value::Absent | Value::AbsentAs(_) => arg.action(ArgAction::SetTrue),
         Value::AbsentWith(other) => arg.action(ArgAction::SetTrue).requires_arg(other)?,
-        Value::Text(name) => arg.value_name(name),
+        Value::Argument(name) | Value::Text(name) => arg.value_name(name),
         Value::TextWith(name, other) => arg.value_name(name).requires_arg(other)?,
-        Value::Texts(name) => arg.value_name(name).num_args(0..),
+        Value::Arguments(name) => arg.value_name(name).num_args(0..),
         Value::RepeatedAs(name, other) => repeated(arg, name).visible_alias(other)?,
         Value::Repeated(name) => repeated(arg, name),
         Value::OneOf(name, words) => one_of(arg, name, words),
@@ -292,7 +246,7 @@ fn excluding<'a>(mut arg: Arg<'a>, lists: &[&[&'a str]]) -> Result<Arg<'a>, Allo
 impl Parameter {
     fn arg<'a>(&self, alloc: Global) -> Result<Arg<'a>, AllocError> {
         let arg = Arg::new(alloc, self.id).help(self.help);
-        let arg = with_value(with_names(arg, self.short, self.long), self.value)?;
+        let arg = with_value(named(arg, self.id, self.value), self.value)?;
         excluding(arg, self.excludes)
     }
 }

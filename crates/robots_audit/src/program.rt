@@ -18,7 +18,7 @@ use audit_core::request::{Format, Request};
 use audit_expect::expectations::check;
 use audit_reports::denied::{Totals, shown, totals_of};
 use audit_reports::github::github_text;
-use audit_reports::json::{findings_text, json_text};
+use audit_reports::json::{Names, findings_text, json_text};
 use audit_reports::page::page_text;
 use audit_reports::report::{write_report, write_totals, write_warnings};
 use audit_reports::sarif::sarif_text;
@@ -130,13 +130,11 @@ fn compared_for<'a>(
     compare(alloc, &request.agents, &request.urls, older, newer)
 }
 
-/// The answer in this format: a report as text, or findings in the file with this name; an empty `old` is no
-/// file.
+/// The answer in this format: a report as text, or findings.
 fn listed(
     alloc: Global,
     format: Format,
-    file: &str,
-    old: &str,
+    names: Names<'_>,
     reported: (Report, Findings),
     is_rejected: bool,
     has_passed: bool,
@@ -146,8 +144,8 @@ fn listed(
     let (text, found) = reported;
     let report = match format {
         Format::Text => text.into_string().into_bytes(),
-        Format::Json => findings_text(alloc, file, old, &found)?.into_bytes(),
-        Format::Github => annotations(alloc, file, &found)?,
+        Format::Json => findings_text(alloc, names, &found)?.into_bytes(),
+        Format::Github => annotations(alloc, names.of_lines(), &found)?,
         Format::Html | Format::Sarif => return Err(Error::Format),
     };
     let outcome = Outcome {
@@ -159,10 +157,10 @@ fn listed(
     Ok(Answer { report, outcome })
 }
 
-fn has_passed(verdicts_only: bool, compared: &Comparison<'_>) -> bool
-    ensures { result ≡ has_passed verdicts_only compared.now }
+fn has_passed(only_verdicts: bool, compared: &Comparison<'_>) -> bool
+    ensures { result ≡ has_passed only_verdicts compared.now }
 {
-    if verdicts_only {
+    if only_verdicts {
         keeps_verdicts(compared)
     } else {
         differs_nowhere(compared)
@@ -181,32 +179,36 @@ pub fn comparison<'a>(
     request: &Request<'a>,
     older: NamedFile<'a>,
     newer: NamedFile<'a>,
-    verdicts_only: bool,
+    only_verdicts: bool,
 ) -> Result<Answer, Error>
-    ensures { IfOk result (IsCompared verdicts_only (requested_by request.now) older.entry.bytes.now
+    ensures { IfOk result (IsCompared only_verdicts (requested_by request.now) older.entry.bytes.now
         newer.entry.bytes.now) }
 {
     let compared = compared_for(alloc, request, older, newer)?;
-    let (is_rejected, has_passed) = (rejects_one(&compared), has_passed(verdicts_only, &compared));
-    let (format, name, old) = (request.format, request.shown_name(), older.name);
+    let (is_rejected, has_passed) = (rejects_one(&compared), has_passed(only_verdicts, &compared));
+    let names = Names {
+        file: request.shown_name(),
+        expectations: None,
+        old: Some(older.name),
+    };
     let found = reported(alloc, &compared)?;
-    Ok(listed(alloc, format, name, old, found, is_rejected, has_passed)?)
+    Ok(listed(alloc, request.format, names, found, is_rejected, has_passed)?)
 }
 
-/// Checks the expectations in a text, of a file with this name, against a robots.txt file, and writes the
-/// report. The errors are those of `check`, and `Error::Format` if the format is one of audits alone.
+/// Checks the expectations in a text against a robots.txt file, and writes the report. The errors are those of
+/// `check`, and `Error::Format` if the format is one of audits alone.
 pub fn expectations(
     alloc: Global,
     format: Format,
-    name: &str,
+    names: Names<'_>,
     text: &[u8],
     file: &[u8],
 ) -> Result<Answer, Error>
     ensures { IfOk result (IsExpected format text.now file.now) }
 {
-    let found = check(alloc, name, text, file)?;
+    let found = check(alloc, names.of_lines(), text, file)?;
     let has_passed = found.1.is_empty();
-    Ok(listed(alloc, format, name, "", found, false, has_passed)?)
+    Ok(listed(alloc, format, names, found, false, has_passed)?)
 }
 
 /// The error for a file that can't be opened or read, for this reason.

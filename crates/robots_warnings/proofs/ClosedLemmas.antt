@@ -26,7 +26,7 @@ use Rattle.robots_warnings.specs.{Message.WarningValue, File.lines_of, Internal.
 use Rattle.robots_warnings.specs.Warnings.{HasClosed, IsAbout, IsTold, is_closing_cause}
 use Rattle.robots_warnings.specs.Means.{Closes, Means}
 use Rattle.robots_warnings.specs.declared.{table.Cause.Cause, warning.Detail.Detail}
-use Rattle.robots_warnings.specs.declared.table.Cause.TheVariants.{ClosesEverything, ClosesSite}
+use Rattle.robots_warnings.specs.declared.table.Cause.TheVariants.{ClosedSite, ClosedSiteToOthers}
 use Rattle.robots_warnings.specs.Internal.Closed.{IsClosed, IsNeeded}
 use Rattle.robots_warnings.specs.Internal.Names.{AddsName, Key, key_cmp}
 use Rattle.std.proofs.{Math.Bool.or-false}
@@ -174,8 +174,8 @@ module _ (asked : List (Bor (List ℕ))) (file : List ℕ) (labels : List Label)
           (map (row_of (lines_of labels)) asked))
           → Means (map (λ agent. agent.now) asked) file labels
           (record { line = line; cause = cause; about = about; detail = detail })
-      so ClosesSite (Some number) about detail closing is = λ isnt. inr (closes_to number about is)
-      so ClosesEverything (Some number) about detail closing is = λ isnt. inr (closes_to number about is)
+      so ClosedSite (Some number) about detail closing is = λ isnt. inr (closes_to number about is)
+      so ClosedSiteToOthers (Some number) about detail closing is = λ isnt. inr (closes_to number about is)
       so cause None about detail closing is = absurd is
       so cause line about detail closing is = absurd (false≢true closing)
 

@@ -110,7 +110,7 @@ opened_paths lines = robots_file ∷ filter_map opened_path (sitemaps_in lines)
 abbrev pub is_exempt : List LineValue → List ℕ → Bool
 is_exempt lines pattern = list_any (is_literally pattern) (opened_paths lines)
 
--- ---- `closes-everything`
+-- ---- `closed-site`
 
 -- the crawler's vendor applies another group, or the name in the file is probably a mistake for that of
 -- another crawler

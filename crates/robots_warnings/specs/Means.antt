@@ -27,13 +27,13 @@ is_style cause.DollarNotAtEnd = false
 is_style cause.RuleBeforeUserAgent = false
 is_style cause.GroupPastSizeLimit = false
 is_style cause.AllowedAndDisallowed = false
-is_style cause.TwoDelays = false
-is_style cause.TwoDelaysPastLimit = false
-is_style cause.ReplacesStar = false
+is_style cause.RepeatedDelay = false
+is_style cause.RepeatedDelayPastLimit = false
+is_style cause.GroupWithoutStarRules = false
 is_style cause.RepeatedRule = false
 is_style cause.RepeatedPastLimit = false
-is_style cause.ClosesSite = false
-is_style cause.ClosesEverything = false
+is_style cause.ClosedSite = false
+is_style cause.ClosedSiteToOthers = false
 is_style cause.NeverDecides = false
 is_style cause.MatchesNothing = false
 is_style cause.AllowedAnyway = false
@@ -79,20 +79,20 @@ Says agents file labels cause.GroupPastSizeLimit number about detail =
 Says agents file labels cause.AllowedAndDisallowed number about detail =
     (other : ℕ) × (detail ≡ Some (Line other))
     × Any (λ agent. IsConflict (is_empty_at labels) agent (lines_of labels) number other) agents
-Says agents file labels cause.TwoDelays number about detail =
+Says agents file labels cause.RepeatedDelay number about detail =
     Contains (later_delays labels) number × (is_too_large file ≡ false)
-Says agents file labels cause.TwoDelaysPastLimit number about detail =
+Says agents file labels cause.RepeatedDelayPastLimit number about detail =
     Contains (later_delays labels) number
-Says agents file labels cause.ReplacesStar number about detail =
+Says agents file labels cause.GroupWithoutStarRules number about detail =
     IsReplacing agents (lines_of labels) (lines_of labels) number
     × (detail ≡ Some (Rules (star_count (lines_of labels))))
 Says agents file labels cause.RepeatedRule number about detail =
     IsRepeat (lines_of labels) number × (is_too_large file ≡ false)
 Says agents file labels cause.RepeatedPastLimit number about detail =
     IsRepeat (lines_of labels) number
-Says agents file labels cause.ClosesSite number about detail =
+Says agents file labels cause.ClosedSite number about detail =
     Closes agents labels number about
-Says agents file labels cause.ClosesEverything number about detail =
+Says agents file labels cause.ClosedSiteToOthers number about detail =
     Closes agents labels number about
 Says agents file labels other number about detail = ⊥
 

@@ -2,8 +2,7 @@
 use Rattle.std.specs.Prelude.{[], ◌≡◌, ℕ, Bool, IsTrue, Any, List, ◌∷◌, Some, None, Option}
 use Rattle.std.specs.Prelude.{MatchOption, ⊤, false, if◌then◌else◌, true}
 use Rattle.texting_robots.specs.Callers.{LineValue}
-use Rattle.robots_warnings.specs.declared.table.Cause.{Cause, TheVariants.ClosesEverything}
-use Rattle.robots_warnings.specs.declared.table.Cause.TheVariants.{ClosesSite, EmptyDisallow, UrlNotNormal}
+use Rattle.robots_warnings.specs.{declared.table.Cause.Cause, declared.table.Cause.TheVariants as cause}
 use Rattle.robots_warnings.specs.{Closed.line_closing_site, Conflicts.overrules_for_one}
 use Rattle.robots_warnings.specs.{Message.WarningValue}
 use Rattle.robots_warnings.specs.{Targets.has_odd_target}
@@ -12,7 +11,7 @@ use Rattle.robots_warnings.specs.{Targets.has_odd_target}
 abbrev pub url_warnings : List ℕ → List WarningValue
 url_warnings url =
     if has_odd_target url then
-    record { line = None; cause = UrlNotNormal; about = Some url; detail = None } ∷ [] else []
+    record { line = None; cause = cause.UrlNotNormal; about = Some url; detail = None } ∷ [] else []
 
 -- a warning for such a reason about the line with this number
 abbrev pub IsAbout : (is_reason : Cause → Bool) → (number : ℕ) → WarningValue → Type 0
@@ -24,8 +23,8 @@ HasEach is_reason IsIn found = (number : ℕ) → IsIn number → Any (IsAbout i
 
 -- that a line closes a site
 abbrev pub is_closing_cause : Cause → Bool
-is_closing_cause ClosesSite = true
-is_closing_cause ClosesEverything = true
+is_closing_cause cause.ClosedSite = true
+is_closing_cause cause.ClosedSiteToOthers = true
 is_closing_cause other = false
 
 -- if there is a line, there is such a warning about it
@@ -40,7 +39,7 @@ abbrev pub HasClosed : (agents : List (List ℕ)) → List LineValue → (found 
 HasClosed agents lines found = HasEach is_closing_cause (ClosesToOne agents lines) found
 
 abbrev pub is_empty_cause : Cause → Bool
-is_empty_cause EmptyDisallow = true
+is_empty_cause cause.EmptyDisallow = true
 is_empty_cause other = false
 
 -- where an empty Disallow overrules a Disallow for one of these crawlers, its line has such a warning;

@@ -171,10 +171,10 @@ fn warn_of_lines(
 
 fn warn_of_positions(found: &mut Found<'_>, known: &Known<'_, '_>) -> Result<(), AllocError> {
     let labels = known.read.labels.as_slice();
-    let two_delays = if known.read.facts.is_too_large {
-        Cause::TwoDelaysPastLimit
+    let repeated_delay = if known.read.facts.is_too_large {
+        Cause::RepeatedDelayPastLimit
     } else {
-        Cause::TwoDelays
+        Cause::RepeatedDelay
     };
     let last = last_group(labels);
     let mut preceding = Preceding::Other;
@@ -183,7 +183,7 @@ fn warn_of_positions(found: &mut Found<'_>, known: &Known<'_, '_>) -> Result<(),
         let checks = position_checks(last, preceding, above, labeled, &labels[index..]);
         warn_of(found, labeled, &checks)?;
         let is_other_delay = has_number(&known.delays, labeled.number);
-        warn_of(found, labeled, &[(two_delays, is_other_delay)])?;
+        warn_of(found, labeled, &[(repeated_delay, is_other_delay)])?;
         above = sole_name(preceding, above, labeled.line);
         preceding = preceding_with(preceding, labeled.line);
     }
@@ -279,7 +279,12 @@ pub(crate) fn group_candidates<'a>(
     let mut found = Vec::new(alloc);
     let (read, agents) = (known.read, known.agents);
     let replaced = Some(Detail::Rules(known.star_count));
-    warn_at(&mut found, Cause::ReplacesStar, replaced, &known.replacing)?;
+    warn_at(
+        &mut found,
+        Cause::GroupWithoutStarRules,
+        replaced,
+        &known.replacing,
+    )?;
     let repeated = if read.facts.is_too_large {
         Cause::RepeatedPastLimit
     } else {

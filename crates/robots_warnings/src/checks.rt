@@ -25,8 +25,8 @@ pub(crate) type Check = (Cause, bool);
 pub(crate) fn file_checks(facts: FileFacts) -> [Check; 9] {
     let is_empty = !(facts.kinds.text || facts.is_too_large);
     [
-        (Cause::LooksLikeHtml, facts.is_html),
-        (Cause::LooksLikeUtf16, facts.is_utf_16),
+        (Cause::HtmlPage, facts.is_html),
+        (Cause::Utf16Text, facts.is_utf_16),
         (Cause::NoDirectives, facts.is_other_text),
         (Cause::EmptyFile, is_empty && !facts.has_hash),
         (Cause::OnlyComments, is_empty && facts.has_hash),
@@ -36,7 +36,7 @@ pub(crate) fn file_checks(facts: FileFacts) -> [Check; 9] {
             facts.kinds.rule && !facts.kinds.user_agent,
         ),
         (Cause::DamagedByteOrderMark, facts.has_damaged_mark),
-        (Cause::NulEndsLine, facts.has_nul && !facts.is_utf_16),
+        (Cause::NulInLine, facts.has_nul && !facts.is_utf_16),
     ]
 }
 
@@ -66,13 +66,13 @@ pub(crate) fn raw_rule_checks(
             is_in_scope && is_emptied(value, tail, comment),
         ),
         (
-            Cause::HashCutsRule,
+            Cause::HashInRule,
             is_in_scope && is_cut_short(value, tail, comment),
         ),
     ]
 }
 
-fn is_one_line(text: &[u8]) -> bool {
+fn has_several_directives(text: &[u8]) -> bool {
     has(b':', text) && somewhere(text, begins_inner_field)
 }
 
@@ -82,7 +82,7 @@ pub(crate) fn user_agent_checks(value: &[u8]) -> [Check; 2] {
     [
         (
             Cause::InvalidProductToken,
-            is_other && !(is_usual || is_one_line(value)),
+            is_other && !(is_usual || has_several_directives(value)),
         ),
         (Cause::UnusualProductToken, is_other && is_usual),
     ]
@@ -100,7 +100,7 @@ pub(crate) fn rule_checks(value: &[u8]) -> [Check; 17] {
     let is_other = is_regex | has_tag(value);
     let has_odd_byte = has_odd_character(value) & !(is_quoted(value) | is_other);
     let (several, seems_several) = several_values(value);
-    let is_one = is_one_line(value) | has_equals;
+    let is_explained = has_several_directives(value) | has_equals;
     [
         (Cause::RuleNotUtf8, !is_utf8(value)),
         (Cause::EqualsInRule, is_odd & has_equals),
@@ -118,7 +118,7 @@ pub(crate) fn rule_checks(value: &[u8]) -> [Check; 17] {
         (Cause::EscapedWildcard, has_wildcard(value)),
         (Cause::DotSegment, has_dot_segment(value)),
         (Cause::QuestionMarks, has_question_marks(value)),
-        (several, (is_utf8(value) & seems_several) & !is_one),
+        (several, (is_utf8(value) & seems_several) & !is_explained),
     ]
 }
 
@@ -127,13 +127,13 @@ pub(crate) fn sitemap_checks(alloc: Global, value: &[u8]) -> Result<[Check; 3], 
     Ok([
         (cause, seems_several),
         (Cause::SitemapNotAbsolute, !is_absolute_url(alloc, value)?),
-        (Cause::SitemapHost, has_odd_host(alloc, value)?),
+        (Cause::SitemapNotPublic, has_odd_host(alloc, value)?),
     ])
 }
 
 pub(crate) fn text_checks(tail: &[u8], comment: &[u8]) -> [Check; 2] {
     [
-        (Cause::OneLine, is_one_line(tail)),
+        (Cause::SeveralDirectives, has_several_directives(tail)),
         (Cause::ControlInComment, has_odd_comment(comment)),
     ]
 }
@@ -152,9 +152,9 @@ pub(crate) fn position_checks(
     [
         (Cause::RuleBeforeUserAgent, is_above_agents(labeled)),
         (Cause::EmptyGroup, is_empty_group(last, labeled)),
-        (Cause::DelaySplitsGroup, is_split && !is_star),
+        (Cause::GroupSplitByDelay, is_split && !is_star),
         (Cause::DelayAboveStar, is_star),
-        (Cause::JoinedGroups, are_joined(from_here)),
+        (Cause::GroupJoinedToNext, are_joined(from_here)),
         (Cause::IgnoredDelay, is_ignored(above, labeled.line)),
     ]
 }

@@ -306,7 +306,7 @@ fn is_told_by(warning: &Warning<'_>, number: usize) -> bool
     ensures { result ≡ true → IsAbout is_closing_cause number warning.now }
 {
     warning.line == Some(number)
-        && matches!(warning.cause, Cause::ClosesSite | Cause::ClosesEverything)
+        && matches!(warning.cause, Cause::ClosedSite | Cause::ClosedSiteToOthers)
 }
 
 fn is_told(found: &[Warning<'_>], number: usize) -> bool
@@ -364,11 +364,11 @@ fn closing<'a>(
     let mut found = Vec::new(alloc);
     for row in rows {
         if row.0.is_some() && is_major(let_in, site, row.1) {
-            warn_of_row(&mut found, Cause::ClosesSite, rows, *row)?;
+            warn_of_row(&mut found, Cause::ClosedSite, rows, *row)?;
         }
     }
     for row in rows {
-        warn_of_row(&mut found, Cause::ClosesEverything, rows, *row)?;
+        warn_of_row(&mut found, Cause::ClosedSiteToOthers, rows, *row)?;
     }
     Ok(found)
 }
@@ -378,8 +378,8 @@ fn of_home<'a>(warning: &Warning<'a>) -> Warning<'a> {
     Warning {
         line: warning.line,
         cause: match warning.cause {
-            Cause::ClosesSite => Cause::ClosesHome,
-            _ => Cause::ClosesHomeToOthers,
+            Cause::ClosedSite => Cause::ClosedHomePage,
+            _ => Cause::ClosedHomePageToOthers,
         },
         about: warning.about,
         detail: warning.detail,

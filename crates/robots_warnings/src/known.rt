@@ -98,13 +98,13 @@ fn is_style(cause: Cause) -> bool
         | Cause::RuleBeforeUserAgent
         | Cause::GroupPastSizeLimit
         | Cause::AllowedAndDisallowed
-        | Cause::TwoDelays
-        | Cause::TwoDelaysPastLimit
-        | Cause::ReplacesStar
+        | Cause::RepeatedDelay
+        | Cause::RepeatedDelayPastLimit
+        | Cause::GroupWithoutStarRules
         | Cause::RepeatedRule
         | Cause::RepeatedPastLimit
-        | Cause::ClosesSite
-        | Cause::ClosesEverything
+        | Cause::ClosedSite
+        | Cause::ClosedSiteToOthers
         | Cause::NeverDecides
         | Cause::MatchesNothing
         | Cause::AllowedAnyway
@@ -165,11 +165,11 @@ fn is_found(known: &Known<'_, '_>, cause: Cause, number: usize, detail: Option<D
     match cause {
         Cause::GroupPastSizeLimit => has_number(&known.past_limit, number),
         Cause::AllowedAndDisallowed => is_conflict(&known.rules, number, detail),
-        Cause::TwoDelays => !is_too_large && has_number(&known.delays, number),
-        Cause::TwoDelaysPastLimit => has_number(&known.delays, number),
+        Cause::RepeatedDelay => !is_too_large && has_number(&known.delays, number),
+        Cause::RepeatedDelayPastLimit => has_number(&known.delays, number),
         Cause::RepeatedRule => !is_too_large && has_number(&known.repeated, number),
         Cause::RepeatedPastLimit => has_number(&known.repeated, number),
-        Cause::ReplacesStar => match detail {
+        Cause::GroupWithoutStarRules => match detail {
             Some(Detail::Rules(count)) => {
                 count == known.star_count && has_number(&known.replacing, number)
             }

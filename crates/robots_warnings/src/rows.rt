@@ -7,12 +7,12 @@ pub(crate) const COUNT: usize = 98;
 /// The rows, for a macro that takes a column of them.
 #[rattlefmt::skip]
 macro_rules! every_row { ($column:ident) => { $column![
-    LooksLikeHtml Error "looks-like-html"
+    HtmlPage Error "html-page"
         "no usable line found; the text starts with <, so it may be an HTML page; serve a plain-text robots.txt instead"
         "<html>\n</html>"
         "User-agent: *\nDisallow: /search"
         "the file has no directive, and its first character is <, not counting a byte order mark, spaces, tabs and line ends; then no line has a warning of its own",
-    LooksLikeUtf16 Error "looks-like-utf-16"
+    Utf16Text Error "utf-16-text"
         "no usable line found; the file looks like UTF-16; save it as UTF-8"
         "\\xFF\\xFED\\x00" ""
         "the file has no directive, and it starts with the byte order mark of UTF-16, or it has at least four bytes and every second one of the first 64 is NUL; then no line has a warning of its own",
@@ -43,7 +43,7 @@ macro_rules! every_row { ($column:ident) => { $column![
         "\\xEF\\xBBAllow: /"
         "User-agent: *\nAllow: /"
         "the file starts with EF, BB or BF, but not with all three bytes of a byte order mark",
-    NulEndsLine Warning "nul-ends-line"
+    NulInLine Warning "nul-in-line"
         "the file contains a NUL byte, which ends a line here, but may not in other crawlers; put a line end in its place, or delete it at the end of a line"
         "Allow: /\\x00"
         "User-agent: *\nAllow: /"
@@ -156,21 +156,21 @@ macro_rules! every_row { ($column:ident) => { $column![
         "not a valid product token (ASCII letters, _ and - only, or a single *); crawlers disagree on how to match it; write one name per User-agent line, without version, quotes or *"
         "User-agent: *\nUser-agent: Bot/1.0\nDisallow: /a"
         "User-agent: *\nUser-agent: Bot\nDisallow: /a"
-        "the name isn't a product token, nor like names that crawlers have: ASCII letters, digits, _, -, dots and spaces, possibly with a single * at the end; several names in one line aren't such a name either; not with one-line",
+        "the name isn't a product token, nor like names that crawlers have: ASCII letters, digits, _, -, dots and spaces, possibly with a single * at the end; several names in one line aren't such a name either; not with several-directives",
     UnusualProductToken Note "unusual-product-token"
         "not a valid product token (ASCII letters, _ and - only), although some crawlers have such names; here the whole name is compared, but others, such as Google, read only the letters, _ and - at its start; check the crawler's documentation"
         "User-agent: MJ12bot\nDisallow: /a" ""
         "the name isn't a product token, but like names that crawlers have: ASCII letters, digits, _, -, dots and spaces, possibly with a single * at the end",
-    HashLeavesRoot Error "hash-cuts-rule"
+    HashLeavesRoot Error "hash-in-rule"
         "everything from # on is a comment, so what is left of the rule is the whole site, or an empty Disallow, an Allow of / here; rules can't be about the part of a URL after #; write %23 if a path has one, or a space before a comment"
         "User-agent: *\nDisallow: /#/admin"
         "User-agent: *\nDisallow: /%23/admin"
         "a # directly follows a byte of the value of a rule with a colon, or a comment that begins with #/, #!/ or # and a letter or digit is in place of a value; it is an error if the whole site or, before #/ or #!/, an empty Disallow is left; it isn't given if an empty Allow is left, or what is left has an error of its own",
-    HashEmptiesRule Warning "hash-cuts-rule"
+    HashEmptiesRule Warning "hash-in-rule"
         "the # begins a comment, so nothing is left of the rule, and an empty Disallow is an Allow of / here; write a path, without a fragment, or a space after the # of a comment"
         "User-agent: *\nDisallow: #top"
         "User-agent: *\nDisallow: # top" "",
-    HashCutsRule Warning "hash-cuts-rule"
+    HashInRule Warning "hash-in-rule"
         "everything from # on is a comment, so the rule is shorter and matches more paths; write %23 for a # in a path, or a space before a comment"
         "User-agent: *\nDisallow: /a#b"
         "User-agent: *\nDisallow: /a # b" "",
@@ -261,7 +261,7 @@ macro_rules! every_row { ($column:ident) => { $column![
         "all of this is read as one value, with the white space or control character in it; write one value per line, %20 for a space, and comments after #"
         "User-agent: *\nDisallow: /a/ /b/"
         "User-agent: *\nDisallow: /a/\nDisallow: /b/"
-        "the value of a rule or a sitemap has white space inside, or another byte up to 0x20; a comma or semicolon before / or http; a < before a letter, / or !; or a soft hyphen, a zero-width space, a word joiner or a byte order mark; the first of these is named; not for a rule that isn't UTF-8, begins with = or has one-line",
+        "the value of a rule or a sitemap has white space inside, or another byte up to 0x20; a comma or semicolon before / or http; a < before a letter, / or !; or a soft hyphen, a zero-width space, a word joiner or a byte order mark; the first of these is named; not for a rule that isn't UTF-8, begins with = or has several-directives",
     CommaInValue Warning "several-values"
         "all of this is read as one value, with the comma or semicolon in it; write one value per line"
         "User-agent: *\nDisallow: /a/,/b/"
@@ -289,7 +289,7 @@ macro_rules! every_row { ($column:ident) => { $column![
         "User-agent: *\nSitemap: /s.xml"
         "User-agent: *\nDisallow: /a\nSitemap: https://example.com/s.xml"
         "the value of a sitemap isn't an http(s) URL that can be parsed",
-    SitemapHost Warning "sitemap-host"
+    SitemapNotPublic Warning "sitemap-not-public"
         "the sitemap's host isn't a public name (it is missing, an IP address, localhost, undefined or null), so search engines may not fetch it; write the site's own, for example: https://example.com/sitemap.xml"
         "User-agent: *\nSitemap: http://localhost/s.xml"
         "User-agent: *\nDisallow: /a\nSitemap: https://example.com/s.xml"
@@ -312,7 +312,7 @@ macro_rules! every_row { ($column:ident) => { $column![
     RepeatedSitemapPastLimit Note "repeated-sitemap"
         "a line above lists the same sitemap, so this one changes nothing"
         "Sitemap: https://example.com/s.xml\nSitemap: https://example.com/s.xml\n\\{512000 #}" "" "",
-    OneLine Error "one-line"
+    SeveralDirectives Error "several-directives"
         "another field name follows in the same line, where it isn't recognized; write each User-agent, Allow, Disallow, Crawl-delay and Sitemap on a line of its own"
         "User-agent: * Disallow: /"
         "User-agent: *\nDisallow: /a"
@@ -336,16 +336,16 @@ macro_rules! every_row { ($column:ident) => { $column![
         "Disallow: /a\nUser-agent: *"
         "User-agent: *\nDisallow: /a"
         "no rule and no delay follows a User-agent line",
-    DelayAboveStar Note "delay-splits-group"
+    DelayAboveStar Note "group-split-by-delay"
         "only a Crawl-delay ends the group above, so names that only it has get none of the rules of * below; crawlers that ignore the delay, such as Google's, apply these to that group too; add to it those meant for it, or, if its names have no other group, an empty Disallow"
         "User-agent: a\nCrawl-delay: 1\nUser-agent: *\nDisallow: /b"
         "User-agent: a\nCrawl-delay: 1\nDisallow: /b\nUser-agent: *\nDisallow: /b"
         "only delays are between a User-agent line and one above it, and the lower group has rules; not if the only name above is in the lower group, too; it is a note if that group is the one of *",
-    DelaySplitsGroup Warning "delay-splits-group"
+    GroupSplitByDelay Warning "group-split-by-delay"
         "only a Crawl-delay ends the group above; crawlers that ignore it, such as Google's, apply the rules below to that group too; add to that group the rules meant for it, or move the Crawl-delay down to join the two"
         "User-agent: a\nCrawl-delay: 1\nUser-agent: b\nDisallow: /"
         "User-agent: a\nUser-agent: b\nCrawl-delay: 1\nDisallow: /" "",
-    JoinedGroups Warning "joined-groups"
+    GroupJoinedToNext Warning "group-joined-to-next"
         "the next User-agent line belongs to the same group, since no rule or delay is between the two; rules below it, if any, are for both lines; if that isn't meant, add rules here, or an empty Disallow; if it is, move one line directly below the other"
         "User-agent: a\n\nUser-agent: b\nDisallow: /c"
         "User-agent: a\nDisallow:\n\nUser-agent: b\nDisallow: /c"
@@ -364,12 +364,12 @@ macro_rules! every_row { ($column:ident) => { $column![
         "User-agent: *\nDisallow: /\nDisallow:"
         "User-agent: *\nDisallow: /"
         "a crawler of the report has this empty Disallow and a Disallow of / or *, but no Allow of these that is written so; the number is the line of that Disallow",
-    TwoDelays Warning "two-delays"
+    RepeatedDelay Warning "repeated-delay"
         "the delay differs from one above it in the same group, so it isn't used here, but other crawlers may use it; delete all but one"
         "User-agent: *\nCrawl-delay: 1\nCrawl-delay: 2"
         "User-agent: *\nCrawl-delay: 1"
         "the delay differs from the first one below the same User-agent lines, or in a file without any; in a file of more than 512,000 bytes the message doesn't propose a deletion, since more of the file would be read then",
-    TwoDelaysPastLimit Warning "two-delays"
+    RepeatedDelayPastLimit Warning "repeated-delay"
         "the delay differs from one above it in the same group, so it isn't used here, but other crawlers may use it"
         "User-agent: *\nCrawl-delay: 1\nCrawl-delay: 2\n\\{512000 #}" "" "",
     IgnoredDelay Note "ignored-delay"
@@ -377,24 +377,24 @@ macro_rules! every_row { ($column:ident) => { $column![
         "User-agent: Googlebot\nCrawl-delay: 10"
         "User-agent: Googlebot\nDisallow: /a"
         "a valid delay below a User-agent line whose name contains google or yandex; no other one is between that line and the last rule above it",
-    ClosesSite Warning "closes-everything"
+    ClosedSite Warning "closed-site"
         "may fetch nothing, or only what Allows for the home page, sitemaps or files such as style sheets match; if search engines should read the site, delete this rule or add a longer Allow"
         "User-agent: *\nDisallow: /"
         "User-agent: *\nDisallow: /private/"
         "a Disallow matches every path, and each Allow at least as long is /$, /robots.txt or the path of a sitemap of the file, begins with /.well-known or /sitemap, ends as static files do (/*.js, which also matches /a.jsp), or matches no path; not if the vendor applies another group, or the name is in the file and gives misspelled-name. A warning for large search engines, and for * and crawlers without a group if no group lets a large search engine in; else a note",
-    ClosesEverything Note "closes-everything"
+    ClosedSiteToOthers Note "closed-site"
         "may fetch nothing, or only what Allows for the home page, sitemaps or files such as style sheets match; if that isn't meant, delete this rule or add a longer Allow"
         "User-agent: GPTBot\nDisallow: /"
         "User-agent: GPTBot\nDisallow: /\nAllow: /public/" "",
-    ClosesHome Warning "closes-home-page"
+    ClosedHomePage Warning "closed-home-page"
         "may fetch only what this rule doesn't match or an Allow at least as long names, so not the home page; if search engines should read that, delete this rule or add a longer Allow"
         "User-agent: *\nDisallow: /\nAllow: /blog/"
         "User-agent: *\nDisallow: /\nAllow: /$\nAllow: /blog/"
-        "a Disallow of *, of a crawler without a group of its own or of a large search engine matches the path /, each Allow that matches it is shorter, and closes-everything isn't given for the crawler; lines count as there; it is a note if none of the crawlers is a large search engine, and a group of its own doesn't close the whole site to one",
-    ClosesHomeToOthers Note "closes-home-page"
+        "a Disallow of *, of a crawler without a group of its own or of a large search engine matches the path /, each Allow that matches it is shorter, and closed-site isn't given for the crawler; lines count as there; it is a note if none of the crawlers is a large search engine, and a group of its own doesn't close the whole site to one",
+    ClosedHomePageToOthers Note "closed-home-page"
         "may fetch only what this rule doesn't match or an Allow at least as long names, so not the home page, but a large search engine has a group that doesn't close the whole site; if that isn't meant, delete this rule or add a longer Allow"
         "User-agent: Googlebot\nAllow: /\nUser-agent: *\nDisallow: /$" "" "",
-    ReplacesStar Note "replaces-star"
+    GroupWithoutStarRules Note "group-without-star-rules"
         "the group has none of the Disallow rules of *, and a crawler that a group names gets only the rules of such groups; repeat in this group those that should apply to it"
         "User-agent: *\nDisallow: /a\nUser-agent: FerrisBot\nDisallow: /b"
         "User-agent: *\nDisallow: /a\nUser-agent: FerrisBot\nDisallow: /a\nDisallow: /b"
@@ -421,7 +421,7 @@ macro_rules! every_row { ($column:ident) => { $column![
         "# robots_audit robots.txt --agent Googlebot-News\nUser-agent: Googlebot\nDisallow: /a"
         "# robots_audit robots.txt --agent Googlebot-News\nUser-agent: Googlebot\nUser-agent: Googlebot-News\nDisallow: /a"
         "a crawler of the report is known to get the group of another one from its vendor, if it has none of its own, and the file names that one, but not this one; a line names a crawler if the letters, _ and - that its value begins with are the name; only the first such line is looked at, and none if a line has exactly the crawler's name",
-    IgnoresStar Note "ignores-star"
+    IgnoredStar Note "ignored-star"
         "the crawler has no group of its own, and its vendor doesn't apply the group of * to it, so it may fetch everything; add a group for it"
         "# robots_audit robots.txt --agent AdsBot-Google\nUser-agent: *\nDisallow: /a"
         "# robots_audit robots.txt --agent AdsBot-Google\nUser-agent: *\nUser-agent: AdsBot-Google\nDisallow: /a"

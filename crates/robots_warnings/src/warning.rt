@@ -60,12 +60,12 @@ impl<'a> Warning<'a> {
     /// What the warning is about, if it isn't about a line alone.
     pub fn kind(&self) -> &'static str {
         match self.cause {
-            Cause::ClosesSite
-            | Cause::ClosesEverything
-            | Cause::ClosesHome
-            | Cause::ClosesHomeToOthers
+            Cause::ClosedSite
+            | Cause::ClosedSiteToOthers
+            | Cause::ClosedHomePage
+            | Cause::ClosedHomePageToOthers
             | Cause::VendorGroup
-            | Cause::IgnoresStar
+            | Cause::IgnoredStar
             | Cause::WrongName
             | Cause::MisspelledName => "crawler",
             _ => "URL",

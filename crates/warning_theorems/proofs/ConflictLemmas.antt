@@ -22,7 +22,7 @@ use Rattle.audit_core.proofs.ReachLemmas.{whole_site_matches}
 use Rattle.robots_rules.proofs.{TogetherLemmas.unplaced_of}
 use Rattle.warning_theorems.proofs.{WarningLemmas.without_path}
 
--- ---- What `hash-cuts-rule` and `allowed-and-disallowed` imply.
+-- ---- What `hash-in-rule` and `allowed-and-disallowed` imply.
 
 pub cut_to_root_matches : (value tail comment path : List ℕ) → is_cut_to_root value tail comment ≡ true
     → Matches (escaped value) (byte "/" ∷ path)
@@ -82,7 +82,7 @@ conflict_never_decides is_empty agent lines rules number other text is wins are 
     (wins.0 (subst (λ (rule : Rule). Matches rule.0 text) same decides.matches))
     (grind arith)
 
--- ---- What `closes-everything` implies.
+-- ---- What `closed-site` implies.
 
 line_given : (test : PlacedRule → Bool) (placed : PlacedRule) → is_some (line_if test placed) ≡ test placed
 line_given test placed = grind arith
@@ -162,13 +162,13 @@ closed_by : (other : Bool) (line : Option ℕ) {number : ℕ} → (if other then
 closed_by true line is = cc
 closed_by false line is = is
 
-pub closes_everything : (agent : List ℕ) (lines : List LineValue) (rules : List PlacedRule) (number : ℕ)
+pub closed_site : (agent : List ℕ) (lines : List LineValue) (rules : List PlacedRule) (number : ℕ)
     (text : List ℕ) → line_closing_site lines agent ≡ Some number → AreRulesFor agent lines rules
     → list_any (starts_with nat_eq (byte "/" ∷ text)) (opened_paths lines) ≡ false
     → ((pattern : List ℕ) → Contains (unplaced rules) (pattern, true) → opens_little pattern ≡ true
     → ¬ Matches pattern (byte "/" ∷ text))
     → IsDenied (unplaced rules) (byte "/" ∷ text)
-closes_everything agent lines rules number text is are none opens =
+closed_site agent lines rules number text is are none opens =
     closed_denies (leaves_closed (is_exempt lines)) agent lines rules text
     (ap is_some (closed_by _ _ is)) are
     (grind arith)

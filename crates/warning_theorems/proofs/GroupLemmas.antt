@@ -1,5 +1,5 @@
--- Warnings about groups. Lines with `two-delays` can be deleted: the delay of every crawler stays the same. A
--- line with `replaces-star` is in the group of a crawler that has no Disallow of `*`.
+-- Warnings about groups. Lines with `repeated-delay` can be deleted: the delay of every crawler stays the
+-- same. A line with `group-without-star-rules` is in the group of a crawler that has no Disallow of `*`.
 use Rattle.std.proofs.lemmas.{Option.slice_get-map}
 use Rattle.std.proofs.Common.{rules, codes, inl, inr, refl, subst, sym, ◌≤◌, ◌-◌, ◌≡◌, ◌+◌, ℕ}
 use Rattle.std.proofs.Common.{◌∙◌, suc, zero, Bool, true, false, not, List, [], ◌∷◌, All, Contains, map}
@@ -213,12 +213,13 @@ delay_as_before name agent lines labels numbers labeled all =
     subst (λ of. delay_for agent (lines_without numbers of) ≡ delay_for agent of) same
     (delay_stays (subst (λ of. AreLabelsOf name of labels) (sym same) labeled) numbers all agent)
 
-pub two_delays_can_be_deleted : (name agent file left : List ℕ) (labels : List Label) (numbers : List ℕ)
+pub repeated_delays_can_be_deleted : (name agent file left : List ℕ) (labels : List Label)
+    (numbers : List ℕ)
     → length file ≤ file_limit → AreLabelsOf name (lines_read file) labels
     → All (Contains (later_delays labels)) numbers
     → IsLeftOf numbers file left → begin_with_mark (lines_without numbers (file_bodies file)) ≡ false
     → delay_for agent (lines_read left) ≡ delay_for agent (lines_read file)
-two_delays_can_be_deleted name agent file left labels numbers short labeled all is front =
+repeated_delays_can_be_deleted name agent file left labels numbers short labeled all is front =
     (same_left numbers file left agent short is front).0.delay
     ∙ delay_as_before name agent (lines_read file) labels numbers labeled all
 
@@ -294,12 +295,12 @@ from_drop (line ∷ lines) (suc position) i =
     let same : suc position + i ≡ suc (position + i) = omega arith in
     ap (slice_get (line ∷ lines)) same ∙ from_drop lines position i
 
-pub replaces_star : (agents : List (List ℕ)) (lines : List LineValue) (number : ℕ)
+pub group_without_star_rules : (agents : List (List ℕ)) (lines : List LineValue) (number : ℕ)
     → IsReplacing agents lines lines number
     → (position : ℕ) × (value agent : List ℕ) × (number ≡ position + 1)
     × (slice_get lines position ≡ Some (UserAgent value)) × Contains agents agent
     × IsInOwnGroup (str_to_ascii_lowercase agent) lines position × HasNone agent lines
-replaces_star agents lines number (position, number_is, passes) =
+group_without_star_rules agents lines number (position, number_is, passes) =
     at (drop position lines) (record { each = from_drop lines position }) passes
   where
     at : (rest : List LineValue) → IsFrom lines position rest → name_lacking agents lines rest ≡ true

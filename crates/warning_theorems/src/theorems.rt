@@ -148,10 +148,10 @@ pub fn without_empty_disallows()
         ↔ IsVerdict (unplaced (stated_rules is_empty rules)) text answer }
 {}
 
-/// If `closes-everything` is given because of the rules of a crawler, every path is denied to it, unless it
+/// If `closed-site` is given because of the rules of a crawler, every path is denied to it, unless it
 /// begins with `/robots.txt` or with the path of a sitemap that the file lists, or an Allow matches it that
 /// opens little.
-pub fn closes_everything()
+pub fn closed_site()
     ensures { (agent : List ℕ) (lines : List LineValue) (rules : List PlacedRule) (number : ℕ) (text : List ℕ)
         → line_closing_site lines agent ≡ Some number → AreRulesFor agent lines rules
         → list_any (starts_with nat_eq (byte "/" ∷ text)) (opened_paths lines) ≡ false
@@ -178,17 +178,17 @@ pub fn repeated_rules_can_be_deleted()
         ↔ IsVerdict (rules_for agent (lines_read left)) text answer }
 {}
 
-/// A rule with the error `hash-cuts-rule` matches every path, also an empty Disallow, which is an Allow of
+/// A rule with the error `hash-in-rule` matches every path, also an empty Disallow, which is an Allow of
 /// `/`.
-pub fn hash_cuts_rule()
+pub fn hash_in_rule()
     ensures { (value tail comment path : List ℕ) → is_cut_to_root value tail comment ≡ true
         → Matches (escaped value) (byte "/" ∷ path) }
 {}
 
-/// A line with `replaces-star` is a user-agent line, and its list of user-agent lines has the name of a
-/// crawler that is reported on. No Disallow that applies to this crawler has the pattern of a Disallow that
-/// applies to `*`. The number in the message is how many Disallows `*` has.
-pub fn replaces_star()
+/// A line with `group-without-star-rules` is a user-agent line, and its list of user-agent lines has the name
+/// of a crawler that is reported on. No Disallow that applies to this crawler has the pattern of a Disallow
+/// that applies to `*`. The number in the message is how many Disallows `*` has.
+pub fn group_without_star_rules()
     ensures group { (agents : List (List ℕ)) (lines : List LineValue) (number : ℕ)
         → IsReplacing agents lines lines number
         → (position : ℕ) × (value agent : List ℕ) × (number ≡ position + 1)
@@ -200,10 +200,10 @@ pub fn replaces_star()
         → star_count lines ≡ count_by (λ (placed : PlacedRule). not placed.rule.1) rules }
 {}
 
-/// If lines with `two-delays` are deleted from a file of at most 512,000 bytes, one or several or all, with
-/// their line ends, the delay of every crawler stays the same, unless the first line that stays begins with a
-/// byte of the byte order mark.
-pub fn two_delays()
+/// If lines with `repeated-delay` are deleted from a file of at most 512,000 bytes, one or several or all,
+/// with their line ends, the delay of every crawler stays the same, unless the first line that stays begins
+/// with a byte of the byte order mark.
+pub fn repeated_delay()
     ensures { (name agent file left : List ℕ) (labels : List Label) (numbers : List ℕ)
         → length file ≤ file_limit → AreLabelsOf name (lines_read file) labels
         → All (Contains (later_delays labels)) numbers

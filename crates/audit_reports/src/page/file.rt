@@ -2,7 +2,7 @@
 use crate::page::elements::{Page, put_text};
 use crate::page::warnings::write_warning_row;
 use audit_core::audit::labeling_agent;
-use audit_core::rows::{Shown, comment_of, membership_word, shown_kind};
+use audit_core::rows::{Shown, comment_of, membership_word, shown_field};
 use audit_core::together::Together;
 use robots_warnings::warning::Warning;
 use safe_output::report::Untrusted;
@@ -50,7 +50,7 @@ fn write_line_row(page: &mut Page, label: &LabeledLine<'_>) {
         Line::UserAgent(_) => page.open_class("td", "agent"),
         _ => page.open("td"),
     }
-    page.write_str(shown_kind(label));
+    page.write_str(shown_field(label));
     page.close();
     write_value_cell(page, label);
     page.close();

@@ -66,7 +66,7 @@ td:only-child { grid-column: 1 / -1 }
 .scroll caption { padding: .4rem .5rem; position: sticky; left: 0; width: max-content; max-width: 100% }
 
 .allowed, .everything { color: var(--yes); font-weight: 600 }
-.listed { font-weight: 600 }
+.only-what-lines-allow { font-weight: 600 }
 .mistake .allowed, .mistake .everything { color: inherit }
 .denied, .nothing { color: var(--no); font-weight: 600 }
 td a { font-weight: 400 }
