@@ -48,15 +48,15 @@ def test_random_files_have_the_results_of_the_c_library_and_of_robots_verdict(ro
         ours, text = Robots(file), "".join(f"{line}\n" for line in [agent, *urls, ""]).encode() + file
         printed = support.run(program, (), text)
         rows = robots.matrix([agent, "o"], file, urls)
-        assert ours.matrix(urls, [agent, "o"]) == [[None if it == robots.NO_RESULT else verdict_of(it) for it in row] for row in rows]
+        assert ours.matrix(urls, [agent, "o"]) == [[None if it == robots.NO_VERDICT else verdict_of(it) for it in row] for row in rows]
         denied = [(name, url, it) for name, row in zip([agent, "o"], rows) for url, it in zip(urls, row) if it < 0]
-        denied = [(name, url, None if it == robots.NO_RESULT else -it) for name, url, it in denied]
+        denied = [(name, url, None if it == robots.NO_VERDICT else -it) for name, url, it in denied]
         assert Matrix(urls, [agent, "o"]).denials(file) == denied
         assert (ours.sitemaps, ours.agents) == (robots.sitemaps(file), robots.agents(file))
         assert ours.delay_microseconds(agent) == robots.delay(agent, file)
         assert ours.is_named(agent) == (agent.encode().lower() in [it.encode().lower() for it in ours.agents])
         try:
-            expected = [verdict_of(it) for it in robots.decide(agent, file, urls)]
+            expected = [verdict_of(it) for it in robots.verdicts_of_file(agent, file, urls)]
         except robots.RobotsError as error:
             with pytest.raises(OverlongRuleError) as raised:
                 ours.allowed(urls[0], agent)
@@ -88,5 +88,5 @@ def test_random_urls_have_the_address_and_the_result_of_the_c_library(robots):
         for _ in range(2000):
             start = chance.choice(["", "/", "https://example.com/", "http://", "HTTPS://b\u00fccher.example:8080", "mailto:"])
             url = start + "".join(chance.choices(["a", "\n", "%", "?", "#", "\0", "/../", " ", "\u00f6", "\U0001f916", "@", ":"], k=5))
-            assert address_of(robots_url, url, ValueError) == address_of(robots.address, url, robots.RobotsError), url
-            assert ours.verdict(url, "Bot") == ours.verdicts([url, "/"], "Bot")[0] == verdict_of(robot.query(url)), url
+            assert address_of(robots_url, url, ValueError) == address_of(robots.robots_url, url, robots.RobotsError), url
+            assert ours.verdict(url, "Bot") == ours.verdicts([url, "/"], "Bot")[0] == verdict_of(robot.verdict(url)), url

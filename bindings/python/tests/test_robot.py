@@ -58,7 +58,7 @@ def test_its_errors(monkeypatch):
         Robot(SHOP, "x").verdict_within("/search/help", 1)
     with pytest.raises(TypeError):
         pickle.dumps(Robot(SHOP, "x"))
-    monkeypatch.setattr(_robot, "_query", lambda *_: _robot.lib.NO_RESULT - _robot.lib.ROBOTS_OUT_OF_MEMORY)
+    monkeypatch.setattr(_robot, "_verdict", lambda *_: _robot.lib.NO_VERDICT - _robot.lib.ROBOTS_OUT_OF_MEMORY)
     with pytest.raises(MemoryError):
         Robot(SHOP, "x").allowed("/")
 

@@ -74,7 +74,7 @@ impl Site {
     }
 
     pub(crate) fn bytes(&self) -> usize {
-        unsafe { sys::robots_site_bytes(self.0.as_ptr()) }
+        unsafe { sys::robots_site_memory(self.0.as_ptr()) }
     }
 
     pub(crate) fn is_named(&self, agent: &str) -> bool {
@@ -103,14 +103,14 @@ impl Robot {
     /// 0, the line that allows the URL, or minus the line that denies it.
     pub(crate) fn query(&self, url: &str) -> Result<i64, Error> {
         let mut result = 0;
-        check(unsafe { sys::robots_query(self.0.as_ptr(), url.as_ptr().cast(), url.len(), &mut result) }, 0)?;
+        check(unsafe { sys::robots_verdict(self.0.as_ptr(), url.as_ptr().cast(), url.len(), &mut result) }, 0)?;
         Ok(result)
     }
 
     pub(crate) fn query_within(&self, url: &str, budget: u64) -> Result<i64, Error> {
         let mut result = 0;
         let status =
-            unsafe { sys::robots_query_within(self.0.as_ptr(), url.as_ptr().cast(), url.len(), budget, &mut result) };
+            unsafe { sys::robots_verdict_within(self.0.as_ptr(), url.as_ptr().cast(), url.len(), budget, &mut result) };
         check(status, 0)?;
         Ok(result)
     }
@@ -120,13 +120,13 @@ impl Robot {
     }
 
     pub(crate) fn bytes(&self) -> usize {
-        unsafe { sys::robots_bytes(self.0.as_ptr()) }
+        unsafe { sys::robots_memory(self.0.as_ptr()) }
     }
 
     /// In microseconds.
     pub(crate) fn delay(&self) -> Option<u64> {
         let mut delay = 0;
-        (unsafe { sys::robots_query_delay(self.0.as_ptr(), &mut delay) } == sys::ROBOTS_OK).then_some(delay)
+        (unsafe { sys::robots_delay(self.0.as_ptr(), &mut delay) } == sys::ROBOTS_OK).then_some(delay)
     }
 }
 
@@ -142,7 +142,7 @@ pub(crate) fn meaning(status: u32, redirects: u32, has_location: bool, is_comple
 }
 
 pub(crate) fn address(url: &str) -> Result<String, Error> {
-    written(256, |out, room, len| unsafe { sys::robots_address(url.as_ptr().cast(), url.len(), out, room, len) })
+    written(256, |out, room, len| unsafe { sys::robots_url(url.as_ptr().cast(), url.len(), out, room, len) })
 }
 
 /// What a call writes into a buffer with this room, which grows to the length that the call then needs.

@@ -107,7 +107,7 @@ impl Robot {
     ///
     /// [`Error::OutOfMemory`].
     pub fn decisions<U: AsRef<str>>(&self, urls: impl IntoIterator<Item = U>) -> Result<Vec<Decision>, Error> {
-        // robots_query_many wants one text with all URLs, which takes longer to make than a call for each takes
+        // robots_verdicts wants one text with all URLs, which takes longer to make than a call for each takes
         urls.into_iter().map(|url| self.decision(url.as_ref())).collect()
     }
 }
@@ -183,7 +183,7 @@ impl Site {
         };
         let mut results = vec![0; agents.len() * urls.len()];
         self.lines.matrix(&agents_text, &urls_text, &mut results)?;
-        let decision = |&result| (result != texting_robots_c_sys::ROBOTS_NO_RESULT).then(|| Decision::of(result));
+        let decision = |&result| (result != texting_robots_c_sys::ROBOTS_NO_VERDICT).then(|| Decision::of(result));
         Ok(results.chunks(urls.len()).map(|row| row.iter().map(decision).collect()).collect())
     }
 

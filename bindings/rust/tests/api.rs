@@ -217,7 +217,7 @@ fn debug_and_errors_of_the_standard_library() {
     }
     let errors: [Box<dyn std::error::Error + Send + Sync>; 3] =
         [Error::OutOfMemory.into(), Error::NoAddress.into(), Error::TooCostly.into()];
-    let texts = ["out of memory", "the URL has no robots.txt file", "the query is too costly for its budget"];
+    let texts = ["out of memory", "the URL has no robots.txt file", "the verdict is too costly for its budget"];
     assert_eq!(errors.map(|error| error.to_string()), texts);
 }
 

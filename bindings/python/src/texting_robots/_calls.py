@@ -19,8 +19,8 @@ if not lib.processor_fits():
 FILE_LIMIT: Final = lib.ROBOTS_FILE_LIMIT
 """How many bytes of a file count: no more need be fetched."""
 
-NO_RESULT: Final = lib.NO_RESULT
-LAST_FAILURE: Final = NO_RESULT - lib.ROBOTS_OVERLONG_RULE
+NO_VERDICT: Final = lib.NO_VERDICT
+LAST_FAILURE: Final = NO_VERDICT - lib.ROBOTS_OVERLONG_RULE
 Body = Union["ReadableBuffer", str]
 _MAY_BE: Final = {
     "url": "a str, such as 'https://example.com/a'",
@@ -167,7 +167,7 @@ def check(status: int, robot: CData | None = None, url: str = "") -> None:
         return
     if status == lib.ROBOTS_OUT_OF_MEMORY:
         raise MemoryError
-    if status == lib.ROBOTS_NO_ADDRESS:
+    if status == lib.ROBOTS_NO_ROBOTS_URL:
         raise UrlError(f"{url!r} is no URL of http or https with a host, so it has no robots.txt file")
     if status == lib.ROBOTS_TOO_COSTLY:
         raise TooCostlyError("the verdict is too costly for its budget")

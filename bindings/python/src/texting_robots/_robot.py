@@ -7,7 +7,7 @@ from typing import TYPE_CHECKING, Final
 
 from ._calls import (
     LAST_FAILURE,
-    NO_RESULT,
+    NO_VERDICT,
     Body,
     Verdict,
     arrow,
@@ -30,7 +30,7 @@ if TYPE_CHECKING:
 
     from ._native import CData
 
-_query: Final = lib.robot_query
+_verdict: Final = lib.robot_verdict
 _encode: Final = str.encode
 _MISFITS: Final = {
     lib.ROBOTS_INVALID_ENDS: "the ends decrease, or one is after the end of the URLs",
@@ -63,20 +63,20 @@ class Robot:
             text = _encode(url)
         except TypeError:
             raise wrong_type("url", url) from None
-        result = _query(self._opened, text, len(text))
+        result = _verdict(self._opened, text, len(text))
         if result >= 0:
             return True
         return result <= LAST_FAILURE and self._fails(result)
 
     def verdict(self, url: str) -> Verdict:
         """Whether the crawler may fetch the URL, and the line that decides it."""
-        return verdict_of(self._result(url))
+        return verdict_of(self._number(url))
 
     def verdict_within(self, url: str, budget: int) -> Verdict:
         """The verdict for a URL, for a file that may be hostile: before a rule that might cost more than is left of the budget, it raises
         `TooCostlyError` (see `Robots.verdict_within`)."""
         text, result = encoded(url, "url"), ffi.new("int64_t *")
-        check(lib.robot_query_within(self._opened, text, len(text), budget, result), self._opened)
+        check(lib.robot_verdict_within(self._opened, text, len(text), budget, result), self._opened)
         return verdict_of(result[0])
 
     def cost(self, length: int) -> int:
@@ -92,7 +92,7 @@ class Robot:
         if text is None:
             return [self.verdict(url) for url in urls]
         results = ffi.new("int64_t[]", len(urls))
-        check(lib.robot_query_many(self._opened, text, len(text), results, len(urls)), self._opened)
+        check(lib.robot_verdicts(self._opened, text, len(text), results, len(urls)), self._opened)
         numbers = ffi.unpack(results, len(urls))
         verdicts = {number: verdict_of(number) for number in set(numbers)}
         return [verdicts[number] for number in numbers]
@@ -121,9 +121,9 @@ class Robot:
         if count > len(room):
             raise ValueError("results has less room than there are URLs")
         if ends is None:
-            status = lib.robot_query_array(opened, schema, array, room)
+            status = lib.robot_verdicts_array(opened, schema, array, room)
         else:
-            status = lib.robot_query_batch(opened, text, len(text), places, count, room)
+            status = lib.robot_verdicts_batch(opened, text, len(text), places, count, room)
         if status in _MISFITS:
             raise ValueError(_MISFITS[status])
         check(status, opened)
@@ -143,19 +143,19 @@ class Robot:
     @property
     def size(self) -> int:
         """How many bytes of memory it takes."""
-        return lib.robot_bytes(self._opened)
+        return lib.robot_memory(self._opened)
 
-    def _result(self, url: str) -> int:
+    def _number(self, url: str) -> int:
         """0 or the line that allows the URL, or minus the line that denies it."""
         try:
             text = _encode(url)
         except TypeError:
             raise wrong_type("url", url) from None
-        result = _query(self._opened, text, len(text))
+        result = _verdict(self._opened, text, len(text))
         if result <= LAST_FAILURE:
             self._fails(result)
         return result
 
     def _fails(self, result: int) -> bool:
-        check(NO_RESULT - result, self._opened)
+        check(NO_VERDICT - result, self._opened)
         return False

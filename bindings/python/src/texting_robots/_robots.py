@@ -7,7 +7,7 @@ from typing import TYPE_CHECKING, Final
 
 from ._calls import (
     LAST_FAILURE,
-    NO_RESULT,
+    NO_VERDICT,
     Body,
     Verdict,
     check,
@@ -34,7 +34,7 @@ if TYPE_CHECKING:
 _AGENTS_KEPT: Final = 1000
 """For so many agents a Robots keeps what the file says to them, so that it doesn't grow forever."""
 
-_query: Final = lib.robot_query
+_verdict: Final = lib.robot_verdict
 _encode: Final = str.encode
 
 
@@ -85,7 +85,7 @@ class Robots:
             text = _encode(url)
         except TypeError:
             raise wrong_type("url", url) from None
-        result = _query(opened, text, len(text))
+        result = _verdict(opened, text, len(text))
         if result >= 0:
             return True
         return result <= LAST_FAILURE and self._site.robot(agent)._fails(result)
@@ -124,7 +124,7 @@ class Robots:
         results = ffi.new("int64_t[]", length)
         check(lib.site_matrix(self._site.opened, agents_text, len(agents_text), urls_text, len(urls_text), results, length))
         numbers = ffi.unpack(results, length)
-        verdicts = {number: None if number == NO_RESULT else verdict_of(number) for number in set(numbers)}
+        verdicts = {number: None if number == NO_VERDICT else verdict_of(number) for number in set(numbers)}
         return [[verdicts[number] for number in numbers[start : start + width]] for start in range(0, length, width)]
 
     def delay(self, agent: str) -> float | None:
@@ -158,7 +158,7 @@ class Robots:
         """How many bytes of memory it takes: the file, and the rules for the agents that were asked about; with a second agent the file once
         more, and what its lines are."""
         site = self._site
-        kept = 0 if site.kept is None else lib.site_bytes(site.kept)
+        kept = 0 if site.kept is None else lib.site_memory(site.kept)
         return len(site.body) + kept + sum(robot.size for robot in list(site.robots.values()))
 
     def is_named(self, agent: str) -> bool:
@@ -267,7 +267,7 @@ class Matrix:
         results = ffi.new("int64_t[]", length)
         check(lib.file_matrix(self._agents, len(self._agents), file, len(file), self._urls, len(self._urls), results, length))
         return [
-            (agent, url, None if result == NO_RESULT else -result)
+            (agent, url, None if result == NO_VERDICT else -result)
             for (agent, url), result in zip(self._pairs, ffi.unpack(results, length))
             if result < 0
         ]

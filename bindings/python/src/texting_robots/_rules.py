@@ -71,7 +71,7 @@ class Rules:
             robot, is_costly, _ = (type(agents) is str and self._known.get(agents)) or self._learned(agents)
             if is_costly or len(url) > _URL_CHARACTERS:
                 return Decision(*robot.verdict_within(url, self._limit))
-            result = robot._result(url)
+            result = robot._number(url)
             decision = _DECISIONS.get(result)
             return _decision(result) if decision is None else decision
         except OverlongRuleError as error:
