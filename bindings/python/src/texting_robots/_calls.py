@@ -28,9 +28,9 @@ _MAY_BE: Final = {
     "user_agent": "a str, such as 'FerrisBot/1.0'",
     "urls": "several str, for example in a list",
     "agents": "several str, for example in a list",
-    "body": "bytes or another buffer, or for a Robots or a Robot a str",
+    "body": "bytes or another buffer, or for a Site or a Robot a str",
     "column": "an array of strings of Arrow without nulls, or a buffer with `ends`",
-    "results": "a buffer of 64-bit integers that can be written to, with room for each URL",
+    "verdicts": "a buffer of 64-bit integers that can be written to, with room for each URL",
     "ends": "a buffer of 64-bit integers, which don't decrease, up to the length of the URLs",
 }
 """What an argument may be, for the error about another type."""
@@ -106,12 +106,12 @@ def name_bytes(agent: str) -> bytes:
 
 
 def integers(buffer: ReadableBuffer, argument: str, kind: str) -> CData:
-    """A buffer of 64-bit integers, which can be written to if it is for results."""
+    """A buffer of 64-bit integers, which can be written to if it is for verdicts."""
     try:
         with memoryview(buffer) as view:
             fits = view.format.strip("@=<") in tuple("lqLQnN") and view.itemsize == 8 and view.c_contiguous
         if fits:
-            return ffi.from_buffer(kind, buffer, argument == "results")
+            return ffi.from_buffer(kind, buffer, argument == "verdicts")
     except (TypeError, BufferError):
         pass
     raise wrong_type(argument, buffer)
@@ -131,8 +131,8 @@ def arrow(column: object) -> tuple[CData, CData, object]:
     return ffi.cast("struct ArrowSchema *", schema), ffi.cast("struct ArrowArray *", array), kept
 
 
-def verdict_of(result: int) -> Verdict:
-    return Verdict(result >= 0, abs(result) or None)
+def verdict_of(number: int) -> Verdict:
+    return Verdict(number >= 0, abs(number) or None)
 
 
 def delay_of(status: int, microseconds: CData) -> int | None:
