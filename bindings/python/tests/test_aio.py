@@ -70,7 +70,7 @@ def over(answer, user_agent="FerrisBot", **more):
 
 
 def asked(robots, *paths):
-    """The decisions for some paths of a site, asked for at the same time."""
+    """The verdicts on some paths of a site, asked for at the same time."""
 
     async def ask():
         return await asyncio.gather(*(robots.may(f"http://a.example{path}") for path in paths))

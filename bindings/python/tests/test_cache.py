@@ -356,7 +356,7 @@ def test_without_memory(cache, monkeypatch):
 
     site, _ = fetched(cache, A, file())
     with monkeypatch.context() as changed:
-        changed.setattr(module.Rules, "decide", no_memory)
+        changed.setattr(module.Rules, "verdict", no_memory)
         assert cache.verdict(site, "http://a.example/", "x") == (False, None, "out of memory")
     for it in (module, _memory):
         monkeypatch.setattr(it, "Rules", no_memory)
