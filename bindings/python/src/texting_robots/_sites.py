@@ -38,14 +38,15 @@ class Action(enum.Enum):
 class KnownSite:
     """What is known of a site.
 
-    ``robots_url`` is the address of its robots.txt file, and ``state`` is what is known. Until ``expires`` the file is in force, and from ``refresh``
-    on it is fetched again. ``failing_since`` is when its server failed first, if it has failed ever since, or else 0.0, and ``failures`` how
-    often it has failed since then; as long as it fails, a file that it gave before stays in force. All times are seconds since 1970.
-    ``was_reached`` is whether there was ever a connection to its server.
+    ``robots_url`` is the address of its robots.txt file, and ``state`` is what is known. Until ``expires`` the file is in force, and from
+    ``refresh`` on it is fetched again. ``failing_since`` is when its server failed first, if it has failed ever since, or else 0.0, and
+    ``failures`` how often it has failed since then; as long as it fails, a file that it gave before stays in force. All times are seconds
+    since 1970. ``was_reached`` is whether there was ever a connection to its server.
 
     The other attributes are for the cache: ``packed`` is the file, compressed, ``source`` the address that it came from at last, after
-    redirects, and ``etag`` its version there; ``rules`` is the parsed file, as long as there is room for it, and ``rules_memory`` how
-    many bytes that takes; ``longest_delay`` is the longest delay of the crawlers that have been asked about. Sitemaps come by the cache's ``found``.
+    redirects, and ``etag`` its version there; ``rules`` is the parsed file, as long as there is room for it, and ``rules_memory`` how many
+    bytes that takes; ``longest_delay`` is the longest delay of the crawlers that have been asked about. Sitemaps come by the cache's
+    ``found``.
     """
 
     __slots__ = (

@@ -70,8 +70,8 @@ _WARNINGS_KEPT: Final = 10_000
 
 
 class Forbidden(IgnoreRequest):
-    """The robots.txt file with this ``robots_url`` forbids the request: by the line with this number, or because of a ``problem`` if ``line`` is
-    None."""
+    """The robots.txt file at this ``robots_url`` forbids the request: by the line with this number, or because of a ``problem`` if ``line``
+    is None."""
 
     def __init__(self, robots_url: str, line: int | None, problem: str = "") -> None:
         super().__init__(f"Forbidden by robots.txt: {f'line {line} of {robots_url}' if line else f'{robots_url}: {problem}'}")
@@ -82,8 +82,8 @@ class Forbidden(IgnoreRequest):
 
 
 class Unreachable(IgnoreRequest):
-    """The robots.txt file with this ``robots_url`` can't be fetched, and until it can, nothing is. It is asked for again in ``seconds``: nothing
-    forbids the request itself."""
+    """The robots.txt file at this ``robots_url`` can't be fetched, and until it can, nothing is. It is asked for again in ``seconds``:
+    nothing forbids the request itself."""
 
     def __init__(self, robots_url: str, seconds: float) -> None:
         super().__init__(f"{robots_url} can't be fetched: it is asked for again in {seconds:.0f} seconds")
@@ -94,8 +94,8 @@ class Unreachable(IgnoreRequest):
 
 
 class Postponed(IgnoreRequest):
-    """The robots.txt file with this ``robots_url`` can't be fetched, and the request waits on disk until it can: then it comes again. Its errback
-    isn't called for that."""
+    """The robots.txt file at this ``robots_url`` can't be fetched, and the request waits on disk until it can: then it comes again. Its
+    errback isn't called for that."""
 
     def __init__(self, robots_url: str) -> None:
         super().__init__(f"{robots_url} can't be fetched: the request waits on disk until it can")
