@@ -25,7 +25,7 @@ from typing import NamedTuple, Optional
 
 sys.path.insert(0, str(Path(__file__).resolve().parent))
 import corpus  # noqa: E402
-from texting_robots import Robots  # noqa: E402
+from texting_robots import Site  # noqa: E402
 
 try:
     import protego
@@ -51,7 +51,7 @@ class Row(NamedTuple):
 
 
 def ours(case):
-    robots = Robots(case.file)
+    robots = Site(case.file)
     return lambda url: robots.allowed(url, case.agent)
 
 

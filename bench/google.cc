@@ -44,9 +44,9 @@ static robots_robot *opened(const std::string &agent, const std::string &file) {
 }
 
 static bool ours(const robots_robot *robot, const std::string &url) {
-    int64_t result;
-    if (robots_query(robot, url.data(), url.size(), &result) != ROBOTS_OK) exit(2);
-    return robots_may_fetch(result);
+    int64_t verdict;
+    if (robots_verdict(robot, url.data(), url.size(), &verdict) != ROBOTS_OK) exit(2);
+    return robots_may_fetch(verdict);
 }
 
 static bool theirs(const std::string &agent, const std::string &file, const std::string &url) {

@@ -28,16 +28,16 @@ static void print_lines(const char *word, const char *text, size_t len) {
 static int print_verdicts(const robots_robot *robot, char **urls, int count) {
     int denied = 0;
     for (int i = 0; i < count; i++) {
-        int64_t result;
-        int32_t status = robots_query(robot, ROBOTS_STRING(urls[i]), &result);
+        int64_t verdict;
+        int32_t status = robots_verdict(robot, ROBOTS_STRING(urls[i]), &verdict);
         if (status != ROBOTS_OK)
             return report(status, 0);
-        printf("%s ", robots_may_fetch(result) ? "allow" : "deny");
-        if (robots_line(result) == 0)
+        printf("%s ", robots_may_fetch(verdict) ? "allow" : "deny");
+        if (robots_verdict_line(verdict) == 0)
             printf("- %s\n", urls[i]);
         else
-            printf("%" PRId64 " %s\n", robots_line(result), urls[i]);
-        denied |= !robots_may_fetch(result);
+            printf("%" PRId64 " %s\n", robots_verdict_line(verdict), urls[i]);
+        denied |= !robots_may_fetch(verdict);
     }
     return denied;
 }
@@ -53,7 +53,7 @@ int main(int argc, char **argv) {
 
     if (ferror(stdin)) /* the rest of the file is missing, perhaps with the rules that deny */
         return perror("ask: standard input"), 2;
-    if (argc > 2 && robots_address(ROBOTS_STRING(argv[2]), text, sizeof text, &len) == ROBOTS_OK)
+    if (argc > 2 && robots_url(ROBOTS_STRING(argv[2]), text, sizeof text, &len) == ROBOTS_OK)
         printf("robots %.*s\n", (int)len, text);
     int32_t status = robots_site_open(file, file_len, &site);
     if (status == ROBOTS_OK)
@@ -62,7 +62,7 @@ int main(int argc, char **argv) {
         robots_site_close(site);
         return report(status, line);
     }
-    if (robots_query_delay(robot, &delay) == ROBOTS_OK)
+    if (robots_delay(robot, &delay) == ROBOTS_OK)
         printf("delay %" PRIu64 "\n", delay);
     else
         puts("delay none");

@@ -9,7 +9,7 @@ def main(agent, *urls):
     file = sys.stdin.buffer.read()
     if urls:
         try:
-            print("robots", robots.address(urls[0]))
+            print("robots", robots.robots_url(urls[0]))
         except robots.RobotsError:
             pass
     denied = False
@@ -19,9 +19,9 @@ def main(agent, *urls):
         for sitemap in robots.sitemaps(file):
             print("sitemap", sitemap)
         for url in urls:
-            result = robot.query(url)
-            denied |= result < 0
-            print("deny" if result < 0 else "allow", abs(result) or "-", url)
+            verdict = robot.verdict(url)
+            denied |= verdict < 0
+            print("deny" if verdict < 0 else "allow", abs(verdict) or "-", url)
     return 1 if denied else 0
 
 

@@ -1,5 +1,5 @@
-"""The calls of robots.h: decide, matrix, delay, sitemaps, agents, address; Robot, which is a robot that stays open; and Site, which is a
-file that is read once for all crawlers.
+"""The calls of robots.h: verdicts_of_file, matrix, delay, sitemaps, agents, robots_url; Robot, which is a robot that stays open; and
+Site, which is a file that is read once for all crawlers.
 
 The shared object is the one that ROBOTS_SO names, else librobots_c.so next to this file. A failed call raises a RobotsError, whose
 `status` is that of robots.h, or a MemoryError.
@@ -10,7 +10,7 @@ import os
 import weakref
 from ctypes import POINTER, byref, c_char_p, c_int32, c_int64, c_size_t, c_uint64, c_void_p
 
-OK, NOT_UTF8, OUT_OF_MEMORY, BUFFER_TOO_SMALL, NO_DELAY, NO_ADDRESS, OVERLONG_RULE = range(0, -7, -1)
+OK, NOT_UTF8, OUT_OF_MEMORY, BUFFER_TOO_SMALL, NO_DELAY, NO_ROBOTS_URL, OVERLONG_RULE = range(0, -7, -1)
 TEXTS = ["no error", "the agent or a URL isn't UTF-8", "out of memory", "the buffer is too small"]
 TEXTS += ["the file has no delay for this crawler", "the URL has no robots.txt file"]
 
@@ -21,12 +21,12 @@ NUMBERS = [POINTER(c_int64), c_size_t]
 LINE = [POINTER(c_size_t)]
 WRITTEN = [POINTER(ctypes.c_char), c_size_t, POINTER(c_size_t)]
 for name, arguments in {
-    "robots_decide": TEXT * 3 + NUMBERS + LINE,
-    "robots_address": TEXT + WRITTEN,
+    "robots_verdicts_of_file": TEXT * 3 + NUMBERS + LINE,
+    "robots_url": TEXT + WRITTEN,
     "robots_open": TEXT * 2 + [POINTER(c_void_p)] + LINE,
-    "robots_query": [c_void_p] + TEXT + [POINTER(c_int64)],
-    "robots_query_many": [c_void_p] + TEXT + NUMBERS,
-    "robots_query_delay": [c_void_p, POINTER(c_uint64)],
+    "robots_verdict": [c_void_p] + TEXT + [POINTER(c_int64)],
+    "robots_verdicts": [c_void_p] + TEXT + NUMBERS,
+    "robots_delay": [c_void_p, POINTER(c_uint64)],
     "robots_site_open": TEXT + [POINTER(c_void_p)],
     "robots_site_robot": [c_void_p] + TEXT + [POINTER(c_void_p)] + LINE,
     "robots_site_matrix": [c_void_p] + TEXT * 2 + NUMBERS,
@@ -39,7 +39,7 @@ for name, arguments in {
     getattr(library, name).restype = c_int32
 for close in (library.robots_close, library.robots_site_close):
     close.argtypes, close.restype = [c_void_p], None
-NO_RESULT = -(2**63)
+NO_VERDICT = -(2**63)
 
 
 class RobotsError(Exception):
@@ -72,7 +72,7 @@ def several(items):
 def joined(items):
     whole = "\n".join(items)
     if whole.count("\n") != len(items) - 1:
-        raise ValueError("a URL or a crawler with a line feed: use Robot.query")
+        raise ValueError("a URL or a crawler with a line feed: use Robot.verdict")
     return text(whole)
 
 
@@ -96,18 +96,18 @@ def delay_of(status, out):
     return out.value
 
 
-def decide(agent, file, urls):
+def verdicts_of_file(agent, file, urls):
     """For each URL 0, or n where line n allows it, or -n where line n denies it. A URL is a whole one, or a path."""
     urls = several(urls)
     if not urls:
         return []
     out, line = (c_int64 * len(urls))(), c_size_t()
-    check(library.robots_decide(*text(agent), *text(file), *joined(urls), out, len(out), byref(line)), line.value)
+    check(library.robots_verdicts_of_file(*text(agent), *text(file), *joined(urls), out, len(out), byref(line)), line.value)
     return list(out)
 
 
 def matrix(agents, file, urls):
-    """For each crawler the numbers of `decide`, or NO_RESULT for each URL if a rule for the crawler is too long."""
+    """For each crawler the numbers of `verdicts_of_file`, or NO_VERDICT for each URL if a rule for the crawler is too long."""
     with Site(file) as site:
         return site.matrix(agents, urls)
 
@@ -136,8 +136,8 @@ def agents(file):
         return site.agents()
 
 
-def address(url):
-    return written(library.robots_address, *text(url))
+def robots_url(url):
+    return written(library.robots_url, *text(url))
 
 
 class Opened:
@@ -175,24 +175,24 @@ class Robot(Opened):
         check(status, line.value)
         super().__init__(handle, library.robots_close)
 
-    def query(self, url):
-        """The number of `decide` for one URL."""
+    def verdict(self, url):
+        """The number of `verdicts_of_file` for one URL."""
         out = c_int64()
-        check(library.robots_query(self.open(), *text(url), byref(out)))
+        check(library.robots_verdict(self.open(), *text(url), byref(out)))
         return out.value
 
-    def query_many(self, urls):
-        """The numbers of `decide`."""
+    def verdicts(self, urls):
+        """The numbers of `verdicts_of_file`."""
         urls = several(urls)
         if not urls:
             return []
         out = (c_int64 * len(urls))()
-        check(library.robots_query_many(self.open(), *joined(urls), out, len(out)))
+        check(library.robots_verdicts(self.open(), *joined(urls), out, len(out)))
         return list(out)
 
     def delay(self):
         out = c_uint64()
-        return delay_of(library.robots_query_delay(self.open(), byref(out)), out)
+        return delay_of(library.robots_delay(self.open(), byref(out)), out)
 
 
 class Site(Opened):

@@ -78,20 +78,20 @@ static bool all_are(const void *bytes, size_t count, int byte) {
 }
 
 /* What a call wrote to `out`, which has COUNT + 1 numbers that held 0x77. */
-static struct outcome results(int32_t status, const int64_t *out, size_t line) {
+static struct outcome outcome_of(int32_t status, const int64_t *out, size_t line) {
     bool right = status == ROBOTS_OK && memcmp(out, verdicts, sizeof verdicts) == 0 && all_are(out + COUNT, 8, 0x77) && line == 7;
     return (struct outcome){status, right, all_are(out, 8 * (COUNT + 1), 0x77) && line == 7};
 }
 
-static struct outcome decide_with(const char *agent, const char *these, size_t room) {
+static struct outcome ask_file_with(const char *agent, const char *these, size_t room) {
     int64_t out[COUNT + 1];
     size_t line = 7;
     memset(out, 0x77, sizeof out);
-    int32_t status = robots_decide(ROBOTS_STRING(agent), FILE_OF(file), ROBOTS_STRING(these), out, room, &line);
-    return results(status, out, line);
+    int32_t status = robots_verdicts_of_file(ROBOTS_STRING(agent), FILE_OF(file), ROBOTS_STRING(these), out, room, &line);
+    return outcome_of(status, out, line);
 }
 
-static struct outcome decide(void) { return decide_with("Bot", urls, COUNT); }
+static struct outcome ask_file(void) { return ask_file_with("Bot", urls, COUNT); }
 
 /* Two rows of a matrix: crawlers that the file doesn't name have the same. */
 static struct outcome matrix_with(const robots_site *site, const char *agents, size_t room) {
@@ -122,20 +122,20 @@ static struct outcome list_sitemaps(const robots_site *site, size_t room) { retu
 
 static struct outcome list_agents(const robots_site *site, size_t room) { return list(robots_site_agents, site, "*\nA\n", room); }
 
-static struct outcome find_address(const char *url, size_t room) {
+static struct outcome find_robots_url(const char *url, size_t room) {
     char out[99];
     size_t len = 7;
     memset(out, 77, sizeof out);
-    int32_t status = robots_address(ROBOTS_STRING(url), out, room, &len);
+    int32_t status = robots_url(ROBOTS_STRING(url), out, room, &len);
     return text_is(status, out, len, address, room);
 }
 
-static struct outcome whole_address(void) { return find_address(page, sizeof address - 1); }
+static struct outcome whole_address(void) { return find_robots_url(page, sizeof address - 1); }
 
-static struct outcome query_with(const robots_robot *robot, size_t room) {
+static struct outcome verdicts_with(const robots_robot *robot, size_t room) {
     int64_t out[COUNT + 1];
     memset(out, 0x77, sizeof out);
-    return results(robots_query_many(robot, ROBOTS_STRING(urls), out, room), out, 7);
+    return outcome_of(robots_verdicts(robot, ROBOTS_STRING(urls), out, room), out, 7);
 }
 
 /* The same URLs in a text without line feeds, and where each ends in it. */
@@ -150,7 +150,7 @@ static struct outcome batch_with(const robots_robot *robot) {
         else
             joined[length++] = *at;
     ends[count++] = length;
-    return results(robots_query_batch(robot, joined, length, ends, count, out), out, 7);
+    return outcome_of(robots_verdicts_batch(robot, joined, length, ends, count, out), out, 7);
 }
 
 /* What RFC 9309, 2.3.1 says about responses, and the file for those that bring none. */
@@ -170,8 +170,8 @@ static void try_responses(void) {
             == cases[i].meaning);
     int64_t out[3];
     size_t line;
-    bool decided = robots_decide("Bot", 3, ROBOTS_STRING(ROBOTS_DENY_ALL_FILE), ROBOTS_STRING("/\na\n/robots.txt"), out, 3, &line) == ROBOTS_OK;
-    tell("a file that denies everything", decided && out[0] == -2 && out[1] == -2 && out[2] == 0);
+    bool has_verdicts = robots_verdicts_of_file("Bot", 3, ROBOTS_STRING(ROBOTS_DENY_ALL_FILE), ROBOTS_STRING("/\na\n/robots.txt"), out, 3, &line) == ROBOTS_OK;
+    tell("a file that denies everything", has_verdicts && out[0] == -2 && out[1] == -2 && out[2] == 0);
 }
 
 /* URLs with the places where they end. Line 1 of the file denies any URL with a line feed, which is escaped as %0A. */
@@ -197,10 +197,10 @@ static void try_batch(void) {
     bool opened = robots_open("Bot", 3, "Disallow: /*%0A\nAllow: /c\n", 26, &robot, NULL) == ROBOTS_OK;
     for (size_t i = 0; i < sizeof cases / sizeof *cases; i++) {
         int64_t out[4] = {77, 77, 77, 77};
-        bool is = opened && robots_query_batch(robot, cases[i].text, cases[i].length, cases[i].ends, cases[i].count, out) == cases[i].status;
+        bool is = opened && robots_verdicts_batch(robot, cases[i].text, cases[i].length, cases[i].ends, cases[i].count, out) == cases[i].status;
         tell(cases[i].name, is && memcmp(out, cases[i].wanted, sizeof out) == 0);
     }
-    tell("no URLs at all", opened && robots_query_batch(robot, NULL, 0, NULL, 0, NULL) == ROBOTS_OK);
+    tell("no URLs at all", opened && robots_verdicts_batch(robot, NULL, 0, NULL, 0, NULL) == ROBOTS_OK);
     robots_close(robot);
 }
 
@@ -256,8 +256,8 @@ static void try_budgets(void) {
     bool opened = robots_open("Bot", 3, FILE_OF("Disallow: /a*b\nAllow: /c$\n"), &robot, NULL) == ROBOTS_OK;
     for (size_t i = 0; i < sizeof cases / sizeof *cases; i++) {
         int64_t out = 77;
-        bool is = opened && robots_query_within(robot, ROBOTS_STRING(cases[i].url), cases[i].budget, &out) == cases[i].status;
-        tell("a query with a budget", is && out == cases[i].wanted);
+        bool is = opened && robots_verdict_within(robot, ROBOTS_STRING(cases[i].url), cases[i].budget, &out) == cases[i].status;
+        tell("a verdict with a budget", is && out == cases[i].wanted);
     }
     for (size_t i = 0; i < sizeof costs / sizeof *costs; i++)
         tell("a cost", opened && robots_cost(robot, costs[i].length) == costs[i].cost);
@@ -265,7 +265,7 @@ static void try_budgets(void) {
     try_costs();
 }
 
-/* Opens a robot, queries it, and closes it. What needs no memory is never reported as out of memory. */
+/* Opens a robot, asks it, and closes it. What needs no memory is never reported as out of memory. */
 static struct outcome keep(void) {
     robots_robot *robot = NULL;
     int64_t out = 77, plain = 77, within = 77;
@@ -274,16 +274,16 @@ static struct outcome keep(void) {
     int32_t status = robots_open(ROBOTS_STRING("Bot"), FILE_OF(file), &robot, &line);
     if (status != ROBOTS_OK)
         return (struct outcome){status, false, robot == NULL && line == 7};
-    bool known = robots_query(robot, "/private/open", 13, &plain) == ROBOTS_OK && plain == 3;
-    known &= robots_query(robot, "", 0, &plain) == ROBOTS_OK && plain == 0;
-    known &= robots_query(robot, ROBOTS_STRING("https://example.com:8080/private/open?a#b"), &plain) == ROBOTS_OK && plain == 3;
-    known &= robots_query_delay(robot, &wait) == ROBOTS_OK && wait == 2500000 && line == 7 && robots_bytes(robot) > 3 * 64;
+    bool known = robots_verdict(robot, "/private/open", 13, &plain) == ROBOTS_OK && plain == 3;
+    known &= robots_verdict(robot, "", 0, &plain) == ROBOTS_OK && plain == 0;
+    known &= robots_verdict(robot, ROBOTS_STRING("https://example.com:8080/private/open?a#b"), &plain) == ROBOTS_OK && plain == 3;
+    known &= robots_delay(robot, &wait) == ROBOTS_OK && wait == 2500000 && line == 7 && robots_memory(robot) > 3 * 64;
     known &= robots_cost(robot, 0) == 3;
-    struct outcome many = query_with(robot, COUNT);
-    status = robots_query(robot, ROBOTS_STRING("/private/\xC3\xA9 b"), &out);
+    struct outcome many = verdicts_with(robot, COUNT);
+    status = robots_verdict(robot, ROBOTS_STRING("/private/\xC3\xA9 b"), &out);
     known &= status == ROBOTS_OK ? out == -2 : out == 77;
     if (status == ROBOTS_OK) {
-        status = robots_query_within(robot, "/private/x", 10, 99, &within);
+        status = robots_verdict_within(robot, "/private/x", 10, 99, &within);
         known &= status == ROBOTS_OK ? within == -2 : within == 77;
     }
     robots_close(robot);
@@ -295,7 +295,7 @@ static bool is(struct outcome outcome, int32_t status) {
     return outcome.status == status && (status == ROBOTS_OK ? outcome.right : outcome.untouched);
 }
 
-/* Opens a robot of a site, closes the site, and makes a batch of queries. */
+/* Opens a robot of a site, closes the site, and asks for a batch of verdicts. */
 static struct outcome keep_robot_of(robots_site *site) {
     robots_robot *robot = NULL;
     size_t line = 7;
@@ -316,7 +316,7 @@ static struct outcome keep_site(void) {
     if (status != ROBOTS_OK)
         return (struct outcome){status, false, site == NULL};
     bool known = robots_site_delay(site, "Bot", 3, &wait) == ROBOTS_OK && wait == 2500000;
-    known &= robots_site_bytes(site) > sizeof file && robots_site_is_named(site, "Bot", 3) == 0 && robots_site_is_named(site, "a", 1) == 1;
+    known &= robots_site_memory(site) > sizeof file && robots_site_is_named(site, "Bot", 3) == 0 && robots_site_is_named(site, "a", 1) == 1;
     struct outcome each[] = {matrix_with(site, "Bot\nOther", 2 * COUNT), list_sitemaps(site, sizeof sitemaps - 1), list_agents(site, 4),
                              keep_robot_of(site)};
     struct outcome all = {ROBOTS_OK, known, known};
@@ -343,14 +343,14 @@ static void try_site(void) {
     tell("no robot of a site, and no line", robots_site_robot(site, "long", 4, &robot, NULL) == ROBOTS_OVERLONG_RULE && robot == NULL);
     tell("no robot", robots_open("long", 4, ROBOTS_STRING(text), &robot, &line) == ROBOTS_OVERLONG_RULE && robot == NULL && line == 2);
     tell("no robot, and no line", robots_open("long", 4, ROBOTS_STRING(text), &robot, NULL) == ROBOTS_OVERLONG_RULE && robot == NULL);
-    tell("no verdicts, and no line", robots_decide("long", 4, ROBOTS_STRING(text), "/", 1, out, 4, NULL) == ROBOTS_OVERLONG_RULE && out[0] == 77);
+    tell("no verdicts, and no line", robots_verdicts_of_file("long", 4, ROBOTS_STRING(text), "/", 1, out, 4, NULL) == ROBOTS_OVERLONG_RULE && out[0] == 77);
     tell("a robot of what isn't UTF-8", robots_site_robot(site, "\xFF", 1, &robot, &line) == ROBOTS_NOT_UTF8 && robot == NULL && line == 2);
     tell("no delay of a site", robots_site_delay(site, "Long", 4, &wait) == ROBOTS_NO_DELAY && wait == 77);
     tell("a delay of what isn't UTF-8", robots_site_delay(site, "\xFF", 1, &wait) == ROBOTS_NOT_UTF8 && wait == 77);
     tell("a name that isn't UTF-8", robots_site_is_named(site, "\xFF", 1) == ROBOTS_NOT_UTF8);
     tell("no sitemaps of a site", robots_site_sitemaps(site, NULL, 0, &line) == ROBOTS_OK && line == 0);
-    tell("a row of no results", robots_site_matrix(site, "Long\nB", 6, "/b\n/c", 5, out, 4) == ROBOTS_OK && out[0] == ROBOTS_NO_RESULT
-        && out[1] == ROBOTS_NO_RESULT && out[2] == -4 && out[3] == 0);
+    tell("a row of no verdicts", robots_site_matrix(site, "Long\nB", 6, "/b\n/c", 5, out, 4) == ROBOTS_OK && out[0] == ROBOTS_NO_VERDICT
+        && out[1] == ROBOTS_NO_VERDICT && out[2] == -4 && out[3] == 0);
     robots_site_close(site);
     site = NULL;
     bool opened = robots_site_open(FILE_OF(file), &site) == ROBOTS_OK;
@@ -372,12 +372,12 @@ static void try_null(void) {
     robots_site *site = NULL;
     bool opened = robots_open(NULL, 0, NULL, 0, &robot, NULL) == ROBOTS_OK && robot != NULL;
     tell("a robot of empty texts", opened);
-    tell("a query of the empty text", opened && robots_query(robot, NULL, 0, &out) == ROBOTS_OK && out == 0);
-    tell("queries of the empty text", opened && robots_query_many(robot, NULL, 0, &out, 1) == ROBOTS_OK && out == 0);
-    tell("queries into an empty buffer", opened && robots_query_many(robot, NULL, 0, NULL, 0) == ROBOTS_BUFFER_TOO_SMALL);
+    tell("a verdict on the empty text", opened && robots_verdict(robot, NULL, 0, &out) == ROBOTS_OK && out == 0);
+    tell("verdicts on the empty text", opened && robots_verdicts(robot, NULL, 0, &out, 1) == ROBOTS_OK && out == 0);
+    tell("verdicts into an empty buffer", opened && robots_verdicts(robot, NULL, 0, NULL, 0) == ROBOTS_BUFFER_TOO_SMALL);
     robots_close(robot);
-    tell("verdicts of empty texts", robots_decide(NULL, 0, NULL, 0, NULL, 0, &out, 1, NULL) == ROBOTS_OK && out == 0);
-    tell("no address of the empty text", robots_address(NULL, 0, NULL, 0, &length) == ROBOTS_NO_ADDRESS && length == 7);
+    tell("verdicts of empty texts", robots_verdicts_of_file(NULL, 0, NULL, 0, NULL, 0, &out, 1, NULL) == ROBOTS_OK && out == 0);
+    tell("no address of the empty text", robots_url(NULL, 0, NULL, 0, &length) == ROBOTS_NO_ROBOTS_URL && length == 7);
     opened = robots_site_open(NULL, 0, &site) == ROBOTS_OK && site != NULL;
     tell("a site of the empty text", opened);
     robot = NULL;
@@ -393,7 +393,7 @@ static void try_null(void) {
     robots_site_close(site);
 }
 
-/* A buffer that is too small for the results of URLs is found before anything is allocated. */
+/* A buffer that is too small for the verdicts of URLs is found before anything is allocated. */
 static void try_small_buffers(void) {
     int64_t out = 77;
     size_t line = 7;
@@ -401,8 +401,8 @@ static void try_small_buffers(void) {
     robots_site *site = NULL;
     bool opened = robots_open("Bot", 3, FILE_OF(file), &robot, &line) == ROBOTS_OK && robots_site_open(FILE_OF(file), &site) == ROBOTS_OK;
     long before = allocations;
-    tell("verdicts", robots_decide("Bot", 3, FILE_OF(file), "/a\n/b", 5, &out, 1, &line) == ROBOTS_BUFFER_TOO_SMALL && out == 77);
-    tell("queries", opened && robots_query_many(robot, "/a\n/b", 5, &out, 1) == ROBOTS_BUFFER_TOO_SMALL && out == 77);
+    tell("verdicts", robots_verdicts_of_file("Bot", 3, FILE_OF(file), "/a\n/b", 5, &out, 1, &line) == ROBOTS_BUFFER_TOO_SMALL && out == 77);
+    tell("many verdicts", opened && robots_verdicts(robot, "/a\n/b", 5, &out, 1) == ROBOTS_BUFFER_TOO_SMALL && out == 77);
     tell("a matrix of a site", opened && robots_site_matrix(site, "A\nB", 3, "/a", 2, &out, 1) == ROBOTS_BUFFER_TOO_SMALL && out == 77);
     tell("nothing was allocated for them", allocations == before && line == 7);
     robots_close(robot);
@@ -414,24 +414,24 @@ static void try_examples(void) {
     uint64_t wait = 77;
     size_t length = 7;
     robots_robot *robot = NULL;
-    tell("verdicts with their lines", is(decide(), ROBOTS_OK));
-    tell("verdicts with a number too little room", is(decide_with("Bot", urls, COUNT - 1), ROBOTS_BUFFER_TOO_SMALL));
-    tell("verdicts, an agent that isn't UTF-8", is(decide_with("\xFF", urls, COUNT), ROBOTS_NOT_UTF8));
-    tell("verdicts, a URL that isn't UTF-8", is(decide_with("Bot", "/a\n\xFF", COUNT), ROBOTS_NOT_UTF8));
-    tell("NULL is an empty buffer", robots_decide(NULL, 0, NULL, 0, NULL, 0, NULL, 0, &length) == ROBOTS_BUFFER_TOO_SMALL && length == 7);
+    tell("verdicts with their lines", is(ask_file(), ROBOTS_OK));
+    tell("verdicts with a number too little room", is(ask_file_with("Bot", urls, COUNT - 1), ROBOTS_BUFFER_TOO_SMALL));
+    tell("verdicts, an agent that isn't UTF-8", is(ask_file_with("\xFF", urls, COUNT), ROBOTS_NOT_UTF8));
+    tell("verdicts, a URL that isn't UTF-8", is(ask_file_with("Bot", "/a\n\xFF", COUNT), ROBOTS_NOT_UTF8));
+    tell("NULL is an empty buffer", robots_verdicts_of_file(NULL, 0, NULL, 0, NULL, 0, NULL, 0, &length) == ROBOTS_BUFFER_TOO_SMALL && length == 7);
     try_null();
-    tell("no result", !robots_may_fetch(ROBOTS_NO_RESULT) && robots_line(ROBOTS_NO_RESULT) == 0);
+    tell("no verdict", !robots_may_fetch(ROBOTS_NO_VERDICT) && robots_verdict_line(ROBOTS_NO_VERDICT) == 0);
     tell("an address", is(whole_address(), ROBOTS_OK));
-    tell("an address with a byte too little room", is(find_address(page, sizeof address - 2), ROBOTS_BUFFER_TOO_SMALL));
+    tell("an address with a byte too little room", is(find_robots_url(page, sizeof address - 2), ROBOTS_BUFFER_TOO_SMALL));
     static const char *const none[] = {"mailto:a@example.com", "example.com/a", "", "https://example.com:port/", "https://"};
     for (size_t i = 0; i < sizeof none / sizeof *none; i++)
-        tell("no address", is(find_address(none[i], 99), ROBOTS_NO_ADDRESS));
-    tell("an address of what isn't UTF-8", is(find_address("\xFF", 99), ROBOTS_NOT_UTF8));
+        tell("no address", is(find_robots_url(none[i], 99), ROBOTS_NO_ROBOTS_URL));
+    tell("an address of what isn't UTF-8", is(find_robots_url("\xFF", 99), ROBOTS_NOT_UTF8));
     tell("a robot", is(keep(), ROBOTS_OK));
     bool opened = robots_open("Bot", 3, "Disallow: /", 11, &robot, &length) == ROBOTS_OK;
-    tell("no delay of a robot", opened && robots_query_delay(robot, &wait) == ROBOTS_NO_DELAY && wait == 77);
-    tell("a query that isn't UTF-8", opened && robots_query(robot, "\xFF", 1, &out) == ROBOTS_NOT_UTF8 && out == 77);
-    tell("queries with too little room", opened && is(query_with(robot, COUNT - 1), ROBOTS_BUFFER_TOO_SMALL));
+    tell("no delay of a robot", opened && robots_delay(robot, &wait) == ROBOTS_NO_DELAY && wait == 77);
+    tell("a URL that isn't UTF-8", opened && robots_verdict(robot, "\xFF", 1, &out) == ROBOTS_NOT_UTF8 && out == 77);
+    tell("verdicts with too little room", opened && is(verdicts_with(robot, COUNT - 1), ROBOTS_BUFFER_TOO_SMALL));
     robots_close(robot);
     robots_close(NULL);
     tell("a site", is(keep_site(), ROBOTS_OK));
@@ -439,8 +439,8 @@ static void try_examples(void) {
     try_small_buffers();
     try_batch();
     try_budgets();
-    tell("results and their lines", robots_may_fetch(0) == 1 && robots_may_fetch(3) == 1 && robots_may_fetch(-2) == 0
-        && robots_line(0) == 0 && robots_line(3) == 3 && robots_line(-2) == 2);
+    tell("verdicts and their lines", robots_may_fetch(0) == 1 && robots_may_fetch(3) == 1 && robots_may_fetch(-2) == 0
+        && robots_verdict_line(0) == 0 && robots_verdict_line(3) == 3 && robots_verdict_line(-2) == 2);
     try_responses();
     tell("the version", robots_version() == ROBOTS_VERSION);
 }
@@ -467,7 +467,7 @@ int main(void) {
     try_examples();
     tell("no block is kept", blocks == 0);
     for (int all_later = 0; all_later < 2; all_later++) {
-        fail_each("verdicts", decide, all_later);
+        fail_each("verdicts", ask_file, all_later);
         fail_each("an address", whole_address, all_later);
         fail_each("a robot", keep, all_later);
         fail_each("a site", keep_site, all_later);

@@ -53,20 +53,20 @@ struct thread { int right; pthread_t id; };
 static robots_robot *robot;
 static robots_site *site;
 static bool asks(void) {
-    int64_t results[2];
+    int64_t verdicts[2];
     uint64_t delay;
     char text[2];
     size_t len, ends[] = {2, 5};
     robots_robot *own = NULL;
-    bool right = robots_query_batch(robot, "/a/\xC3\xA9", 5, ends, 2, results) == ROBOTS_OK && results[0] == -2 && results[1] == 0
-        && robots_query_many(robot, "/a\n/b", 5, results, 2) == ROBOTS_OK && results[0] == -2 && results[1] == 0
-        && robots_query(robot, "/a", 2, results) == ROBOTS_OK && results[0] == -2
-        && robots_query_within(robot, "/a", 2, robots_cost(robot, 2), results) == ROBOTS_OK && results[0] == -2
-        && robots_query_delay(robot, &delay) == ROBOTS_OK && delay == 3000000
-        && robots_site_matrix(site, "A\nB", 3, "/a", 2, results, 2) == ROBOTS_OK && results[0] == -2 && results[1] == -2
+    bool right = robots_verdicts_batch(robot, "/a/\xC3\xA9", 5, ends, 2, verdicts) == ROBOTS_OK && verdicts[0] == -2 && verdicts[1] == 0
+        && robots_verdicts(robot, "/a\n/b", 5, verdicts, 2) == ROBOTS_OK && verdicts[0] == -2 && verdicts[1] == 0
+        && robots_verdict(robot, "/a", 2, verdicts) == ROBOTS_OK && verdicts[0] == -2
+        && robots_verdict_within(robot, "/a", 2, robots_cost(robot, 2), verdicts) == ROBOTS_OK && verdicts[0] == -2
+        && robots_delay(robot, &delay) == ROBOTS_OK && delay == 3000000
+        && robots_site_matrix(site, "A\nB", 3, "/a", 2, verdicts, 2) == ROBOTS_OK && verdicts[0] == -2 && verdicts[1] == -2
         && robots_site_delay(site, "A", 1, &delay) == ROBOTS_OK && robots_site_is_named(site, "A", 1) == 0
         && robots_site_sitemaps(site, text, 2, &len) == ROBOTS_OK && robots_site_agents(site, text, 2, &len) == ROBOTS_OK
-        && robots_site_robot(site, "A", 1, &own, &len) == ROBOTS_OK && robots_bytes(own) == robots_bytes(robot) && robots_site_bytes(site) > 0;
+        && robots_site_robot(site, "A", 1, &own, &len) == ROBOTS_OK && robots_memory(own) == robots_memory(robot) && robots_site_memory(site) > 0;
     robots_close(own);
     return right;
 }
@@ -147,10 +147,10 @@ int main(void) {
     size_t length = fread(file, 1, sizeof file, stdin), before;
     robots_robot *robot = (void *)&nothing, *own = robot, *other; /* an old value is never closed */
     robots_site *site = (void *)&nothing, *same;
-    int64_t result;
-    if (robots_open("Bot", 3, file, length, &robot, NULL) != ROBOTS_OK || robots_query(robot, "/\xC3\xA9", 3, &result) != ROBOTS_OK)
+    int64_t verdict;
+    if (robots_open("Bot", 3, file, length, &robot, NULL) != ROBOTS_OK || robots_verdict(robot, "/\xC3\xA9", 3, &verdict) != ROBOTS_OK)
         return 2;
-    printf("%zu %zu\n", before = held, robots_bytes(robot));
+    printf("%zu %zu\n", before = held, robots_memory(robot));
     fails = true; /* then nothing is written */
     robots_robot *kept = other = robot;
     if (robots_open("Bot", 3, file, length, &other, NULL) != ROBOTS_OUT_OF_MEMORY || other != kept || held != before)
@@ -162,9 +162,9 @@ int main(void) {
     before = held;
     if (robots_site_robot(site, "Bot", 3, &own, NULL) != ROBOTS_OK)
         return 5;
-    printf("%zu %zu\n", held - before, robots_bytes(own));
+    printf("%zu %zu\n", held - before, robots_memory(own));
     robots_close(own);
-    printf("%zu %zu\n", held, robots_site_bytes(site));
+    printf("%zu %zu\n", held, robots_site_memory(site));
     fails = true;
     before = held;
     robots_site *whole = same = site;
@@ -178,15 +178,15 @@ int main(void) {
 
 
 def test_batches_of_random_files(robots, shared_object):
-    """What robots_query_many writes for the same URLs, and what robots_query writes for URLs with line feeds."""
+    """What robots_verdicts writes for the same URLs, and what robots_verdict writes for URLs with line feeds."""
     chance, library = random.Random(7), ctypes.CDLL(str(shared_object))
     for _ in range(300):
         agent, file, urls = random_case(chance)
         with robots.Robot(agent, file) as robot:
-            wanted = robot.query_many(urls)
+            wanted = robot.verdicts(urls)
             assert batch(library, robot, urls) == (robots.OK, wanted)
             joined = ["\n".join(urls), *urls]
-            assert batch(library, robot, joined) == (robots.OK, [robot.query(joined[0]), *wanted])
+            assert batch(library, robot, joined) == (robots.OK, [robot.verdict(joined[0]), *wanted])
 
 
 def batch(library, robot, urls):
@@ -195,7 +195,7 @@ def batch(library, robot, urls):
     for number in range(len(urls)):
         ends[number] = sum(map(len, texts[: number + 1]))
     joined = b"".join(texts)
-    status = library.robots_query_batch(robot.handle, joined, ctypes.c_size_t(len(joined)), ends, ctypes.c_size_t(len(urls)), out)
+    status = library.robots_verdicts_batch(robot.handle, joined, ctypes.c_size_t(len(joined)), ends, ctypes.c_size_t(len(urls)), out)
     return status, [*out]
 
 
@@ -206,7 +206,7 @@ def test_null_is_reported_where_it_is_forbidden(tmp_path):
     assert len(calls) >= 17
     for name, parameters, numbers in calls:
         pointers = [number for number, it in enumerate(parameters.split(","), 1) if "*" in it]
-        outputs = {number for number in pointers if re.search(r"\*(robot|site|result|microseconds|len)$", parameters.split(",")[number - 1].strip())}
+        outputs = {number for number in pointers if re.search(r"\*(robot|site|verdict|microseconds|len)$", parameters.split(",")[number - 1].strip())}
         assert {int(it) for it in numbers.split(",")} == outputs, name
         source = tmp_path / f"{name}.c"
         zeros = ", ".join("0" for _ in parameters.split(","))
@@ -248,12 +248,12 @@ int main() {
     std::vector<int64_t> many(2), batch(2);
     const std::string urls = "/b\n/a", joined = "/a\n/b";
     const std::vector<std::size_t> ends = {2, 5};
-    if (robots_query(robot.get(), "/b", 2, &one) != ROBOTS_OK) return 3;
-    if (robots_query_many(robot.get(), urls.data(), urls.size(), many.data(), many.size()) != ROBOTS_OK) return 4;
+    if (robots_verdict(robot.get(), "/b", 2, &one) != ROBOTS_OK) return 3;
+    if (robots_verdicts(robot.get(), urls.data(), urls.size(), many.data(), many.size()) != ROBOTS_OK) return 4;
     robots::Robot other = robot;
     robot.reset();
     int32_t status = ROBOTS_OUT_OF_MEMORY;
-    std::thread([&] { status = robots_query_batch(other.get(), joined.data(), joined.size(), ends.data(), ends.size(), batch.data()); }).join();
+    std::thread([&] { status = robots_verdicts_batch(other.get(), joined.data(), joined.size(), ends.data(), ends.size(), batch.data()); }).join();
     std::cout << robots_may_fetch(one) << ' ' << many[1] << ' ' << batch[1] << ' ' << batch[0] << '\n';
     return status == ROBOTS_OK && robots_status_text(status) == std::string("no error") ? 0 : 5;
 }
@@ -300,18 +300,18 @@ func main() {
 	must(C.robots_open(agent, agentLen, unsafe.Pointer(file), fileLen, &robot, nil))
 	var one C.int64_t
 	url, urlLen := text("/b")
-	must(C.robots_query(robot, url, urlLen, &one))
+	must(C.robots_verdict(robot, url, urlLen, &one))
 	many := make([]C.int64_t, 2)
 	urls, urlsLen := text("/b\n/a")
-	must(C.robots_query_many(robot, urls, urlsLen, &many[0], 2))
+	must(C.robots_verdicts(robot, urls, urlsLen, &many[0], 2))
 	done := make(chan []C.int64_t)
 	go func() {
 		batch, ends := make([]C.int64_t, 2), []C.size_t{2, 4}
 		joined, joinedLen := text("/a/b")
-		must(C.robots_query_batch(robot, unsafe.Pointer(joined), joinedLen, &ends[0], 2, &batch[0]))
+		must(C.robots_verdicts_batch(robot, unsafe.Pointer(joined), joinedLen, &ends[0], 2, &batch[0]))
 		done <- batch
 	}()
-	fmt.Println(C.robots_may_fetch(one) == 1, C.robots_line(one), many, <-done)
+	fmt.Println(C.robots_may_fetch(one) == 1, C.robots_verdict_line(one), many, <-done)
 	C.robots_close(robot)
 }
 """

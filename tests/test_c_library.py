@@ -62,7 +62,7 @@ def exported(shared_object):
 
 
 def test_a_shared_object_over_the_archive_exports_only_its_own_calls(installed, tmp_path):
-    (tmp_path / "own.c").write_text('#include "robots.h"\nint own(void) { return robots_may_fetch(0) + robots_decide(0, 0, 0, 0, 0, 0, 0, 0, 0); }\n')
+    (tmp_path / "own.c").write_text('#include "robots.h"\nint own(void) { return robots_may_fetch(0) + robots_verdicts_of_file(0, 0, 0, 0, 0, 0, 0, 0, 0); }\n')
     own = compiled(tmp_path / "own.so", f"-I{LIBRARY}", "-shared", "-fPIC", tmp_path / "own.c", installed / "lib/librobots_c.a")
     assert re.findall(r"^\w+ [A-Z] (\w+)$", exported(own), re.M) == ["own"]
 
@@ -181,19 +181,19 @@ def status_of(robots, call, *arguments):
 
 
 def test_python_verdicts(robots):
-    assert robots.decide("Bot", FILE, URLS) == VERDICTS
-    assert robots.decide("Bot", b"", [""]) == [0]
+    assert robots.verdicts_of_file("Bot", FILE, URLS) == VERDICTS
+    assert robots.verdicts_of_file("Bot", b"", [""]) == [0]
     for file, verdict in [(b"Disallow:\nAllow:", 1), (b"Disallow: $", 0), (b"Disallow: *", -1), (b"Disallow: /$", -1)]:
-        assert robots.decide("Bot", file, [""]) == [verdict]
-    assert robots.decide("Bot", b"", []) == []
+        assert robots.verdicts_of_file("Bot", file, [""]) == [verdict]
+    assert robots.verdicts_of_file("Bot", b"", []) == []
     assert robots.delay("Bot", b"Disallow: /") is None
-    for call, agent, urls in [(robots.decide, "Bot", "/a"), (robots.matrix, ["Bot"], "/a"), (robots.matrix, "Bot", ["/a"])]:
+    for call, agent, urls in [(robots.verdicts_of_file, "Bot", "/a"), (robots.matrix, ["Bot"], "/a"), (robots.matrix, "Bot", ["/a"])]:
         with pytest.raises(TypeError, match="several"):
             call(agent, FILE, urls)
     with robots.Robot("Bot", FILE) as robot:
-        assert [robot.query(url) for url in URLS] == robot.query_many(URLS) == VERDICTS
+        assert [robot.verdict(url) for url in URLS] == robot.verdicts(URLS) == VERDICTS
         assert robot.delay() == robots.delay("Bot", FILE) == 2_500_000
-        assert status_of(robots, robot.query, b"\xff") == (robots.NOT_UTF8, 0)
+        assert status_of(robots, robot.verdict, b"\xff") == (robots.NOT_UTF8, 0)
 
 
 def test_python_texts(robots):
@@ -201,7 +201,7 @@ def test_python_texts(robots):
     assert robots.sitemaps(b"") == []
     assert robots.agents(FILE) == ["*"]
     assert robots.agents(b"") == []
-    assert robots.address(f"https://{'a.' * 120}example/x") == f"https://{'a.' * 120}example/robots.txt"
+    assert robots.robots_url(f"https://{'a.' * 120}example/x") == f"https://{'a.' * 120}example/robots.txt"
 
 
 # URLs, and what is before `/robots.txt` in the address of their file.
@@ -217,14 +217,14 @@ ADDRESSES = {
     "http://a.xn--/": "http://a.xn--",
     "https://\u1e9e/": "https://xn--zca",
 }
-NO_ADDRESS = ["https://a b/", "ftp://linux-isos.org/", "file:///x", "https://?<a> x://@", "http://a:65536/", 'http://[::1/"a"', "https://a\u200db/", "http://1.2.3.4.5/a#c"]
+NO_ROBOTS_URL = ["https://a b/", "ftp://linux-isos.org/", "file:///x", "https://?<a> x://@", "http://a:65536/", 'http://[::1/"a"', "https://a\u200db/", "http://1.2.3.4.5/a#c"]
 
 
 def test_addresses(robots):
     for url, site in ADDRESSES.items():
-        assert robots.address(url) == f"{site}/robots.txt"
-    for url in NO_ADDRESS:
-        assert status_of(robots, robots.address, url) == (robots.NO_ADDRESS, 0), url
+        assert robots.robots_url(url) == f"{site}/robots.txt"
+    for url in NO_ROBOTS_URL:
+        assert status_of(robots, robots.robots_url, url) == (robots.NO_ROBOTS_URL, 0), url
 
 
 def test_large_inputs(robots):
@@ -232,12 +232,12 @@ def test_large_inputs(robots):
     agent, long, urls = "b" * 300, "a" * 40_000, ["/b", "/" + "c" * 3000, ""] * 3334
     file = f"User-agent: {agent}\nDisallow: /{long}\nDisallow: /b\nCrawl-delay: 0\n" + "Sitemap: x\n" * 1001
     with robots.Robot(agent, file) as robot:
-        assert robot.query_many(urls) == robots.decide(agent, file, urls) == [-3, 0, 0] * 3334
-        assert robot.query(f"/{long}") == -2
+        assert robot.verdicts(urls) == robots.verdicts_of_file(agent, file, urls) == [-3, 0, 0] * 3334
+        assert robot.verdict(f"/{long}") == -2
         assert robots.matrix([agent, "x"] * 3, file, urls) == [[-3, 0, 0] * 3334, [0] * 10_002] * 3
         assert robot.delay() == robots.delay(agent, file) == 0
     assert robots.sitemaps(file) == ["x"] * 1001
-    assert status_of(robots, robots.address, f"https://{'a' * 3000}:port/") == (robots.NO_ADDRESS, 0)
+    assert status_of(robots, robots.robots_url, f"https://{'a' * 3000}:port/") == (robots.NO_ROBOTS_URL, 0)
 
 
 def test_no_size_is_out_of_memory(robots):
@@ -245,7 +245,7 @@ def test_no_size_is_out_of_memory(robots):
     for size in SIZES:
         host, port = f"{'a' * size}b.de:8080", f"b.de:{min(size, 65_535)}"
         for page, address in [(f"{host}/c", host), (f"{'u' * size}@b.de/c", "b.de"), (f"{port}/c", port)]:
-            assert robots.address(f"http://{page}") == f"http://{address}/robots.txt"
+            assert robots.robots_url(f"http://{page}") == f"http://{address}/robots.txt"
         file = b"#" * size + b"\nDisallow: /" + b"a" * 4096 + b"$"
         assert status_of(robots, robots.Robot, "Bot", file) == (robots.OVERLONG_RULE, 2)
 
@@ -257,23 +257,23 @@ def long_rules(length):
 
 
 def test_python_overlong_rule(robots):
-    calls = [robots.Robot, lambda agent, file: robots.decide(agent, file, ["/b"])]
+    calls = [robots.Robot, lambda agent, file: robots.verdicts_of_file(agent, file, ["/b"])]
     assert [status_of(robots, call, "Bot", long_rules(4097)) for call in calls] == [(robots.OVERLONG_RULE, 2)] * 2
     assert robots.delay("Bot", long_rules(4097)) is None
     assert robots.sitemaps(long_rules(4097)) == ["x"]
-    assert robots.decide("Other", long_rules(4097), ["/b"]) == [-6]
-    assert robots.decide("Bot", long_rules(4096), ["/b"]) == [-3]
-    assert robots.matrix(["Bot", "Other"], long_rules(4097), ["/b", "/c"]) == [[robots.NO_RESULT] * 2, [-6, -6]]
+    assert robots.verdicts_of_file("Other", long_rules(4097), ["/b"]) == [-6]
+    assert robots.verdicts_of_file("Bot", long_rules(4096), ["/b"]) == [-3]
+    assert robots.matrix(["Bot", "Other"], long_rules(4097), ["/b", "/c"]) == [[robots.NO_VERDICT] * 2, [-6, -6]]
 
 
 def test_python_line_feeds(robots):
-    """Only Robot.query takes them."""
+    """Only Robot.verdict takes them."""
     for agents, urls in [(["Bot"], ["/a\nb"]), (["Bot"], ["/", "/a\nb"]), (["a\nb"], ["/a"])]:
         with pytest.raises(ValueError, match="line feed"):
             robots.matrix(agents, FILE, urls)
     for urls in [["/a\nb"], ["/", "/a\n"]]:
         with pytest.raises(ValueError, match="line feed"), robots.Robot("Bot", FILE) as robot:
-            robots.decide("Bot", FILE, urls) if len(urls) > 1 else robot.query_many(urls)
+            robots.verdicts_of_file("Bot", FILE, urls) if len(urls) > 1 else robot.verdicts(urls)
 
 
 def test_python_site(robots):
@@ -285,11 +285,11 @@ def test_python_site(robots):
         assert status_of(robots, site.is_named, b"\xff") == (robots.NOT_UTF8, 0)
         robot = robots.Robot("Bot", site)
     with robot:
-        assert robot.query_many(URLS) == VERDICTS
+        assert robot.verdicts(URLS) == VERDICTS
     with pytest.raises(ValueError):
         site.agents()
     with robots.Site(long_rules(4097)) as site:
-        assert site.matrix(["Other", "Bot"], ["/b", "/a"]) == [[-6, -6], [robots.NO_RESULT] * 2]
+        assert site.matrix(["Other", "Bot"], ["/b", "/a"]) == [[-6, -6], [robots.NO_VERDICT] * 2]
         assert status_of(robots, robots.Robot, "Bot", site) == (robots.OVERLONG_RULE, 2)
 
 
@@ -313,7 +313,7 @@ def check_site(robots, file, crawlers, urls):
         assert all(site.is_named(crawler) == (crawler.lower() in named) for crawler in crawlers)
         robot = robots.Robot(crawlers[0], site)
     with robot:
-        assert robot.query_many(urls) == robots.decide(crawlers[0], file, urls)
+        assert robot.verdicts(urls) == robots.verdicts_of_file(crawlers[0], file, urls)
 
 
 @pytest.mark.parametrize("seed", range(4))
@@ -322,14 +322,14 @@ def test_random_files_have_the_verdicts_of_robots_verdict(robots, seed):
     for _ in range(400):
         agent, file, urls = random_case(chance)
         with robots.Robot(agent, file) as robot:
-            results, delay = robot.query_many(urls), robot.delay()
-            assert results == [robot.query(url) for url in urls] == robots.decide(agent, file, urls)
+            verdicts, delay = robot.verdicts(urls), robot.delay()
+            assert verdicts == [robot.verdict(url) for url in urls] == robots.verdicts_of_file(agent, file, urls)
         crawlers = [agent, "nobody", *robots.agents(file), "Bot"]
-        assert robots.matrix(crawlers, file, urls) == [robots.decide(crawler, file, urls) for crawler in crawlers]
+        assert robots.matrix(crawlers, file, urls) == [robots.verdicts_of_file(crawler, file, urls) for crawler in crawlers]
         assert delay == robots.delay(agent, file)
         check_site(robots, file, crawlers, urls)
         report = [f"delay {'none' if delay is None else delay}"] + [f"sitemap {it}" for it in robots.sitemaps(file)]
-        report += [f"{'deny' if it < 0 else 'allow'} {abs(it) or '-'} {url}" for it, url in zip(results, urls)]
+        report += [f"{'deny' if it < 0 else 'allow'} {abs(it) or '-'} {url}" for it, url in zip(verdicts, urls)]
         text = "".join(f"{line}\n" for line in [agent, *urls, ""]).encode() + file
         assert run(verdict, [], text) == Result(0, "".join(f"{line}\n" for line in report), ""), (agent, file, urls)
 
@@ -358,10 +358,10 @@ def test_nothing_outside_of_the_texts_is_read(robots, at_end):
         *file_text, f = guarded(file, at_end)
         *urls_text, u = guarded("\n".join(urls).encode(), at_end)
         robot = ctypes.c_void_p()
-        assert library.robots_decide(*agent_text, *file_text, *urls_text, out, 9, line) == robots.OK
-        assert list(out)[: len(urls)] == robots.decide(agent, file, urls)
+        assert library.robots_verdicts_of_file(*agent_text, *file_text, *urls_text, out, 9, line) == robots.OK
+        assert list(out)[: len(urls)] == robots.verdicts_of_file(agent, file, urls)
         assert library.robots_open(*agent_text, *file_text, robot, line) == robots.OK
-        assert library.robots_query_many(robot, *urls_text, out, 9) == robots.OK
+        assert library.robots_verdicts(robot, *urls_text, out, 9) == robots.OK
         library.robots_close(robot)
         site = ctypes.c_void_p()
         assert library.robots_site_open(*file_text, site) == robots.OK
@@ -374,7 +374,7 @@ def test_nothing_outside_of_the_texts_is_read(robots, at_end):
         assert library.robots_site_agents(site, None, 0, line) in sized
         library.robots_site_close(site)
         *url_text, u = guarded(urls[0].encode(), at_end)
-        assert library.robots_address(*url_text, None, 0, line) in (robots.BUFFER_TOO_SMALL, robots.NO_ADDRESS)
+        assert library.robots_url(*url_text, None, 0, line) in (robots.BUFFER_TOO_SMALL, robots.NO_ROBOTS_URL)
 
 
 # What the example programs write on the same arguments and files. robots_audit names what it can't do otherwise.

@@ -92,8 +92,8 @@ def test_two_runs_give_the_same_bytes(releases):
         "robots_c-V-linux-x86_64.tar.gz",
         "texting_robots-V-cp39-abi3-manylinux_2_17_x86_64.whl",
         "texting_robots-V.tar.gz",
-        "texting_robots_c-V.crate",
-        "texting_robots_c-sys-V.crate",
+        "texting_robots_verified-V.crate",
+        "texting_robots_verified-sys-V.crate",
     ]
 
 
@@ -353,7 +353,7 @@ def directory_source(crates, folder, bare):
         unpack_crate(path, folder / "source")
     (folder / ".cargo").mkdir()
     (folder / ".cargo/config.toml").write_text('[source.crates-io]\nreplace-with = "release"\n[source.release]\ndirectory = "source"\n')
-    return f'[dependencies]\ntexting_robots_c = "{VERSION}"\n'
+    return f'[dependencies]\ntexting_robots_verified = "{VERSION}"\n'
 
 
 def as_the_readme_says(crates, folder, bare):
@@ -370,7 +370,7 @@ def test_lines_of_the_readme_in_rust(releases, bare, tmp_path, way):
     (tmp_path / "Cargo.toml").write_text(f'[package]\nname = "caller"\nversion = "0.1.0"\nedition = "2021"\n{depends}')
     (tmp_path / "src").mkdir()
     lines = code(PACKAGES["rust"], "rust")[0].replace("# Ok", "Ok")
-    (tmp_path / "src/main.rs").write_text(f"fn main() -> Result<(), texting_robots_c::Error> {{\n{lines}}}\n")
+    (tmp_path / "src/main.rs").write_text(f"fn main() -> Result<(), texting_robots_verified::Error> {{\n{lines}}}\n")
     ran(["cargo", "build", "--offline"], tmp_path, bare | {"CARGO_TARGET_DIR": str(tmp_path / "target")})
     ran([tmp_path / "target/debug/caller"], tmp_path, bare)
 

@@ -36,14 +36,14 @@ class Growing(list):
 def test_a_text_has_as_many_bytes_as_there_are(robots):
     for file in [Bytes(FILE), bytearray(FILE), memoryview(FILE[::-1])[::-1], Text(FILE.decode())]:
         assert [len(it) if type(it) is bytes else it for it in robots.text(file)] == [len(FILE)] * 2
-        assert robots.decide("x", file, [Text("/a"), "/"]) == [-2, 0] and robots.sitemaps(file) == ["/s.xml"]
+        assert robots.verdicts_of_file("x", file, [Text("/a"), "/"]) == [-2, 0] and robots.sitemaps(file) == ["/s.xml"]
         with robots.Robot(Text("x"), file) as robot:
-            assert robot.query(Text("/a")) == robot.query(Bytes(b"/a")) == -2
+            assert robot.verdict(Text("/a")) == robot.verdict(Bytes(b"/a")) == -2
 
 
 def test_there_are_as_many_results_as_texts(robots):
     with robots.Robot("x", FILE) as robot, robots.Site(FILE) as site:
-        for call in [lambda urls: robots.decide("x", FILE, urls), robot.query_many]:
+        for call in [lambda urls: robots.verdicts_of_file("x", FILE, urls), robot.verdicts]:
             assert call(Growing(["/a"] * 1000)) == [-2] * 1000
         for call in [lambda agents, urls: robots.matrix(agents, FILE, urls), site.matrix]:
             assert call(Growing(["x"] * 10), Growing(["/a"] * 100)) == [[-2] * 100] * 10
@@ -55,7 +55,7 @@ sys.path.insert(0, sys.argv[1])
 import robots
 
 robot, urls = robots.Robot("x", b"User-agent: *\\n" + b"Disallow: /*a*b*c\\n" * 20000), ["/" + "ab" * 200] * 1000
-threading.Thread(target=robot.query_many, args=(urls,), daemon=True).start()
+threading.Thread(target=robot.verdicts, args=(urls,), daemon=True).start()
 """
 
 
@@ -77,11 +77,11 @@ site, robot = robots.Site(FILE), robots.Robot("x", FILE)
 def handle(*_):
     global handled
     handled += 1
-    assert robot.query("/a") == -2 and site.delay("x") is None
+    assert robot.verdict("/a") == -2 and site.delay("x") is None
 
 def query():
     while handled < 50:
-        assert robot.query_many(URLS) == [-2, 0] * 50 and site.matrix(["x"], URLS) == [[-2, 0] * 50]
+        assert robot.verdicts(URLS) == [-2, 0] * 50 and site.matrix(["x"], URLS) == [[-2, 0] * 50]
 
 signal.signal(signal.SIGALRM, handle)
 signal.setitimer(signal.ITIMER_REAL, 0.0005, 0.0005)
@@ -96,10 +96,10 @@ def text(data):
     robot.close()  # as a handler may, between what opens the call and the call
     return text_of(data)
 robots.text = text
-assert robot.query("/a") == -2
+assert robot.verdict("/a") == -2
 robots.text = text_of
 try:
-    robot.query("/a")
+    robot.verdict("/a")
 except ValueError as error:
     print(error)
 """

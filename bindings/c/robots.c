@@ -7,22 +7,22 @@
 #define PROVED(name) extern __typeof__(name) proved_##name HIDDEN
 PROVED(robots_version);
 PROVED(robots_open);
-PROVED(robots_query);
-PROVED(robots_query_within);
+PROVED(robots_verdict);
+PROVED(robots_verdict_within);
 PROVED(robots_close);
-PROVED(robots_decide);
+PROVED(robots_verdicts_of_file);
 PROVED(robots_site_open);
 PROVED(robots_site_robot);
 PROVED(robots_site_matrix);
 PROVED(robots_site_close);
-PROVED(robots_address);
+PROVED(robots_url);
 PROVED(robots_response_meaning);
 PROVED(robots_may_fetch);
-PROVED(robots_line);
+PROVED(robots_verdict_line);
 
-/* The numbers of a robot, of which only the cost takes a length; and of a site, of which its bytes take no crawler. */
-enum { COST, ROBOT_BYTES, ROBOT_DELAY };
-enum { SITE_BYTES, IS_NAMED, SITE_DELAY };
+/* The numbers of a robot, of which only the cost takes a length; and of a site, of which its memory takes no crawler. */
+enum { COST, ROBOT_MEMORY, ROBOT_DELAY };
+enum { SITE_MEMORY, IS_NAMED, SITE_DELAY };
 extern int32_t proved_robots_number(const robots_robot *robot, size_t which, size_t length, uint64_t *number) HIDDEN;
 extern int32_t proved_robots_site_number(const robots_site *site, size_t which, const char *agent, size_t agent_len,
                                          uint64_t *number) HIDDEN;
@@ -31,8 +31,8 @@ extern int32_t proved_robots_site_number(const robots_site *site, size_t which, 
 extern int32_t proved_robots_site_texts(const robots_site *site, bool are_agents, char *out, size_t out_len, size_t *len) HIDDEN;
 
 /* URLs that end at these places, or else those that LF separates. */
-extern int32_t proved_robots_results(const robots_robot *robot, const void *urls, size_t urls_len, const size_t *ends, size_t n,
-                                     bool are_ended, int64_t *results, size_t results_len) HIDDEN;
+extern int32_t proved_robots_verdict_list(const robots_robot *robot, const void *urls, size_t urls_len, const size_t *ends, size_t n,
+                                          bool are_ended, int64_t *verdicts, size_t verdicts_len) HIDDEN;
 
 /* A text or a buffer, with an address in place of NULL if the length is 0, so that nothing is read or written there. */
 static int64_t nowhere;
@@ -74,19 +74,19 @@ int32_t robots_open(const char *agent, size_t agent_len, const void *file, size_
     return with_line(status, line, number);
 }
 
-int32_t robots_query(const robots_robot *robot, const char *url, size_t url_len, int64_t *result) {
+int32_t robots_verdict(const robots_robot *robot, const char *url, size_t url_len, int64_t *verdict) {
     int64_t number = 0;
-    int32_t status = proved_robots_query(robot, AT(url, url_len), &number);
+    int32_t status = proved_robots_verdict(robot, AT(url, url_len), &number);
     if (status == ROBOTS_OK)
-        *result = number;
+        *verdict = number;
     return status;
 }
 
-int32_t robots_query_within(const robots_robot *robot, const char *url, size_t url_len, uint64_t budget, int64_t *result) {
+int32_t robots_verdict_within(const robots_robot *robot, const char *url, size_t url_len, uint64_t budget, int64_t *verdict) {
     int64_t number = 0;
-    int32_t status = proved_robots_query_within(robot, AT(url, url_len), budget, &number);
+    int32_t status = proved_robots_verdict_within(robot, AT(url, url_len), budget, &number);
     if (status == ROBOTS_OK)
-        *result = number;
+        *verdict = number;
     return status;
 }
 
@@ -96,21 +96,22 @@ uint64_t robots_cost(const robots_robot *robot, size_t length) {
     return cost;
 }
 
-size_t robots_bytes(const robots_robot *robot) {
-    uint64_t bytes = 0;
-    proved_robots_number(robot, ROBOT_BYTES, 0, &bytes);
-    return bytes;
+size_t robots_memory(const robots_robot *robot) {
+    uint64_t memory = 0;
+    proved_robots_number(robot, ROBOT_MEMORY, 0, &memory);
+    return memory;
 }
 
-int32_t robots_query_many(const robots_robot *robot, const char *urls, size_t urls_len, int64_t *results, size_t results_len) {
-    return proved_robots_results(robot, AT(urls, urls_len), AT(NULL, 0), false, AT(results, results_len));
+int32_t robots_verdicts(const robots_robot *robot, const char *urls, size_t urls_len, int64_t *verdicts, size_t verdicts_len) {
+    return proved_robots_verdict_list(robot, AT(urls, urls_len), AT(NULL, 0), false, AT(verdicts, verdicts_len));
 }
 
-int32_t robots_query_batch(const robots_robot *robot, const void *urls, size_t urls_len, const size_t *ends, size_t n, int64_t *results) {
-    return proved_robots_results(robot, AT(urls, urls_len), AT(ends, n), true, AT(results, n));
+int32_t robots_verdicts_batch(const robots_robot *robot, const void *urls, size_t urls_len, const size_t *ends, size_t n,
+                              int64_t *verdicts) {
+    return proved_robots_verdict_list(robot, AT(urls, urls_len), AT(ends, n), true, AT(verdicts, n));
 }
 
-int32_t robots_query_delay(const robots_robot *robot, uint64_t *microseconds) {
+int32_t robots_delay(const robots_robot *robot, uint64_t *microseconds) {
     uint64_t delay = 0;
     int32_t status = proved_robots_number(robot, ROBOT_DELAY, 0, &delay);
     return with_delay(status, microseconds, delay);
@@ -118,11 +119,11 @@ int32_t robots_query_delay(const robots_robot *robot, uint64_t *microseconds) {
 
 void robots_close(robots_robot *robot) { proved_robots_close(robot); }
 
-int32_t robots_decide(const char *agent, size_t agent_len, const void *file, size_t file_len, const char *urls, size_t urls_len,
-                      int64_t *results, size_t results_len, size_t *line) {
+int32_t robots_verdicts_of_file(const char *agent, size_t agent_len, const void *file, size_t file_len, const char *urls, size_t urls_len,
+                                int64_t *verdicts, size_t verdicts_len, size_t *line) {
     size_t number = 0;
     int32_t status =
-        proved_robots_decide(AT(agent, agent_len), AT(file, file_len), AT(urls, urls_len), AT(results, results_len), &number);
+        proved_robots_verdicts_of_file(AT(agent, agent_len), AT(file, file_len), AT(urls, urls_len), AT(verdicts, verdicts_len), &number);
     return with_line(status, line, number);
 }
 
@@ -144,8 +145,8 @@ int32_t robots_site_robot(const robots_site *site, const char *agent, size_t age
 }
 
 int32_t robots_site_matrix(const robots_site *site, const char *agents, size_t agents_len, const char *urls, size_t urls_len,
-                           int64_t *results, size_t results_len) {
-    return proved_robots_site_matrix(site, AT(agents, agents_len), AT(urls, urls_len), AT(results, results_len));
+                           int64_t *verdicts, size_t verdicts_len) {
+    return proved_robots_site_matrix(site, AT(agents, agents_len), AT(urls, urls_len), AT(verdicts, verdicts_len));
 }
 
 int32_t robots_site_delay(const robots_site *site, const char *agent, size_t agent_len, uint64_t *microseconds) {
@@ -154,10 +155,10 @@ int32_t robots_site_delay(const robots_site *site, const char *agent, size_t age
     return with_delay(status, microseconds, delay);
 }
 
-size_t robots_site_bytes(const robots_site *site) {
-    uint64_t bytes = 0;
-    proved_robots_site_number(site, SITE_BYTES, AT("", 0), &bytes);
-    return bytes;
+size_t robots_site_memory(const robots_site *site) {
+    uint64_t memory = 0;
+    proved_robots_site_number(site, SITE_MEMORY, AT("", 0), &memory);
+    return memory;
 }
 
 int32_t robots_site_sitemaps(const robots_site *site, char *out, size_t out_len, size_t *len) {
@@ -176,9 +177,9 @@ int32_t robots_site_is_named(const robots_site *site, const char *agent, size_t 
 
 void robots_site_close(robots_site *site) { proved_robots_site_close(site); }
 
-int32_t robots_address(const char *url, size_t url_len, char *out, size_t out_len, size_t *len) {
+int32_t robots_url(const char *url, size_t url_len, char *out, size_t out_len, size_t *len) {
     size_t length = 0;
-    int32_t status = proved_robots_address(AT(url, url_len), AT(out, out_len), &length);
+    int32_t status = proved_robots_url(AT(url, url_len), AT(out, out_len), &length);
     return with_length(status, len, length);
 }
 
@@ -186,9 +187,9 @@ int robots_response_meaning(uint32_t status, uint32_t redirects, bool has_locati
     return proved_robots_response_meaning(status, redirects, has_location, is_complete);
 }
 
-int robots_may_fetch(int64_t result) { return proved_robots_may_fetch(result); }
+int robots_may_fetch(int64_t verdict) { return proved_robots_may_fetch(verdict); }
 
-int64_t robots_line(int64_t result) { return proved_robots_line(result); }
+int64_t robots_verdict_line(int64_t verdict) { return proved_robots_verdict_line(verdict); }
 
 const char *robots_status_text(int32_t status) {
     switch (status) {
@@ -197,10 +198,10 @@ const char *robots_status_text(int32_t status) {
     case ROBOTS_OUT_OF_MEMORY: return "out of memory";
     case ROBOTS_BUFFER_TOO_SMALL: return "the buffer is too small";
     case ROBOTS_NO_DELAY: return "the file has no delay for this crawler";
-    case ROBOTS_NO_ADDRESS: return "the URL has no robots.txt file";
+    case ROBOTS_NO_ROBOTS_URL: return "the URL has no robots.txt file";
     case ROBOTS_OVERLONG_RULE: return "a rule is too long: the file can't be used for this crawler";
     case ROBOTS_INVALID_ENDS: return "the places where the URLs end are invalid";
-    case ROBOTS_TOO_COSTLY: return "the query is too costly for its budget";
+    case ROBOTS_TOO_COSTLY: return "the verdict is too costly for its budget";
     default: return "unknown status";
     }
 }

@@ -45,14 +45,14 @@ fn results(urls: &[&str], allowed: impl Fn(&str) -> bool) -> String {
 
 /// Compares the results for a file, and times the URLs with the same one.
 fn compare(number: &str, agent: &str, file: &[u8], urls: &[&str]) -> Result<(), Box<dyn Error>> {
-    let (ours, theirs) = (texting_robots_c::Robot::new(agent, file)?, texting_robots::Robot::new(agent, file)?);
+    let (ours, theirs) = (texting_robots_verified::Robot::new(agent, file)?, texting_robots::Robot::new(agent, file)?);
     let (our, their) = (results(urls, |url| ours.allowed(url)), results(urls, |url| theirs.allowed(url)));
     let both = our.bytes().zip(their.bytes());
     let same: Vec<&str> = urls.iter().zip(both).filter(|(_, (a, b))| a == b).map(|(url, _)| *url).collect();
     let &url = same.first().ok_or("no result is the same")?;
     println!(
         "{number}\t{our}\t{their}\t{:.1}\t{:.1}\t{:.1}\t{:.1}",
-        first(file, |file| texting_robots_c::Robot::new(agent, file).map(|robot| robot.allowed(url))),
+        first(file, |file| texting_robots_verified::Robot::new(agent, file).map(|robot| robot.allowed(url))),
         first(file, |file| texting_robots::Robot::new(agent, file).map(|robot| robot.allowed(url))),
         later(&same, |url| ours.allowed(url)),
         later(&same, |url| theirs.allowed(url)),

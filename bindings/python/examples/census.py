@@ -46,7 +46,7 @@ from collections import Counter
 from pathlib import Path
 from urllib.parse import urlsplit
 
-from texting_robots import FILE_LIMIT, Matrix, OverlongRuleError, Robots, __version__, robots_url
+from texting_robots import FILE_LIMIT, Matrix, OverlongRuleError, Site, __version__, robots_url
 
 AGENTS = "GPTBot,CCBot,ClaudeBot,Google-Extended,Bingbot,Googlebot,Bytespider,PerplexityBot"
 MOST = 4_000_000
@@ -263,7 +263,7 @@ def denials_of(body, matrix):
 def overlong_line(body, agent, path):
     """The line of the rule for which the file can't be used for a crawler."""
     try:
-        Robots(body).verdict(path, agent)
+        Site(body).verdict(path, agent)
     except OverlongRuleError as error:
         return error.line
 

@@ -45,13 +45,13 @@ class Crawler:
     async def visit_site(self, address: str, urls: list[str]) -> None:
         """Visits the URLs of a site."""
         for url in urls:
-            decision = await self.robots.may(as_sent(url))
-            if decision:
+            verdict = await self.robots.may(as_sent(url))
+            if verdict:
                 print(f"{await self.page(url)}: {url}")
-            elif decision.problem == "unreachable":
+            elif verdict.problem == "unreachable":
                 print(f"unreachable, again in {max(0, (await self.robots.site(as_sent(url))).refresh - time.time()):.0f} s: {url}")
             else:
-                print(f"denied, {decision.problem or f'line {decision.line} of {address}'}: {url}")
+                print(f"denied, {verdict.problem or f'line {verdict.line} of {address}'}: {url}")
 
     async def file(self, address: str, headers: Mapping[str, str]) -> Response:
         """The response to a request for a robots.txt file, of which no more is read than what counts."""
@@ -112,7 +112,7 @@ async def main() -> None:
     print(f"robots.txt files name this crawler {product_token(options.agent)}", file=sys.stderr)
     async with aiohttp.ClientSession(connector=connector, timeout=timeout, headers=headers, auto_decompress=False) as session:
         await Crawler(session, cache, options).visit_all(line.strip() for line in sys.stdin if line.strip())
-    print(f"{len(cache)} sites take {cache.size} bytes; {dict(events)}", file=sys.stderr)
+    print(f"{len(cache)} sites take {cache.memory} bytes; {dict(events)}", file=sys.stderr)
     cache.close()
 
 

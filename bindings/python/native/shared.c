@@ -3,7 +3,7 @@
 #include <stdatomic.h>
 #include <stdlib.h>
 
-static const int64_t NO_RESULT = ROBOTS_NO_RESULT;
+static const int64_t NO_VERDICT = ROBOTS_NO_VERDICT;
 static const char *const DENY_ALL_FILE = ROBOTS_DENY_ALL_FILE;
 
 /* Whether the processor has what the library is compiled for. On x86-64 that is x86-64-v2; this file itself is compiled for every one. */
@@ -61,19 +61,19 @@ static void site_close(struct site *shared)
 }
 
 static int32_t site_matrix(const struct site *shared, const char *agents, size_t agents_len, const char *urls, size_t urls_len,
-                           int64_t *results, size_t results_len)
-{
-    return robots_site_matrix(shared->site, agents, agents_len, urls, urls_len, results, results_len);
+                           int64_t *verdicts, size_t verdicts_len)
+                           {
+    return robots_site_matrix(shared->site, agents, agents_len, urls, urls_len, verdicts, verdicts_len);
 }
 
 /* The same for a file that isn't kept. */
 static int32_t file_matrix(const char *agents, size_t agents_len, const char *file, size_t file_len, const char *urls, size_t urls_len,
-                           int64_t *results, size_t results_len)
-{
+                           int64_t *verdicts, size_t verdicts_len)
+                           {
     robots_site *site = NULL;
     int32_t status = robots_site_open(file, file_len, &site);
     if (status == ROBOTS_OK)
-        status = robots_site_matrix(site, agents, agents_len, urls, urls_len, results, results_len);
+        status = robots_site_matrix(site, agents, agents_len, urls, urls_len, verdicts, verdicts_len);
     robots_site_close(site);
     return status;
 }
@@ -146,35 +146,35 @@ static size_t robot_overlong_line(const struct robot *shared)
     return shared->line;
 }
 
-static size_t bytes_of(const struct robot *shared)
+static size_t memory_of(const struct robot *shared)
 {
-    return sizeof *shared + (shared->robot == NULL ? 0 : robots_bytes(shared->robot));
+    return sizeof *shared + (shared->robot == NULL ? 0 : robots_memory(shared->robot));
 }
 
 /* How many bytes of memory the site takes, with the robot of all crawlers that no line names. */
-static size_t site_bytes(const struct site *shared)
+static size_t site_memory(const struct site *shared)
 {
     const struct robot *unnamed = shared->unnamed;
-    return sizeof *shared + robots_site_bytes(shared->site) + (unnamed == NULL ? 0 : bytes_of(unnamed));
+    return sizeof *shared + robots_site_memory(shared->site) + (unnamed == NULL ? 0 : memory_of(unnamed));
 }
 
 /* How many bytes of memory the robot takes next to its site. */
-static size_t robot_bytes(const struct robot *shared)
+static size_t robot_memory(const struct robot *shared)
 {
-    return shared->is_unnamed ? 0 : bytes_of(shared);
+    return shared->is_unnamed ? 0 : memory_of(shared);
 }
 
-/* The result for a URL, or NO_RESULT - status for another status than ROBOTS_OK: no file has that many lines. */
-static int64_t robot_query(const struct robot *shared, const char *url, size_t url_len)
+/* The verdict for a URL, or NO_VERDICT - status for another status than ROBOTS_OK: no file has that many lines. */
+static int64_t robot_verdict(const struct robot *shared, const char *url, size_t url_len)
 {
-    int64_t result = 0;
-    int32_t status = shared->robot == NULL ? ROBOTS_OVERLONG_RULE : robots_query(shared->robot, url, url_len, &result);
-    return status == ROBOTS_OK ? result : NO_RESULT - status;
+    int64_t verdict = 0;
+    int32_t status = shared->robot == NULL ? ROBOTS_OVERLONG_RULE : robots_verdict(shared->robot, url, url_len, &verdict);
+    return status == ROBOTS_OK ? verdict : NO_VERDICT - status;
 }
 
-static int32_t robot_query_within(const struct robot *shared, const char *url, size_t url_len, uint64_t budget, int64_t *result)
+static int32_t robot_verdict_within(const struct robot *shared, const char *url, size_t url_len, uint64_t budget, int64_t *verdict)
 {
-    return shared->robot == NULL ? ROBOTS_OVERLONG_RULE : robots_query_within(shared->robot, url, url_len, budget, result);
+    return shared->robot == NULL ? ROBOTS_OVERLONG_RULE : robots_verdict_within(shared->robot, url, url_len, budget, verdict);
 }
 
 static int32_t robot_cost(const struct robot *shared, size_t length, uint64_t *cost)
@@ -187,18 +187,18 @@ static int32_t robot_cost(const struct robot *shared, size_t length, uint64_t *c
 
 static int32_t robot_delay(const struct robot *shared, uint64_t *microseconds)
 {
-    return shared->robot == NULL ? ROBOTS_OVERLONG_RULE : robots_query_delay(shared->robot, microseconds);
+    return shared->robot == NULL ? ROBOTS_OVERLONG_RULE : robots_delay(shared->robot, microseconds);
 }
 
-static int32_t robot_query_many(const struct robot *shared, const char *urls, size_t urls_len, int64_t *results, size_t results_len)
+static int32_t robot_verdicts(const struct robot *shared, const char *urls, size_t urls_len, int64_t *verdicts, size_t verdicts_len)
 {
-    return shared->robot == NULL ? ROBOTS_OVERLONG_RULE : robots_query_many(shared->robot, urls, urls_len, results, results_len);
+    return shared->robot == NULL ? ROBOTS_OVERLONG_RULE : robots_verdicts(shared->robot, urls, urls_len, verdicts, verdicts_len);
 }
 
-static int32_t robot_query_batch(const struct robot *shared, const char *urls, size_t urls_len, const size_t *ends, size_t n,
-                                 int64_t *results)
-{
-    return shared->robot == NULL ? ROBOTS_OVERLONG_RULE : robots_query_batch(shared->robot, urls, urls_len, ends, n, results);
+static int32_t robot_verdicts_batch(const struct robot *shared, const char *urls, size_t urls_len, const size_t *ends, size_t n,
+                                    int64_t *verdicts)
+                                    {
+    return shared->robot == NULL ? ROBOTS_OVERLONG_RULE : robots_verdicts_batch(shared->robot, urls, urls_len, ends, n, verdicts);
 }
 
 /* The C data interface of Arrow. */
@@ -226,9 +226,9 @@ static int64_t array_length(const struct ArrowSchema *schema, const struct Arrow
 }
 
 /* Texts of any type have their places as size_t here, counted from the first one. */
-static int32_t robot_query_array(const struct robot *shared, const struct ArrowSchema *schema, const struct ArrowArray *array,
-                                 int64_t *results)
-{
+static int32_t robot_verdicts_array(const struct robot *shared, const struct ArrowSchema *schema, const struct ArrowArray *array,
+                                    int64_t *verdicts)
+                                    {
     size_t n = (size_t)array->length, *ends = malloc((n + 1) * sizeof *ends);
     if (ends == NULL)
         return ROBOTS_OUT_OF_MEMORY;
@@ -239,7 +239,7 @@ static int32_t robot_query_array(const struct robot *shared, const struct ArrowS
     size_t start = n == 0 ? 0 : (size_t)(is_wide ? wide[0] : narrow[0]);
     for (size_t i = 0; i < n; i++)
         ends[i] = (size_t)(is_wide ? wide[i + 1] : narrow[i + 1]) - start;
-    int32_t status = robot_query_batch(shared, n == 0 ? NULL : text + start, n == 0 ? 0 : ends[n - 1], ends, n, results);
+    int32_t status = robot_verdicts_batch(shared, n == 0 ? NULL : text + start, n == 0 ? 0 : ends[n - 1], ends, n, verdicts);
     free(ends);
     return status;
 }

@@ -6,7 +6,7 @@ import pickle
 import sys
 import threading
 
-from texting_robots import FILE_LIMIT, Matrix, Robots, Verdict, product_token, robots_url
+from texting_robots import FILE_LIMIT, Matrix, Site, Verdict, product_token, robots_url
 
 # 8 * n + 7 bytes: then the copy of a bytes that ends at a page is aligned
 FILE = b"User-agent: FerrisBot\nAllow: /\nUser-agent: *\nDisallow: /a#\nSitemap: /s.xml\n".ljust(151, b"#") + b"\n" * 8
@@ -100,7 +100,7 @@ def views(data):
 
 
 def check_file(body, verdict=GROUP_OF_ALL, sitemaps=("/s.xml",)):
-    robots = Robots(body)
+    robots = Site(body)
     assert robots.verdict("/a", "other") == verdict and robots.sitemaps == list(sitemaps), body
     assert pickle.loads(pickle.dumps(robots)).verdict("/a", "other") == verdict
     if not isinstance(body, str):
@@ -118,11 +118,11 @@ def check_files():
     long = FILE + b"#" * (FILE_LIMIT - len(FILE)) + b"\nSitemap: /beyond"
     for view in [memoryview(long), memoryview(long[::-1])[::-1], memoryview(long + b"#" * (len(long) % 2)).cast("H")]:
         check_file(view)
-        assert repr(Robots(view)) == f"<Robots of {FILE_LIMIT} bytes>"
+        assert repr(Site(view)) == f"<Site of {FILE_LIMIT} bytes>"
 
 
 def check_texts():
-    robots = Robots(FILE)
+    robots = Site(FILE)
     assert robots.verdict("/a", "FerrisBot") == OWN_GROUP
     for _ in range(2):
         assert robots.verdict(Text("/a"), Text("other")) == GROUP_OF_ALL and robots.verdict("/a", "FerrisBot") == OWN_GROUP
@@ -138,7 +138,7 @@ def check_texts():
             call()
         except ValueError:
             errors += 1
-    for call in [Robots, Matrix(["/a"], ["a"]).denials]:
+    for call in [Site, Matrix(["/a"], ["a"]).denials]:
         for kind in [bytes, bytearray, memoryview, str]:
             try:
                 call(false_type(kind))
@@ -168,12 +168,12 @@ def check_sizes_that_change(turns):
     with mmap.mmap(-1, mmap.PAGESIZE) as mapped:
         mapped[: len(FILE)] = FILE
         with memoryview(mapped) as view:
-            robots = Robots(view)
+            robots = Site(view)
     body.clear()
     view = memoryview(FILE)
     view.release()
     try:
-        Robots(view)
+        Site(view)
     except ValueError:
         assert robots.verdict("/a", "other") == GROUP_OF_ALL
     else:

@@ -7,7 +7,7 @@ import pytest
 import support
 from library import random_case
 
-from texting_robots import Matrix, OverlongRuleError, Robots, Verdict, robots_url
+from texting_robots import Matrix, OverlongRuleError, Site, Verdict, robots_url
 
 BITS = [b"\0", b"\xff", b"\xef\xbb\xbf", b"\xe2\x80\x83", b"%41", b"*", b"$", b"\r", b"#", b":", b" "]
 BITS += [b"\nUser-agent: *\n", b"\nuseragent: bot\n", b"\nDisallow: /", b"\nAllow: ", b"\nCrawl-delay: 1.5\n", b"\nSitemap: /s\xc3\xb6.xml\n"]
@@ -30,7 +30,7 @@ def verdict_of(number):
 
 
 def report_of(robots, agent, urls):
-    """What robots_verdict prints for this Robots."""
+    """What robots_verdict prints for this Site."""
     delay = robots.delay_microseconds(agent)
     lines = [f"delay {'none' if delay is None else delay}"] + [f"sitemap {it}" for it in robots.sitemaps]
     lines += [f"{'allow' if it else 'deny'} {it.line or '-'} {url}" for it, url in zip(robots.verdicts(urls, agent), urls)]
@@ -45,18 +45,18 @@ def test_random_files_have_the_results_of_the_c_library_and_of_robots_verdict(ro
     for _ in range(1000):
         agent, file, urls = random_case(chance)
         file = damaged(chance, file)
-        ours, text = Robots(file), "".join(f"{line}\n" for line in [agent, *urls, ""]).encode() + file
+        ours, text = Site(file), "".join(f"{line}\n" for line in [agent, *urls, ""]).encode() + file
         printed = support.run(program, (), text)
         rows = robots.matrix([agent, "o"], file, urls)
-        assert ours.matrix(urls, [agent, "o"]) == [[None if it == robots.NO_RESULT else verdict_of(it) for it in row] for row in rows]
+        assert ours.matrix(urls, [agent, "o"]) == [[None if it == robots.NO_VERDICT else verdict_of(it) for it in row] for row in rows]
         denied = [(name, url, it) for name, row in zip([agent, "o"], rows) for url, it in zip(urls, row) if it < 0]
-        denied = [(name, url, None if it == robots.NO_RESULT else -it) for name, url, it in denied]
+        denied = [(name, url, None if it == robots.NO_VERDICT else -it) for name, url, it in denied]
         assert Matrix(urls, [agent, "o"]).denials(file) == denied
         assert (ours.sitemaps, ours.agents) == (robots.sitemaps(file), robots.agents(file))
         assert ours.delay_microseconds(agent) == robots.delay(agent, file)
         assert ours.is_named(agent) == (agent.encode().lower() in [it.encode().lower() for it in ours.agents])
         try:
-            expected = [verdict_of(it) for it in robots.decide(agent, file, urls)]
+            expected = [verdict_of(it) for it in robots.verdicts_of_file(agent, file, urls)]
         except robots.RobotsError as error:
             with pytest.raises(OverlongRuleError) as raised:
                 ours.allowed(urls[0], agent)
@@ -83,10 +83,10 @@ def address_of(call, url, *errors):
 def test_random_urls_have_the_address_and_the_result_of_the_c_library(robots):
     """URLs with line feeds too, which go one by one."""
     chance, file = random.Random(9309), b"User-agent: *\nDisallow: /*a\nAllow: /%0A\nDisallow: /\xc3\xb6"
-    ours = Robots(file)
+    ours = Site(file)
     with robots.Robot("Bot", file) as robot:
         for _ in range(2000):
             start = chance.choice(["", "/", "https://example.com/", "http://", "HTTPS://b\u00fccher.example:8080", "mailto:"])
             url = start + "".join(chance.choices(["a", "\n", "%", "?", "#", "\0", "/../", " ", "\u00f6", "\U0001f916", "@", ":"], k=5))
-            assert address_of(robots_url, url, ValueError) == address_of(robots.address, url, robots.RobotsError), url
-            assert ours.verdict(url, "Bot") == ours.verdicts([url, "/"], "Bot")[0] == verdict_of(robot.query(url)), url
+            assert address_of(robots_url, url, ValueError) == address_of(robots.robots_url, url, robots.RobotsError), url
+            assert ours.verdict(url, "Bot") == ours.verdicts([url, "/"], "Bot")[0] == verdict_of(robot.verdict(url)), url

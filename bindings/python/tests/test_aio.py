@@ -70,7 +70,7 @@ def over(answer, user_agent="FerrisBot", **more):
 
 
 def asked(robots, *paths):
-    """The decisions for some paths of a site, asked for at the same time."""
+    """The verdicts on some paths of a site, asked for at the same time."""
 
     async def ask():
         return await asyncio.gather(*(robots.may(f"http://a.example{path}") for path in paths))
@@ -138,7 +138,7 @@ def test_patience_begins_when_the_site_fails_first(patience, ends):
     async def one_after_another(loop):
         return [(tuple(await robots.may(f"http://a.example/{number}")), loop.now) for number in range(20)]
 
-    assert {(decision, round(now, 6)) for decision, now in timed(robots, one_after_another)} == {((False, None, "unreachable"), ends)}
+    assert {(verdict, round(now, 6)) for verdict, now in timed(robots, one_after_another)} == {((False, None, "unreachable"), ends)}
 
 
 class Broken:
@@ -257,10 +257,10 @@ def moments(robots, patiences, pause=0.0):
     async def call(loop, number, patience):
         await asyncio.sleep(number * pause)
         try:
-            decision = await asyncio.wait_for(robots.may(f"http://a.example/{number}"), patience)
+            verdict = await asyncio.wait_for(robots.may(f"http://a.example/{number}"), patience)
         except asyncio.TimeoutError:
             return None
-        return round(loop.now, 6) if decision else decision.line
+        return round(loop.now, 6) if verdict else verdict.line
 
     async def run(loop):
         return await asyncio.gather(*(call(loop, number, patience) for number, patience in enumerate(patiences)))

@@ -1,4 +1,4 @@
-"""The calls of the package: results, errors, and what a Robots does as an object of Python."""
+"""The calls of the package: results, errors, and what a Site does as an object of Python."""
 
 import array
 import copy
@@ -12,8 +12,8 @@ import package
 import pytest
 
 import texting_robots
-from texting_robots import FILE_LIMIT, LIFETIME, REDIRECT_LIMIT, AgentError, Matrix, Meaning, OverlongRuleError, Robots, RobotsError, TooCostlyError, UrlError
-from texting_robots import Verdict, meaning, product_token, robots_url
+from texting_robots import FILE_LIMIT, LIFETIME, REDIRECT_LIMIT, AgentError, Matrix, Meaning, OverlongRuleError, Robots, RobotsError, Site
+from texting_robots import TooCostlyError, UrlError, Verdict, meaning, product_token, robots_url
 
 SHOP = b"""\
 User-agent: *
@@ -37,26 +37,26 @@ def test_examples_of_the_docstrings():
 
 
 def test_verdicts():
-    shop = Robots(SHOP)
+    shop = Site(SHOP)
     assert shop.allowed("https://example.com/search/tea", "FerrisBot") is False
     assert shop.can_fetch("https://example.com/search/help", "FerrisBot") is True
     assert shop.verdict("/search/tea", "ferrisbot") == DENIED == (False, 2)
     assert shop.verdict("/search/help", "FerrisBot") == Verdict(True, 3)
     assert shop.verdict("/", "FerrisBot") == ALLOWED
     assert shop.verdict("/", "SLOWBOT") == Verdict(False, 7)
-    assert Robots(b"").verdict("/", "FerrisBot") == ALLOWED
+    assert Site(b"").verdict("/", "FerrisBot") == ALLOWED
 
 
 @pytest.mark.parametrize("odd", ["/sea\nrch", "/"], ids=["one with a line feed", "none"])
 def test_verdicts_of_many_urls(odd):
-    shop, urls = Robots(SHOP), ["/search/tea", "/search/help", "", odd, "https://example.com/search"]
+    shop, urls = Site(SHOP), ["/search/tea", "/search/help", "", odd, "https://example.com/search"]
     assert shop.verdicts(urls, "FerrisBot") == [shop.verdict(url, "FerrisBot") for url in urls]
     assert shop.verdicts(urls, "FerrisBot")[:3] == [DENIED, Verdict(True, 3), ALLOWED]
     assert shop.matrix(urls, ["FerrisBot", "SlowBot", "*"]) == [shop.verdicts(urls, agent) for agent in ["FerrisBot", "SlowBot", "*"]]
 
 
 def test_many_urls_may_be_few():
-    shop = Robots(SHOP)
+    shop = Site(SHOP)
     assert shop.verdicts(iter(["/"]), "SlowBot") == [Verdict(False, 7)]
     assert shop.verdicts([], "SlowBot") == []
     assert shop.verdicts([""], "FerrisBot") == [ALLOWED]
@@ -67,7 +67,7 @@ def test_many_urls_may_be_few():
 
 def test_verdicts_within_a_budget():
     """The longer rule is tried first, and no byte is compared if it is longer than the URL's path."""
-    shop = Robots(SHOP)
+    shop = Site(SHOP)
     cases = [("/search/tea", 9, DENIED), ("/search/help", 13, Verdict(True, 3)), ("/search/a", 9, DENIED), ("", 2, ALLOWED)]
     for url, least, verdict in cases:
         assert shop.verdict_within(f"https://example.com{url}", "FerrisBot", least) == shop.verdict(url, "FerrisBot") == verdict
@@ -76,8 +76,8 @@ def test_verdicts_within_a_budget():
         assert isinstance(raised.value, RobotsError)
     assert shop.verdict_within("/robots.txt", "SlowBot", 0) == ALLOWED
     assert [shop.cost(length, "FerrisBot") for length in (0, 6, 7, 11, 12, 2**64 - 1)] == [2, 2, 9, 9, 21, 21]
-    assert [Robots(b"User-agent: *\nDisallow: /*a\nAllow: /b$").cost(length, "a") for length in (0, 2, 2**64 - 1)] == [2, 8, 2**64 - 1]
-    for call in [lambda: Robots(OVERLONG).cost(1, "LongBot"), lambda: Robots(OVERLONG).verdict_within("/", "LongBot", 99)]:
+    assert [Site(b"User-agent: *\nDisallow: /*a\nAllow: /b$").cost(length, "a") for length in (0, 2, 2**64 - 1)] == [2, 8, 2**64 - 1]
+    for call in [lambda: Site(OVERLONG).cost(1, "LongBot"), lambda: Site(OVERLONG).verdict_within("/", "LongBot", 99)]:
         with pytest.raises(OverlongRuleError):
             call()
     for wrong in [-1, 2**64]:
@@ -87,12 +87,12 @@ def test_verdicts_within_a_budget():
 
 def test_size():
     """A file's bytes are kept once for one agent, else twice. A robot takes 74 for each of 60 rules, and agents without a line share one."""
-    empty, long = Robots(b""), Robots(b"#" * 1000)
-    assert long.size == 1000 and long.allowed("/", "x") and empty.allowed("/", "x") and long.size - empty.size == 1000
-    assert long.allowed("/", "y") and empty.allowed("/", "y") and long.size - empty.size == 2000
+    empty, long = Site(b""), Site(b"#" * 1000)
+    assert long.memory == 1000 and long.allowed("/", "x") and empty.allowed("/", "x") and long.memory - empty.memory == 1000
+    assert long.allowed("/", "y") and empty.allowed("/", "y") and long.memory - empty.memory == 2000
     body = b"User-agent: own\nUser-agent: *\n" + b"Disallow: /a\n" * 60
-    file = Robots(body)
-    sizes = [file.size for agent in ["own", "x", "y", "own"] if file.allowed("/", agent)]
+    file = Site(body)
+    sizes = [file.memory for agent in ["own", "x", "y", "own"] if file.allowed("/", agent)]
     own = sizes[0] - len(body)
     assert 60 * 74 < own < 60 * 74 + 400 and sizes[1] > 2 * len(body) + own and sizes[2:] == [sizes[1], sizes[1] + own]
 
@@ -125,7 +125,7 @@ def test_a_file_has_as_many_bytes_as_there_are():
     """Whatever its len() says: with a greater one, the library would read memory that isn't the file's."""
     body = BytesOfAnotherLength(SHOP)
     assert Matrix(["/search"], ["FerrisBot"]).denials(body) == [("FerrisBot", "/search", 2)]
-    assert Robots(body).verdict("/search", "FerrisBot") == DENIED
+    assert Site(body).verdict("/search", "FerrisBot") == DENIED
 
 
 def test_responses():
@@ -142,7 +142,7 @@ def test_responses():
 
 @pytest.mark.parametrize("agent", ["FerrisBot", "*", ""])
 def test_all_or_nothing(agent):
-    class Own(Robots):
+    class Own(Site):
         pass
 
     urls = ["https://example.com/a?b", "/", "example.com", "/robots.txt"]
@@ -151,31 +151,31 @@ def test_all_or_nothing(agent):
 
 
 def test_a_verdict_is_true_if_it_allows():
-    assert Robots(SHOP).verdict("/", "FerrisBot")
-    assert not Robots(SHOP).verdict("/", "SlowBot")
+    assert Site(SHOP).verdict("/", "FerrisBot")
+    assert not Site(SHOP).verdict("/", "SlowBot")
 
 
 def test_delays():
-    shop = Robots(SHOP)
+    shop = Site(SHOP)
     assert shop.delay("FerrisBot") == shop.crawl_delay("FerrisBot") == 2.5
     assert shop.delay_microseconds("FerrisBot") == 2_500_000
     assert shop.delay_microseconds("SlowBot") == 2**64 - 1
     assert math.isfinite(shop.delay("SlowBot"))
-    assert Robots(b"").delay("FerrisBot") is None
-    assert Robots(b"User-agent: *\nCrawl-delay: 0").delay("FerrisBot") == 0.0
+    assert Site(b"").delay("FerrisBot") is None
+    assert Site(b"User-agent: *\nCrawl-delay: 0").delay("FerrisBot") == 0.0
 
 
 def test_sitemaps_and_agents():
-    assert Robots(SHOP).sitemaps == ["https://example.com/one.xml", "https://example.com/zwölf.xml"]
-    assert Robots(SHOP + b"User-agent: SLOWBOT\nUser-agent: b\xc3\xb6tbot\nUser-agent: \xff").agents == ["*", "SlowBot", "bötbot"]
-    assert Robots(b"").sitemaps == Robots(b"").agents == []
-    assert Robots(b"Sitemap: \xff\nSitemap:\nSitemap: a").sitemaps == ["", "a"]
+    assert Site(SHOP).sitemaps == ["https://example.com/one.xml", "https://example.com/zwölf.xml"]
+    assert Site(SHOP + b"User-agent: SLOWBOT\nUser-agent: b\xc3\xb6tbot\nUser-agent: \xff").agents == ["*", "SlowBot", "bötbot"]
+    assert Site(b"").sitemaps == Site(b"").agents == []
+    assert Site(b"Sitemap: \xff\nSitemap:\nSitemap: a").sitemaps == ["", "a"]
     inner = [f"a{space}b" for space in " \x0b\x0c\x1c\x85\u2028"]  # which end no line
-    assert Robots("".join(f"Sitemap: {it}\n" for it in inner)).sitemaps == inner
-    assert Robots("User-agent:\n" + "".join(f"User-agent: {it}\n" for it in inner)).agents == ["", *inner]
+    assert Site("".join(f"Sitemap: {it}\n" for it in inner)).sitemaps == inner
+    assert Site("User-agent:\n" + "".join(f"User-agent: {it}\n" for it in inner)).agents == ["", *inner]
     many = [f"https://example.com/{n}.xml" for n in range(1000)]
-    assert Robots("".join(f"Sitemap: {url}\n" for url in many)).sitemaps == many
-    assert Robots("".join(f"User-agent: {url}\n" for url in many)).agents == many
+    assert Site("".join(f"Sitemap: {url}\n" for url in many)).sitemaps == many
+    assert Site("".join(f"User-agent: {url}\n" for url in many)).agents == many
 
 
 def test_robots_url():
@@ -190,11 +190,11 @@ def test_robots_url():
 
 @pytest.mark.parametrize("url", ["/zwölf", "/zw%C3%B6lf", "https://bücher.example/zwölf/x"])
 def test_a_url_may_be_outside_of_ascii(url):
-    assert Robots("User-agent: *\nDisallow: /zwölf\n").verdict(url, "FerrisBot") == DENIED
+    assert Site("User-agent: *\nDisallow: /zwölf\n").verdict(url, "FerrisBot") == DENIED
 
 
 def test_agents_that_are_not_named_share_the_group_of_all():
-    robots = Robots(b"User-agent: *\nDisallow: /all\nUser-agent: FerrisBot\nDisallow: /ferris")
+    robots = Site(b"User-agent: *\nDisallow: /all\nUser-agent: FerrisBot\nDisallow: /ferris")
     for agent in ["", "*", "OtherBot", "Ferris", "bötbot"]:
         assert robots.verdicts(["/all", "/ferris"], agent) == [DENIED, ALLOWED]
     assert robots.verdicts(["/all", "/ferris"], "FERRISBOT") == [ALLOWED, Verdict(False, 4)]
@@ -205,14 +205,14 @@ def test_agents_that_are_not_named_share_the_group_of_all():
 
 
 def test_is_named():
-    robots = Robots(SHOP + b"User-agent: b\xc3\xb6tbot\nUser-agent: \xff\nUser-agent: Long")
+    robots = Site(SHOP + b"User-agent: b\xc3\xb6tbot\nUser-agent: \xff\nUser-agent: Long")
     assert [robots.is_named(it) for it in ["SlowBot", "slowBOT", "b\u00f6tbot", "*", "LONG"]] == [True] * 5
     assert [robots.is_named(it) for it in ["FerrisBot", "Slow", "SlowBot2", "b\u00d6tbot", "\u00ff", ""]] == [False] * 6
-    assert not Robots(b"Disallow: /").is_named("*") and Robots(OVERLONG).is_named("LongBot") is True
+    assert not Site(b"Disallow: /").is_named("*") and Site(OVERLONG).is_named("LongBot") is True
 
 
 def test_any_number_of_agents():
-    robots = Robots(b"User-agent: *\nDisallow: /all\nUser-agent: a7\nDisallow: /seven")
+    robots = Site(b"User-agent: *\nDisallow: /all\nUser-agent: a7\nDisallow: /seven")
     for number in range(2500):
         assert robots.verdict("/all", f"a{number}") == ((True, None) if number == 7 else (False, 2))
     assert robots.verdict("/seven", "A7") == Verdict(False, 4)
@@ -237,7 +237,7 @@ BUFFERS = [bytes, bytearray, memoryview, mapped, lambda body: array.array("b", b
 
 @pytest.mark.parametrize("kind", [*BUFFERS, pickle.PickleBuffer, arrow_buffer])
 def test_bodies_of_bytes(kind):
-    assert Robots(kind(SHOP)).verdict("/search", "FerrisBot") == DENIED
+    assert Site(kind(SHOP)).verdict("/search", "FerrisBot") == DENIED
     assert Matrix(["/search"], ["FerrisBot"]).denials(kind(SHOP)) == [("FerrisBot", "/search", 2)]
 
 
@@ -246,34 +246,34 @@ def test_no_more_than_the_limit_is_copied():
     flags = mmap.MAP_PRIVATE | mmap.MAP_ANONYMOUS | getattr(mmap, "MAP_NORESERVE", 0x4000)
     with mmap.mmap(-1, 1 << 40, flags=flags) as body:
         body[: len(SHOP)] = SHOP
-        assert Robots(body).verdict("/search", "FerrisBot") == DENIED
+        assert Site(body).verdict("/search", "FerrisBot") == DENIED
 
 
-class SiteRobots(Robots):
+class SiteRobots(Site):
     pass
 
 
 @pytest.mark.parametrize("body", [SHOP, SHOP.decode(), memoryview(SHOP)])
 def test_parse(body):
-    assert Robots.parse(body).can_fetch("/search", "FerrisBot") is False
+    assert Site.parse(body).can_fetch("/search", "FerrisBot") is False
     assert type(SiteRobots.parse(body)) is SiteRobots
 
 
 def test_bodies_of_text():
     damaged = b"User-agent: *\nDisallow: /p # \xff\xfe\n"
     for body in [damaged, damaged.decode("utf-8", "surrogateescape"), damaged.decode("utf-8", "replace"), "\ufeffUser-agent: *\nDisallow: /p"]:
-        assert not Robots(body).allowed("/p", "FerrisBot")
+        assert not Site(body).allowed("/p", "FerrisBot")
     with pytest.raises(ValueError):
-        Robots("Disallow: /\ud800")
+        Site("Disallow: /\ud800")
     for body in [None, 3, ["User-agent: *"]]:
-        for call in [Robots, Robots.parse, Matrix(["/"], ["FerrisBot"]).denials]:
+        for call in [Site, Site.parse, Matrix(["/"], ["FerrisBot"]).denials]:
             with pytest.raises(TypeError, match=f"^body has the type {type(body).__name__}: it has to be bytes or another buffer"):
                 call(body)
 
 
 def test_a_body_that_changes_later():
     body = bytearray(SHOP)
-    shop = Robots(body)
+    shop = Site(body)
     body[:] = b"#" * len(body)
     assert not shop.allowed("/search", "FerrisBot")
 
@@ -281,21 +281,21 @@ def test_a_body_that_changes_later():
 def test_the_file_limit():
     assert FILE_LIMIT == 512_000
     filler = b"# filler\n" * 70_000
-    assert Robots(filler + b"User-agent: *\nDisallow: /").allowed("/x", "FerrisBot")
+    assert Site(filler + b"User-agent: *\nDisallow: /").allowed("/x", "FerrisBot")
     whole = b"User-agent: *\nDisallow: /\n" + filler
-    assert not Robots(whole).allowed("/x", "FerrisBot")
-    assert len(pickle.dumps(Robots(whole))) < FILE_LIMIT + 1000
-    assert Robots(array.array("H", bytes(FILE_LIMIT + 2))).size == FILE_LIMIT
-    assert repr(Robots(whole)) == f"<Robots of {FILE_LIMIT} bytes>"
+    assert not Site(whole).allowed("/x", "FerrisBot")
+    assert len(pickle.dumps(Site(whole))) < FILE_LIMIT + 1000
+    assert Site(array.array("H", bytes(FILE_LIMIT + 2))).memory == FILE_LIMIT
+    assert repr(Site(whole)) == f"<Site of {FILE_LIMIT} bytes>"
     rule = b"\nUser-agent: *\nDisallow: /x"
     for over, line in [(0, None), (1, 3)]:  # with one byte too many, the rule is cut to `Disallow: /`
-        assert Robots(b"#" * (FILE_LIMIT - len(rule) + over) + rule).verdict("/", "FerrisBot") == Verdict(line is None, line)
+        assert Site(b"#" * (FILE_LIMIT - len(rule) + over) + rule).verdict("/", "FerrisBot") == Verdict(line is None, line)
 
 
 @pytest.mark.parametrize("end", [b"\n", b"\r\n", b"\r", b"\0"])
 @pytest.mark.parametrize("front", [b"", b"\xef\xbb\xbf", b"\xbb\xbf"])
 def test_line_ends_and_byte_order_marks(front, end):
-    assert Robots(front + SHOP.replace(b"\n", end)).verdict("/search", "FerrisBot") == DENIED
+    assert Site(front + SHOP.replace(b"\n", end)).verdict("/search", "FerrisBot") == DENIED
 
 
 # ---- errors
@@ -312,7 +312,7 @@ def calls_with(robots, url, agent):
 @pytest.mark.parametrize("error", [AgentError, RobotsError, TypeError, ValueError])
 def test_an_agent_with_a_slash(agent, error):
     """So arguments that are swapped, and a User-Agent with a version."""
-    robots = Robots(SHOP)
+    robots = Site(SHOP)
     calls = [lambda: robots.delay(agent), lambda: robots.crawl_delay(agent), lambda: robots.is_named(agent)]
     calls += [lambda: robots.matrix([], [agent]), lambda: robots.matrix([], ["a\nb", agent])]
     for call in [*calls_with(robots, "FerrisBot", agent), *calls]:
@@ -330,7 +330,7 @@ class URL:
 @pytest.mark.parametrize("wrong", [None, 3, b"FerrisBot", ["/"], URL()])
 def test_what_is_no_text(wrong):
     """The error has the argument, its type, and what it may be."""
-    robots, kind = Robots(SHOP), type(wrong).__name__
+    robots, kind = Site(SHOP), type(wrong).__name__
     of_agents = [*calls_with(robots, "/", wrong), lambda: robots.delay(wrong), lambda: robots.is_named(wrong), lambda: robots.cost(1, wrong)]
     of_agents += [lambda: Matrix(["/"], [wrong])]
     of_urls = [*calls_with(robots, wrong, "FerrisBot"), lambda: robots.verdict_within(wrong, "FerrisBot", 9), lambda: robots_url(wrong)]
@@ -343,7 +343,7 @@ def test_what_is_no_text(wrong):
 
 @pytest.mark.parametrize("wrong", ["/search", b"/search", None, 3])
 def test_what_is_not_several(wrong):
-    robots = Robots(SHOP)
+    robots = Site(SHOP)
     of_urls = [lambda: robots.verdicts(wrong, "FerrisBot"), lambda: robots.matrix(wrong, ["FerrisBot"]), lambda: Matrix(wrong, ["FerrisBot"])]
     of_agents = [lambda: robots.matrix(["/search"], wrong), lambda: Matrix(["/search"], wrong)]
     for calls, argument in [(of_urls, "urls"), (of_agents, "agents")]:
@@ -353,7 +353,7 @@ def test_what_is_not_several(wrong):
 
 
 def test_the_place_of_what_is_no_text():
-    for call, place in [(lambda: Robots(SHOP).verdicts(["/", b"/"], "FerrisBot"), r"urls\[1\]"), (lambda: Robots(SHOP).matrix(["/"], [b"*"]), r"agents\[0\]")]:
+    for call, place in [(lambda: Site(SHOP).verdicts(["/", b"/"], "FerrisBot"), r"urls\[1\]"), (lambda: Site(SHOP).matrix(["/"], [b"*"]), r"agents\[0\]")]:
         with pytest.raises(TypeError, match=f"^{place} has the type bytes"):
             call()
 
@@ -364,11 +364,11 @@ def test_an_error_of_an_iterator_is_its_own():
         raise TypeError("of the iterator")
 
     with pytest.raises(TypeError, match="^of the iterator$"):
-        Robots(SHOP).verdicts(failing(), "FerrisBot")
+        Site(SHOP).verdicts(failing(), "FerrisBot")
 
 
 def test_what_is_not_utf8():
-    robots = Robots(SHOP)
+    robots = Site(SHOP)
     calls = [*calls_with(robots, "/\ud800", "FerrisBot"), *calls_with(robots, "/", "Ferris\udcff"), lambda: robots.delay("Ferris\udcff")]
     for call in [*calls, lambda: robots.is_named("Ferris\udcff"), lambda: robots_url("https://example.com/\ud800")]:
         with pytest.raises(ValueError):
@@ -376,7 +376,7 @@ def test_what_is_not_utf8():
 
 
 def test_an_overlong_rule():
-    robots = Robots(OVERLONG)
+    robots = Site(OVERLONG)
     assert not robots.allowed("/a", "FerrisBot")
     for call in calls_with(robots, "/", "longbot")[:4] * 2:
         with pytest.raises(OverlongRuleError, match="line 5") as raised:
@@ -417,21 +417,32 @@ def test_product_tokens(user_agent, token):
 
 
 def test_pickles_and_copies():
-    shop = Robots(SHOP)
+    shop = Site(SHOP)
     shop.allowed("/", "FerrisBot")
     for protocol in range(pickle.HIGHEST_PROTOCOL + 1):
         assert pickle.loads(pickle.dumps(shop, protocol)).verdict("/search", "FerrisBot") == DENIED
     for again in [copy.copy(shop), copy.deepcopy(shop)]:
         assert again.verdict("/search", "FerrisBot") == DENIED
     assert pickle.loads(pickle.dumps(Verdict(True, 3))) == Verdict(True, 3)
-    assert repr(shop) == f"<Robots of {len(SHOP)} bytes>"
+    assert repr(shop) == f"<Site of {len(SHOP)} bytes>"
 
 
-class OwnRobots(Robots):
+def test_the_other_name_of_a_site():
+    """A pickle that was made when the class had it can be read, too."""
+    assert Robots is Site
+    made = (
+        b"\x80\x04\x95b\x00\x00\x00\x00\x00\x00\x00\x8c\x16texting_robots._robots\x94\x8c\x06Robots\x94\x93\x94)\x81\x94}\x94"
+        b"\x8c\x05_site\x94h\x00\x8c\x05_Site\x94\x93\x94C\x1bUser-agent: *\nDisallow: /a\n\x94\x85\x94R\x94sb."
+    )
+    site = pickle.loads(made)
+    assert type(site) is Site and site.verdict("/a", "x") == DENIED
+
+
+class OwnRobots(Site):
     pass
 
 
-class FetchedRobots(Robots):
+class FetchedRobots(Site):
     __slots__ = ("host",)
 
     def __init__(self, host, body):
@@ -457,10 +468,10 @@ def test_a_subclass_keeps_its_attributes(again):
 IN_A_WORKER = """
 from concurrent.futures import ProcessPoolExecutor
 from multiprocessing import get_context
-from texting_robots import OverlongRuleError, Robots
+from texting_robots import OverlongRuleError, Site
 
 if __name__ == "__main__":
-    robots = Robots(b"User-agent: a\\nDisallow: /private\\nUser-agent: b\\nDisallow: /" + b"a" * 5000 + b"$")
+    robots = Site(b"User-agent: a\\nDisallow: /private\\nUser-agent: b\\nDisallow: /" + b"a" * 5000 + b"$")
     with ProcessPoolExecutor(1, mp_context=get_context("spawn")) as pool:
         print(pool.submit(robots.allowed, "/private", "a").result(), pool.submit(robots.verdict, "/private", "c").result())
         try:

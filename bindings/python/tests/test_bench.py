@@ -11,7 +11,7 @@ import pytest
 from support import DOCUMENTS, ROOT, tables
 from test_documents import bytes_in, rows_under, section
 
-from texting_robots import Robots
+from texting_robots import Site
 
 sys.path.insert(0, str(ROOT / "bench"))
 import corpus  # noqa: E402
@@ -25,7 +25,7 @@ def results(text, url):
     parser = urllib.robotparser.RobotFileParser()
     parser.parse(text.decode().splitlines())
     theirs = {"Protego": protego.Protego.parse(text.decode()).can_fetch(url, "FerrisBot"), "urllib": parser.can_fetch("FerrisBot", url)}
-    return {**theirs, "here": Robots(text).allowed(url, "FerrisBot")}
+    return {**theirs, "here": Site(text).allowed(url, "FerrisBot")}
 
 
 @pytest.mark.parametrize("difference, parsers, file, url, there, here", rows_under("docs/COMPATIBILITY.md", *COLUMNS))

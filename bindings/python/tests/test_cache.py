@@ -12,7 +12,7 @@ import pytest
 
 from texting_robots import FILE_LIMIT, UrlError, _memory, _names, robots_url
 from texting_robots import cache as module
-from texting_robots.cache import Action, Look, RobotsCache, State
+from texting_robots.cache import Action, CacheVerdict, Decision, Look, RobotsCache, State
 
 RULES, CLOSED = b"User-agent: *\nDisallow: /private/\n", b"User-agent: *\nDisallow: /\n"
 A, HTTP, HTTPS = "http://a.example/robots.txt", "http://h.example/robots.txt", "https://h.example/robots.txt"
@@ -54,7 +54,7 @@ def fetched(cache, url, *responses):
         step = cache.received(fetch, *response) if response else cache.failed(fetch)
         known, fetch = known | step.known, step.fetch
     assert not fetch and not responses
-    return known[look.address], asked
+    return known[look.robots_url], asked
 
 
 def file(body=RULES, **fields):
@@ -68,15 +68,22 @@ def moved(address):
 def test_what_to_do_for_a_url(caches, cache):
     """One request for all that want the file, and none before it is time."""
     look = cache.look("http://a.example/x")
-    assert (look.action, look.address, look.fetch.address, look.fetch.headers) == (Action.FETCH, A, A, {"Accept-Encoding": "identity"})
+    assert (look.action, look.robots_url, look.fetch.address, look.fetch.headers) == (Action.FETCH, A, A, {"Accept-Encoding": "identity"})
     assert cache.look("http://a.example/y")[0] is Action.WAIT and cache.look("https://a.example/")[0] is Action.FETCH
     site = cache.received(look.fetch, *file()).known[A]
     assert cache.look("http://a.example/x") == Look(Action.USE, A, site)
     assert (site.state, site.expires, site.refresh) == (State.FILE, caches.now + DAY, caches.now + 23 * HOUR)
-    assert cache.decide(site, "http://a.example/private/", "FerrisBot/1.0") == (False, 2, "")
-    assert cache.decide(site, "http://a.example/", "FerrisBot/1.0") == (True, None, "")
+    assert cache.verdict(site, "http://a.example/private/", "FerrisBot/1.0") == (False, 2, "")
+    assert cache.verdict(site, "http://a.example/", "FerrisBot/1.0") == (True, None, "")
     with pytest.raises(UrlError):
         cache.look("ftp://a.example/")
+
+
+def test_the_other_name_of_a_verdict():
+    """A pickle that was made when the class had it can be read, too."""
+    made = b"\x80\x02ctexting_robots._rules\nDecision\nq\x00\x89K\x02X\x00\x00\x00\x00q\x01\x87q\x02\x81q\x03."
+    assert Decision is CacheVerdict and pickle.loads(made) == CacheVerdict(False, 2)
+    assert CacheVerdict(True) and not CacheVerdict(False, 2) and not CacheVerdict(False, None, "unreachable")
 
 
 def test_an_older_file_counts_while_a_newer_one_is_fetched_in_time(caches, cache):
@@ -102,10 +109,10 @@ def test_no_file_counts_for_longer_unless_its_server_fails(caches, cache):
         look = cache.look(A)
         assert look[:3] == (Action.REFRESH, A, site) and cache.look(A) == Look(Action.USE, A, site)
         site = cache.failed(look.fetch).known[A]
-    assert not cache.decide(site, "http://a.example/private/", "x").allowed and caches.events == {"stale": 4}
+    assert not cache.verdict(site, "http://a.example/private/", "x").allowed and caches.events == {"stale": 4}
     caches.now += 40
     site, _ = fetched(cache, A, (404, {}, CLOSED))
-    assert (site.state, site.is_failing) == (State.NO_FILE, False) and cache.decide(site, "http://a.example/private/", "x").allowed
+    assert (site.state, site.is_failing) == (State.NO_FILE, False) and cache.verdict(site, "http://a.example/private/", "x").allowed
     caches.now += DAY - 4
     assert fetched(cache, A, BUSY)[0].state is State.UNREACHABLE
 
@@ -121,7 +128,7 @@ def test_a_file_that_has_not_changed(caches, cache):
         assert second.headers == {"Accept-Encoding": "identity", "If-None-Match": '"1"'}
         site = cache.received(second, status, fields, body).known[HTTP]
         assert site.expires == caches.now + DAY
-        assert cache.decide(site, "http://h.example/", "x").allowed is allowed and not cache.decide(site, "http://h.example/private/", "x").allowed
+        assert cache.verdict(site, "http://h.example/", "x").allowed is allowed and not cache.verdict(site, "http://h.example/private/", "x").allowed
     assert caches.events["not_modified"] == 2
     assert fetched(cache, A, (304, {}, b""))[0].state is State.UNREACHABLE
     for number, etag in enumerate(['"' + "x" * 200 + '"', '"\u00e9"', '"\n"']):
@@ -148,7 +155,7 @@ def test_a_site_that_joins_another_gets_the_file_that_has_not_changed_there(cach
     one, other = cache.look(HTTPS).fetch, cache.look(A).fetch
     assert cache.received(other, *moved(HTTPS)) == ({}, None)
     known = cache.received(one, 304, {}, b"").known
-    assert [cache.decide(known[address], "http://a.example/", "x").allowed for address in (HTTPS, A)] == [True, True]
+    assert [cache.verdict(known[address], "http://a.example/", "x").allowed for address in (HTTPS, A)] == [True, True]
 
 
 def test_two_versions_of_a_file(caches, cache):
@@ -172,7 +179,7 @@ def test_http_and_https_of_one_chain_are_fetched_once(cache):
 def test_a_redirect_to_a_file_that_is_known_or_on_its_way(caches, cache):
     known, _ = fetched(cache, HTTPS, file())
     site, asked = fetched(cache, HTTP, moved(HTTPS))
-    assert asked == [HTTP] and (site.packed, site.expires, site.address) == (known.packed, known.expires, HTTP)
+    assert asked == [HTTP] and (site.packed, site.expires, site.robots_url) == (known.packed, known.expires, HTTP)
     cache = caches()
     one, other = cache.look(HTTP).fetch, cache.look(HTTPS).fetch
     assert cache.received(one, *moved(HTTPS)) == cache.failed(one) == ({}, None)
@@ -281,11 +288,11 @@ def test_a_file_is_parsed_again_rather_than_fetched(caches):
     cache, filler = caches(budget=100_000), b"#" * 3000
     for number in range(60):
         fetched(cache, f"http://{number}.example", file(RULES + filler))
-        assert cache.size <= 100_000
+        assert cache.memory <= 100_000
     assert len(cache) == 60 and not caches.events["evicted"]
     for number in range(60):
         look = cache.look(f"http://{number}.example")
-        assert look[0] is Action.USE and cache.decide(look.site, f"http://{number}.example/private/", "x").line == 2 and cache.size <= 100_000
+        assert look[0] is Action.USE and cache.verdict(look.site, f"http://{number}.example/private/", "x").line == 2 and cache.memory <= 100_000
     assert caches.events["parsed"] >= 50
     for number in range(60, 200):
         fetched(cache, f"http://{number}.example", file(RULES + filler))
@@ -298,16 +305,16 @@ def test_what_was_evicted_is_not_kept_again(caches):
     """Also if it is still used."""
     cache = caches(budget=1)
     old, new = (fetched(cache, f"http://{name}.example", file())[0] for name in "ab")
-    assert not cache.decide(old, "http://a.example/private/", "x").allowed
+    assert not cache.verdict(old, "http://a.example/private/", "x").allowed
     assert old.rules is None and new.rules
 
 
 def test_the_memory_of_each_crawler_counts(cache):
     site, _ = fetched(cache, A, file(b"".join(b"User-agent: b%d\nDisallow: /%d\n\n" % (number, number) for number in range(50))))
-    before = cache.size
+    before = cache.memory
     for number in range(50):
-        cache.decide(site, "http://a.example/", f"b{number}")
-    assert cache.size == site.memory + site.rules.size > before + 50 * 100
+        cache.verdict(site, "http://a.example/", f"b{number}")
+    assert cache.memory == site.memory + site.rules.memory > before + 50 * 100
 
 
 def test_sitemaps_are_told_once(caches, cache):
@@ -322,23 +329,23 @@ def test_a_file_that_takes_too_long(caches):
     body = b"User-agent: *\n" + b"".join(b"Disallow: *a*%d*b\n" % number for number in range(10)) + b"Disallow: *a*c*b\n" * 9_990
     cache = caches()
     site, _ = fetched(cache, A, file(body))
-    assert cache.decide(site, "http://a.example/short", "x").allowed
-    assert cache.decide(site, "http://a.example/a7b", "x") == (False, 9, "")
-    assert cache.decide(site, "http://a.example/" + "a" * 2000, "x") == (False, None, "a verdict may take too long")
+    assert cache.verdict(site, "http://a.example/short", "x").allowed
+    assert cache.verdict(site, "http://a.example/a7b", "x") == (False, 9, "")
+    assert cache.verdict(site, "http://a.example/" + "a" * 2000, "x") == (False, None, "a verdict may take too long")
     cache = caches(cost_limit=5)
-    assert cache.decide(fetched(cache, A, file())[0], "http://a.example/private/", "x").problem == "a verdict may take too long"
+    assert cache.verdict(fetched(cache, A, file())[0], "http://a.example/private/", "x").problem == "a verdict may take too long"
     cache = caches(cost_limit=10**9)
-    assert cache.decide(fetched(cache, A, file(body))[0], "http://a.example/" + "a" * 2000, "x").allowed
+    assert cache.verdict(fetched(cache, A, file(body))[0], "http://a.example/" + "a" * 2000, "x").allowed
 
 
 def test_a_long_url_that_takes_too_long(caches):
     """One rule with a star takes twice the length of the URL at most."""
     cache = caches(cost_limit=100_000)
     site, _ = fetched(cache, A, file(b"User-agent: *\nDisallow: /*a*b\n"))
-    assert cache.decide(site, "http://a.example/" + "a" * 2_000, "x").allowed
-    assert cache.decide(site, "http://a.example/" + "a" * 60_000, "x") == (False, None, "a verdict may take too long")
-    assert cache.decide(site, "http://a.example/" + "\u20ac" * 5_500, "x").allowed  # 49,500 bytes, escaped
-    assert cache.decide(site, "http://a.example/" + "\u20ac" * 6_000, "x").problem == "a verdict may take too long"
+    assert cache.verdict(site, "http://a.example/" + "a" * 2_000, "x").allowed
+    assert cache.verdict(site, "http://a.example/" + "a" * 60_000, "x") == (False, None, "a verdict may take too long")
+    assert cache.verdict(site, "http://a.example/" + "\u20ac" * 5_500, "x").allowed  # 49,500 bytes, escaped
+    assert cache.verdict(site, "http://a.example/" + "\u20ac" * 6_000, "x").problem == "a verdict may take too long"
 
 
 def test_without_memory(cache, monkeypatch):
@@ -349,13 +356,13 @@ def test_without_memory(cache, monkeypatch):
 
     site, _ = fetched(cache, A, file())
     with monkeypatch.context() as changed:
-        changed.setattr(module.Rules, "decide", no_memory)
-        assert cache.decide(site, "http://a.example/", "x") == (False, None, "out of memory")
+        changed.setattr(module.Rules, "verdict", no_memory)
+        assert cache.verdict(site, "http://a.example/", "x") == (False, None, "out of memory")
     for it in (module, _memory):
         monkeypatch.setattr(it, "Rules", no_memory)
     assert fetched(cache, "http://b.example", file())[0].state is State.UNREACHABLE
     site.rules = None
-    assert not cache.decide(site, "http://a.example/", "x").allowed and cache.delay(site, "x") == 0
+    assert not cache.verdict(site, "http://a.example/", "x").allowed and cache.delay(site, "x") == 0
 
 
 def test_a_delay(cache):
@@ -385,7 +392,7 @@ def test_hosts_that_are_exempt(caches):
     cache = caches(exempt=["A.example", "b.example"])
     for url in ("http://a.example/private/", "https://A.EXAMPLE:8443/private/"):
         look = cache.look(url)
-        assert look.action is Action.USE and cache.decide(look.site, url, "x") == (True, None, "") and cache.delay(look.site, "x") == 0
+        assert look.action is Action.USE and cache.verdict(look.site, url, "x") == (True, None, "") and cache.delay(look.site, "x") == 0
     assert cache.look("http://www.a.example/").fetch and len(cache) == 0
     with pytest.raises(TypeError):
         caches(exempt="a.example")
@@ -398,16 +405,16 @@ NAMES = b"User-agent: A\nDisallow: /a\nCrawl-delay: 1\n\nUser-agent: B\nDisallow
 def test_several_names_in_order_of_precedence(cache, names, line, delay):
     """The first that the file names counts, and the rules for * if it names none."""
     site, _ = fetched(cache, A, file(NAMES))
-    denied = [decision.line for path in "abs" if not (decision := cache.decide(site, f"http://a.example/{path}", names))]
+    denied = [verdict.line for path in "abs" if not (verdict := cache.verdict(site, f"http://a.example/{path}", names))]
     assert denied == [line] and cache.delay(site, names) == delay
-    assert cache.decide(site, "http://a.example/x", names) and cache.size == site.memory + site.rules.size
+    assert cache.verdict(site, "http://a.example/x", names) and cache.memory == site.memory + site.rules.memory
 
 
 @pytest.mark.parametrize("names", [[], None, [1], b"x"])
 def test_names_that_are_none(cache, names):
     site, _ = fetched(cache, A, file(NAMES))
     with pytest.raises(TypeError):
-        cache.decide(site, "http://a.example/x", names)
+        cache.verdict(site, "http://a.example/x", names)
 
 
 def test_when_the_next_request_may_go(caches, cache):

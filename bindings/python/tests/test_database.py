@@ -30,9 +30,9 @@ def test_a_database_keeps_what_a_server_answered(caches, path):
     cache.close()
     caches.now += 600
     cache = caches(database=path)
-    states = {look.address[7]: look.site.state for look in map(cache.look, ("http://a.example", "http://b.example", "http://c.example"))}
+    states = {look.robots_url[7]: look.site.state for look in map(cache.look, ("http://a.example", "http://b.example", "http://c.example"))}
     assert states == {"a": State.FILE, "b": State.NO_FILE, "c": State.UNREACHABLE} and cache.look("http://d.example")[0] is Action.FETCH
-    assert cache.decide(cache.look(A).site, "http://a.example/private/", "x") == (False, 2, "")
+    assert cache.verdict(cache.look(A).site, "http://a.example/private/", "x") == (False, 2, "")
     assert caches.sitemaps == [(A, ["/s.xml"])] * 2 and caches.events["read"] == 4
     caches.now += 23 * HOUR
     assert cache.look(A).fetch.headers["If-None-Match"] == '"1"'
@@ -262,5 +262,5 @@ def test_with_a_database_nothing_is_fetched_again(caches, path):
     cache = caches(database=path, budget=20_000)
     for number in range(100):
         fetched(cache, f"http://{number}.example", file())
-    assert len(cache) <= 20_000 // 700 and cache.size <= 20_000
+    assert len(cache) <= 20_000 // 700 and cache.memory <= 20_000
     assert {cache.look(f"http://{number}.example")[0] for number in range(100)} == {Action.USE}

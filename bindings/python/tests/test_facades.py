@@ -124,7 +124,7 @@ def test_a_rule_that_is_too_long_denies_everything(parse):
     parser = parse(LONG_RULE)
     assert not fetchable(parser, "/", FERRIS) and fetchable(parser, "/", "OtherBot")
     with pytest.raises(OverlongRuleError):
-        parser.robots.verdict("/", "FerrisBot")
+        parser.site.verdict("/", "FerrisBot")
 
 
 @pytest.mark.parametrize("agent, url", [("https://example.com/a", "FerrisBot"), ("/a", "FerrisBot"), (" http://a", "/")])
@@ -143,7 +143,7 @@ def test_arguments_of_another_type(parse, agent, url, error):
 def test_copies(parse, again):
     parser = parse(FILE)
     assert parser.request_rate("SlowBot") and fetchable(again(parser), "/a", FERRIS) and not fetchable(again(parser), "/a", "SlowBot")
-    assert again(parser).robots.verdict("/private/", "FerrisBot") == Verdict(False, 2) and again(parser).request_rate("SlowBot")[:2] == (1, 30)
+    assert again(parser).site.verdict("/private/", "FerrisBot") == Verdict(False, 2) and again(parser).request_rate("SlowBot")[:2] == (1, 30)
 
 
 def test_any_number_of_crawlers(parse):
@@ -218,7 +218,7 @@ def test_protego():
     assert (next(sitemaps), *sitemaps) == ("https://example.com/one.xml", "https://example.com/two.xml")
     assert parser.preferred_host == "www.example.com"
     assert parser.visit_time(FERRIS) == (datetime.time(6), datetime.time(8, 45)) and parser.visit_time("SlowBot") is None
-    assert parser.robots.verdict("/a", "SlowBot") == Verdict(False, 10)
+    assert parser.site.verdict("/a", "SlowBot") == Verdict(False, 10)
     for empty in [Protego(), Protego.parse(""), Protego.parse("Host:\n# Host: a\nlocalhost: a")]:
         assert empty.can_fetch("/", FERRIS) and list(empty.sitemaps) == []
         assert [empty.preferred_host, empty.crawl_delay(FERRIS), empty.request_rate(FERRIS), empty.visit_time(FERRIS)] == [None] * 4
@@ -418,9 +418,9 @@ def test_a_name_with_a_version(parse):
     again = pickle.loads(pickle.dumps(parser))
     assert not fetchable(again, "/a", FERRIS) and fetchable(again, "/a", "FerrisBot")
     with pytest.raises(AgentError):
-        parser.robots.allowed("/a", "FerrisBot/1.0")
+        parser.site.allowed("/a", "FerrisBot/1.0")
     with pytest.raises(AgentError):
-        parser.robots.delay("FerrisBot/1.0")
+        parser.site.delay("FerrisBot/1.0")
 
 
 def test_a_file_in_a_folder(tmp_path):

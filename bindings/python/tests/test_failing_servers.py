@@ -26,7 +26,7 @@ from texting_robots.cache import Action, Look, RobotsCache, State
 def test_when_a_server_that_fails_is_asked_again(caches, cache, seconds, fields):
     site, _ = fetched(cache, A, (503, fields, b""))
     assert (site.state, site.refresh) == (State.UNREACHABLE, caches.now + seconds)
-    assert cache.decide(site, "http://a.example/", "x") == (False, None, "unreachable") and cache.decide(site, A, "x").allowed
+    assert cache.verdict(site, "http://a.example/", "x") == (False, None, "unreachable") and cache.verdict(site, A, "x").allowed
     caches.now += seconds - 0.5
     assert cache.look(A) == Look(Action.USE, A, site)
     caches.now += 0.5
@@ -80,7 +80,7 @@ def test_a_request_without_an_answer_counts_as_failed(caches, cache):
     caches.now += 299
     assert cache.look(HTTPS).site.state is cache.look(HTTP).site.state is State.UNREACHABLE
     assert cache.look(A)[0] is Action.FETCH and caches.events == {"unanswered": 2}
-    assert caches(answer_within=7).look(A).fetch and cache.size == 2 * 740 + 740 + 610
+    assert caches(answer_within=7).look(A).fetch and cache.memory == 2 * 740 + 740 + 610
 
 
 @pytest.mark.parametrize("set_back", [0, HOUR])

@@ -14,7 +14,7 @@ from scrapy.settings import Settings  # noqa: E402
 from twisted.internet.defer import Deferred, ensureDeferred  # noqa: E402
 
 from texting_robots import middleware  # noqa: E402
-from texting_robots.cache import Site, State  # noqa: E402
+from texting_robots.cache import KnownSite, State  # noqa: E402
 from texting_robots.scrapy import RobotsAddon  # noqa: E402
 
 
@@ -66,7 +66,7 @@ def test_figures(caplog):
         " files that are being fetched: 1"
     ]
     crawler.engine.answer = file()
-    robots._figures.known([Site("http://a.example/robots.txt", State.FILE, 1, 1)])
+    robots._figures.known([KnownSite("http://a.example/robots.txt", State.FILE, 1, 1)])
     robots._figures.write()
     assert figures()[2] == 1
 

@@ -269,7 +269,7 @@ def test_stats(caplog):
         assert not allowed(robots, f"http://{host}.example/")
     names = {"forbidden": 1, "unreachable": 4, "request_count": 5, "response_count": 2, "response_status_count/200": 1, "response_status_count/503": 1}
     names |= {"exception_count/<class 'OSError'>": 1, "exception_count/<class 'MemoryError'>": 1}
-    names |= {"sites_max": 5, "bytes_max": robots._cache.size}
+    names |= {"sites_max": 5, "memory_max": robots._cache.memory}
     assert {name: count for name, count in crawler.stats.get_stats().items() if name.startswith("robotstxt/")} == {f"robotstxt/{name}": count for name, count in names.items()}
     messages = [f"http://{host}.example/robots.txt can't be fetched: " for host in "bcde"]
     assert [record.getMessage() for record in caplog.records if record.name == middleware.__name__ and record.levelname != "DEBUG"] == [

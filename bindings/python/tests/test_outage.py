@@ -132,7 +132,7 @@ def test_what_can_not_wait_says_when_to_come_again():
     for request in [Request("http://a.example/"), Request("http://a.example/x", NO_CALLBACK)]:
         (error,) = outcome(robots, request)
         assert isinstance(error, Unreachable) and isinstance(error, IgnoreRequest)
-        assert error.address == "http://a.example/robots.txt" and 4.9 < error.seconds <= 5.5
+        assert error.robots_url == "http://a.example/robots.txt" and 4.9 < error.seconds <= 5.5
         assert str(error) == f"http://a.example/robots.txt can't be fetched: it is asked for again in {error.seconds:.0f} seconds"
     assert crawler.stats.get_value("robotstxt/unreachable") == 2 and crawler.stats.get_value("robotstxt/parked") is None
 
@@ -141,7 +141,7 @@ def test_an_exception_names_the_line_and_the_address():
     robots, crawler = ours(file(RULES + b"Disallow: /a/*" + b"a" * 5000 + b"$\n", ETag="1"))
     crawler.engine.answer = file(RULES)
     (error,) = outcome(robots, Request("http://a.example/private/"))
-    assert isinstance(error, Forbidden) and (error.line, error.address) == (2, "http://a.example/robots.txt")
+    assert isinstance(error, Forbidden) and (error.line, error.robots_url) == (2, "http://a.example/robots.txt")
     assert str(error) == "Forbidden by robots.txt: line 2 of http://a.example/robots.txt"
 
 

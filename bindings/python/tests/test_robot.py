@@ -13,7 +13,7 @@ import package
 import pytest
 from library import random_case
 
-from texting_robots import AgentError, OverlongRuleError, Robot, Robots, TooCostlyError, Verdict, _robot
+from texting_robots import AgentError, OverlongRuleError, Robot, Site, TooCostlyError, Verdict, _robot
 
 SHOP = b"User-agent: *\nDisallow: /search # \xff\nAllow: /search/help\nCrawl-delay: 2.5\nSitemap: /s.xml\n"
 URLS = ["/search", "/search/help", "https://example.com/s\u00e9arch", ""]
@@ -24,7 +24,7 @@ def test_a_robot_says_what_the_file_says_to_its_crawler():
     chance = random.Random(11)
     for _ in range(300):
         agent, file, urls = random_case(chance)
-        robot, robots = Robot(file, agent), Robots(file)
+        robot, robots = Robot(file, agent), Site(file)
         assert [robot.verdict(url) for url in urls] == robot.verdicts(urls) == robots.verdicts(urls, agent)
         assert [robot.allowed(url) for url in urls] == [robots.allowed(url, agent) for url in urls]
         assert (robot.delay, robot.delay_microseconds) == (robots.delay(agent), robots.delay_microseconds(agent))
@@ -35,10 +35,10 @@ def test_a_robot_says_what_the_file_says_to_its_crawler():
 
 def test_a_robots_of_one_agent_takes_the_memory_of_a_robot_and_of_the_file():
     file = b"User-agent: *\nCrawl-delay: 1\nSitemap:/\n" + b"".join(b"Disallow: /account/archives/%d\n" % n for n in range(10, 40))
-    robots, robot = Robots(file), Robot(file, "FerrisBot")
+    robots, robot = Site(file), Robot(file, "FerrisBot")
     assert robots.allowed("/", "FerrisBot") and robots.delay("FerrisBot") == robot.delay == 1 and robots.sitemaps == ["/"]
-    assert robots.size == len(file) + robot.size < 3700 and len(file) == 969
-    assert robots.allowed("/", "x") and robots.size > 2 * len(file) + robot.size
+    assert robots.memory == len(file) + robot.memory < 3700 and len(file) == 969
+    assert robots.allowed("/", "x") and robots.memory > 2 * len(file) + robot.memory
 
 
 def test_its_errors(monkeypatch):
@@ -58,7 +58,7 @@ def test_its_errors(monkeypatch):
         Robot(SHOP, "x").verdict_within("/search/help", 1)
     with pytest.raises(TypeError):
         pickle.dumps(Robot(SHOP, "x"))
-    monkeypatch.setattr(_robot, "_query", lambda *_: _robot.lib.NO_RESULT - _robot.lib.ROBOTS_OUT_OF_MEMORY)
+    monkeypatch.setattr(_robot, "_verdict", lambda *_: _robot.lib.NO_VERDICT - _robot.lib.ROBOTS_OUT_OF_MEMORY)
     with pytest.raises(MemoryError):
         Robot(SHOP, "x").allowed("/")
 
@@ -79,43 +79,43 @@ def column(urls):
 def test_a_column_in_buffers():
     robot, (text, ends) = Robot(SHOP, "x"), column(URLS)
     for kind in "qQlL":
-        results = array("q", [7] * 5)
-        robot.decide(text, results, array(kind, ends))
-        assert results.tolist() == [*NUMBERS, 7]
-    robot.decide(bytearray(text), memoryview(results)[1:], array("q", ends[:2]))
-    assert results.tolist() == [-2, -2, 3, 0, 7]
-    robot.decide(b"", results, array("q"))
+        verdicts = array("q", [7] * 5)
+        robot.verdicts_batch(text, verdicts, array(kind, ends))
+        assert verdicts.tolist() == [*NUMBERS, 7]
+    robot.verdicts_batch(bytearray(text), memoryview(verdicts)[1:], array("q", ends[:2]))
+    assert verdicts.tolist() == [-2, -2, 3, 0, 7]
+    robot.verdicts_batch(b"", verdicts, array("q"))
 
 
 @pytest.mark.parametrize(
-    "text, results, ends, error",
+    "text, verdicts, ends, error",
     [
-        (b"/a", array("q", [0]), array("q", [1, 2]), "results has less room"),
+        (b"/a", array("q", [0]), array("q", [1, 2]), "verdicts has less room"),
         (b"/a", array("q", [0, 0]), array("q", [2, 1]), "the ends decrease"),
         (b"/a", array("q", [0]), array("q", [-1]), "the ends decrease"),
         (b"/\xff", array("q", [0]), array("q", [2]), "a URL isn't UTF-8"),
-        (b"/a", array("i", [0]), array("q", [2]), "results has the type array"),
-        (b"/a", bytes(8), array("q", [2]), "results has the type bytes"),
-        (b"/a", memoryview(array("q", [0, 0, 0]))[::2], array("q", [2]), "results has the type memoryview"),
-        (b"/a", memoryview(bytes(8)).cast("q"), array("q", [2]), "results has the type memoryview"),
+        (b"/a", array("i", [0]), array("q", [2]), "verdicts has the type array"),
+        (b"/a", bytes(8), array("q", [2]), "verdicts has the type bytes"),
+        (b"/a", memoryview(array("q", [0, 0, 0]))[::2], array("q", [2]), "verdicts has the type memoryview"),
+        (b"/a", memoryview(bytes(8)).cast("q"), array("q", [2]), "verdicts has the type memoryview"),
         (b"/a", array("q", [0]), array("d", [2]), "ends has the type array"),
         (b"/a", array("q", [0]), [2], "ends has the type list"),
         ("/a", array("q", [0]), array("q", [2]), "urls has the type str"),
         (["/a"], array("q", [0]), None, "urls has the type list"),
     ],
 )
-def test_what_is_no_column(text, results, ends, error):
+def test_what_is_no_column(text, verdicts, ends, error):
     with pytest.raises((TypeError, ValueError), match=f"^{error}"):
-        Robot(SHOP, "x").decide(text, results, ends)
-    assert not any(bytes(memoryview(results).cast("B") if memoryview(results).c_contiguous else b""))
+        Robot(SHOP, "x").verdicts_batch(text, verdicts, ends)
+    assert not any(bytes(memoryview(verdicts).cast("B") if memoryview(verdicts).c_contiguous else b""))
 
 
 def test_a_column_of_numpy():
     numpy = pytest.importorskip("numpy")
     robot, (text, ends) = Robot(SHOP, "x"), column(URLS)
-    results = numpy.full(4, 7)
-    robot.decide(numpy.frombuffer(text, dtype=numpy.uint8), results, numpy.array(ends))
-    assert results.tolist() == NUMBERS and (results < 0).sum() == 1
+    verdicts = numpy.full(4, 7)
+    robot.verdicts_batch(numpy.frombuffer(text, dtype=numpy.uint8), verdicts, numpy.array(ends))
+    assert verdicts.tolist() == NUMBERS and (verdicts < 0).sum() == 1
 
 
 class Schema(ctypes.Structure):
@@ -146,21 +146,21 @@ class Arrow:
 @pytest.mark.parametrize("kind", [b"u", b"U"])
 @pytest.mark.parametrize("before", [[], ["/search", "/a"]], ids=["whole", "sliced"])
 def test_a_column_of_arrow(kind, before):
-    results = array("q", [7] * 5)
-    Robot(SHOP, "x").decide(Arrow(URLS, kind, before), results)
-    assert results.tolist() == [*NUMBERS, 7]
-    Robot(SHOP, "x").decide(Arrow([], kind, before), results)
-    assert results.tolist() == [*NUMBERS, 7]
+    verdicts = array("q", [7] * 5)
+    Robot(SHOP, "x").verdicts_batch(Arrow(URLS, kind, before), verdicts)
+    assert verdicts.tolist() == [*NUMBERS, 7]
+    Robot(SHOP, "x").verdicts_batch(Arrow([], kind, before), verdicts)
+    assert verdicts.tolist() == [*NUMBERS, 7]
 
 
 def test_other_columns_of_arrow():
-    results = array("q", [7])
+    verdicts = array("q", [7])
     for wrong in (Arrow(["/a"], b"l"), Arrow(["/a"], nulls=1), Arrow(["/a"], nulls=-1)):
         with pytest.raises(TypeError, match="^urls has the type Arrow: it has to be an array of strings of Arrow without nulls"):
-            Robot(SHOP, "x").decide(wrong, results)
-    with pytest.raises(ValueError, match="^results has less room"):
-        Robot(SHOP, "x").decide(Arrow(["/a", "/b"]), results)
-    assert results.tolist() == [7]
+            Robot(SHOP, "x").verdicts_batch(wrong, verdicts)
+    with pytest.raises(ValueError, match="^verdicts has less room"):
+        Robot(SHOP, "x").verdicts_batch(Arrow(["/a", "/b"]), verdicts)
+    assert verdicts.tolist() == [7]
 
 
 # ---- forks
@@ -168,7 +168,7 @@ def test_other_columns_of_arrow():
 
 def test_children_of_a_fork_use_what_a_thread_is_using():
     """None hangs, of twenty that are made while a thread is in a call."""
-    robots = Robots(b"User-agent: *\n" + b"".join(b"Disallow: /*%d*x*y*z$\n" % n for n in range(20000)))
+    robots = Site(b"User-agent: *\n" + b"".join(b"Disallow: /*%d*x*y*z$\n" % n for n in range(20000)))
     stop = threading.Event()
 
     def work():

@@ -103,7 +103,7 @@ def test_without_memory_nothing_is_fetched(crawls):
     assert "MemoryError" not in log
 
 
-@pytest.mark.parametrize("call", ["parse", "decide"])
+@pytest.mark.parametrize("call", ["parse", "ask"])
 def test_each_allocation_of_the_parser_fails(call):
     """From the first, from the second, and so on: then the parser denies."""
     pytest.importorskip("_testcapi")

@@ -38,12 +38,12 @@ static void check(const char *name, int holds) {
 
 static void *use(void *given) {
     struct site *site = given;
-    int64_t results[2];
+    int64_t verdicts[2];
     size_t right = 0;
     for (int i = 0; i < 200; i++) {
         struct robot *one = robot_open(site, "one", 3), *own = robot_open(site, "own", 3);
-        right += robot_query(one, "/a", 2) == -2 && robot_query(own, "/a", 2) == 0 && robot_bytes(one) == 0 && robot_bytes(own) > 0
-            && site_bytes(site) > 0 && site_matrix(site, "x", 1, "/a", 2, results, 2) == ROBOTS_OK && results[0] == -2;
+        right += robot_verdict(one, "/a", 2) == -2 && robot_verdict(own, "/a", 2) == 0 && robot_memory(one) == 0 && robot_memory(own) > 0
+            && site_memory(site) > 0 && site_matrix(site, "x", 1, "/a", 2, verdicts, 2) == ROBOTS_OK && verdicts[0] == -2;
         robot_close(one);
         robot_close(own);
     }
@@ -68,7 +68,7 @@ static void share(void) {
 int main(void) {
     char file[5000] = "User-agent: *\nDisallow: /a\nCrawl-delay: 1\nSitemap: s\nUser-agent: Long\nDisallow: /$", text[9];
     memset(file + strlen(file), 'a', 4096);
-    int64_t results[2];
+    int64_t verdicts[2];
     uint64_t delay = 0;
     size_t length = 0, ends[2] = {2, 4};
     struct site *site = site_open(file, strlen(file));
@@ -79,31 +79,31 @@ int main(void) {
     robot_close(one);
     robot_close(two);
     one = robot_open(site, "one", 3);
-    check("again", one == two && robot_query(one, "/a", 2) == -2);
-    check("many", robot_query_many(one, "/a\n/b", 5, results, 2) == ROBOTS_OK && results[0] == -2 && results[1] == 0);
-    check("a batch", robot_query_batch(one, "/b/a", 4, ends, 2, results) == ROBOTS_OK && results[0] == 0 && results[1] == -2);
+    check("again", one == two && robot_verdict(one, "/a", 2) == -2);
+    check("many", robot_verdicts(one, "/a\n/b", 5, verdicts, 2) == ROBOTS_OK && verdicts[0] == -2 && verdicts[1] == 0);
+    check("a batch", robot_verdicts_batch(one, "/b/a", 4, ends, 2, verdicts) == ROBOTS_OK && verdicts[0] == 0 && verdicts[1] == -2);
     check("the delay of a robot", robot_delay(one, &delay) == ROBOTS_OK && delay == 1000000);
     struct robot *own = robot_open(site, "long", 4);
     check("a rule that is too long", own != one && robot_overlong_line(own) == 6);
-    check("no query", robot_query(own, "/a", 2) == NO_RESULT - ROBOTS_OVERLONG_RULE);
-    check("no queries", robot_query_many(own, "/a", 2, results, 2) == ROBOTS_OVERLONG_RULE);
-    check("what isn't UTF-8", robot_query(one, "\xFF", 1) == NO_RESULT - ROBOTS_NOT_UTF8);
-    check("a matrix", site_matrix(site, "x", 1, "/a", 2, results, 2) == ROBOTS_OK && results[0] == -2);
+    check("no verdict", robot_verdict(own, "/a", 2) == NO_VERDICT - ROBOTS_OVERLONG_RULE);
+    check("no verdicts", robot_verdicts(own, "/a", 2, verdicts, 2) == ROBOTS_OVERLONG_RULE);
+    check("what isn't UTF-8", robot_verdict(one, "\xFF", 1) == NO_VERDICT - ROBOTS_NOT_UTF8);
+    check("a matrix", site_matrix(site, "x", 1, "/a", 2, verdicts, 2) == ROBOTS_OK && verdicts[0] == -2);
     check("a delay", site_delay(site, "x", 1, &delay) == ROBOTS_OK && delay == 1000000);
     check("sitemaps", site_sitemaps(site, text, 9, &length) == ROBOTS_OK && length == 2);
     check("agents", site_agents(site, text, 9, &length) == ROBOTS_OK && length == 7);
     check("named", site_is_named(site, "LONG", 4) == 1);
     check("not named", site_is_named(site, "Lon", 3) == 0);
     site_close(site);
-    check("without the site", robot_query(one, "/a", 2) == -2);
+    check("without the site", robot_verdict(one, "/a", 2) == -2);
     robot_close(one);
     robot_close(own);
     one = robot_of_file(file, strlen(file), "one", 3);
     own = robot_of_file(file, strlen(file), "long", 4);
-    check("robots of a file", robot_query(one, "/a", 2) == -2 && robot_bytes(one) > 0 && robot_overlong_line(own) == 6);
+    check("robots of a file", robot_verdict(one, "/a", 2) == -2 && robot_memory(one) > 0 && robot_overlong_line(own) == 6);
     robot_close(one);
     robot_close(own);
-    check("a file that isn't kept", file_matrix("x", 1, file, strlen(file), "/a", 2, results, 2) == ROBOTS_OK && results[0] == -2);
+    check("a file that isn't kept", file_matrix("x", 1, file, strlen(file), "/a", 2, verdicts, 2) == ROBOTS_OK && verdicts[0] == -2);
     site = contended = site_open("", 0);
     robot_close(robot_open(site, "one", 3));
     check("two threads at once", contended == NULL);

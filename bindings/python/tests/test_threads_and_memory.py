@@ -1,4 +1,4 @@
-"""Robots shared by threads, signal handlers that use them, and memory: flat, or a MemoryError."""
+"""Sites shared by threads, signal handlers that use them, and memory: flat, or a MemoryError."""
 
 import gc
 import os
@@ -12,7 +12,7 @@ from concurrent.futures import ThreadPoolExecutor
 import package
 import pytest
 
-from texting_robots import Matrix, OverlongRuleError, Robots
+from texting_robots import Matrix, OverlongRuleError, Site
 
 pytestmark = pytest.mark.alone
 
@@ -24,8 +24,8 @@ SMALL = b"User-agent: *\nDisallow: /search\nUser-agent: BobBot\nDisallow: /bob\n
 
 
 def test_eight_threads_share_one_robots():
-    expected = {agent: [Robots(LARGE).verdict(url, agent) for url in URLS] for agent in AGENTS}
-    robots, matrix, start = Robots(LARGE), Matrix(URLS, AGENTS), threading.Barrier(8)
+    expected = {agent: [Site(LARGE).verdict(url, agent) for url in URLS] for agent in AGENTS}
+    robots, matrix, start = Site(LARGE), Matrix(URLS, AGENTS), threading.Barrier(8)
     denied = [(agent, url, it.line) for agent in AGENTS for url, it in zip(URLS, expected[agent]) if not it]
 
     def wrong(seed):
@@ -49,7 +49,7 @@ def test_many_threads_make_the_same_robot_first():
     """Agents that no line names share one in the library, whichever thread is first."""
     with ThreadPoolExecutor(8) as pool:
         for turn in range(300):
-            robots, start = Robots(SMALL), threading.Barrier(8)
+            robots, start = Site(SMALL), threading.Barrier(8)
 
             def first(thread):
                 start.wait()
@@ -60,7 +60,7 @@ def test_many_threads_make_the_same_robot_first():
 
 def test_robots_may_be_dropped_on_any_thread():
     with ThreadPoolExecutor(8) as pool:
-        made = [Robots(LARGE) for _ in range(2000)]
+        made = [Site(LARGE) for _ in range(2000)]
         results = [pool.submit(lambda robots: robots.allowed("/shop/1/help", "FerrisBot"), made.pop()) for _ in range(len(made))]
         assert {result.result() for result in results} == {True}
 
@@ -70,7 +70,7 @@ def test_one_that_is_collected_in_a_cycle():
         pass
 
     holder = Holder()
-    holder.itself, holder.robots = holder, Robots(SMALL)
+    holder.itself, holder.robots = holder, Site(SMALL)
     assert not holder.robots.allowed("/search", "FerrisBot")
     gone = weakref.ref(holder.robots)
     del holder
@@ -83,7 +83,7 @@ def test_a_long_call_lets_other_threads_run():
 
     def parse():
         for _ in range(20):
-            Robots(b"a\n" * 250_000).allowed("/", "a")
+            Site(b"a\n" * 250_000).allowed("/", "a")
         done.set()
 
     thread = threading.Thread(target=parse)
@@ -96,7 +96,7 @@ def test_a_long_call_lets_other_threads_run():
 
 
 def test_a_signal_handler_may_use_what_it_interrupts():
-    robots, handled = Robots(LARGE), 0
+    robots, handled = Site(LARGE), 0
     expected = robots.verdicts(URLS, "BobBot")
 
     def handle(*_):
@@ -140,21 +140,21 @@ def grown(run, warm_up, times):
 def test_a_hundred_thousand_robots_leave_nothing():
     def run(times):
         for _ in range(times):
-            robots = Robots(SMALL)
+            robots = Site(SMALL)
             assert robots.allowed("/bob", "FerrisBot") and not robots.allowed("/bob", "BobBot")
 
     assert grown(run, 5000, 100_000) < 1_000_000
 
 
 def test_results_and_errors_leave_nothing():
-    long = Robots(b"User-agent: *\nDisallow: /" + b"a" * 5000 + b"$\nSitemap: /" + b"b" * 3000)
+    long = Site(b"User-agent: *\nDisallow: /" + b"a" * 5000 + b"$\nSitemap: /" + b"b" * 3000)
 
     def run(times):
         for _ in range(times):
             with pytest.raises(OverlongRuleError):
                 long.allowed("/", "a")
             with pytest.raises(OverlongRuleError):
-                Robots(LARGE + b"Disallow: /" + b"a" * 5000 + b"$").verdicts(URLS, "Googlebot")
+                Site(LARGE + b"Disallow: /" + b"a" * 5000 + b"$").verdicts(URLS, "Googlebot")
             assert len(long.sitemaps[0]) == 3001 and long.matrix(["/"] * 10, AGENTS) == [[None] * 10] * 4
 
     assert grown(run, 300, 3000) < 1_000_000
@@ -162,11 +162,11 @@ def test_results_and_errors_leave_nothing():
 
 OUT_OF_MEMORY = """
 import resource, sys
-from texting_robots import Matrix, Robots
+from texting_robots import Matrix, Site
 
 body = sys.stdin.buffer.read()
 urls = ["/", "/shop/1/a?page=2"] * 50
-expected, matrix = Robots(body).verdicts(urls, "BobBot"), Matrix(urls, ["BobBot", "a"])
+expected, matrix = Site(body).verdicts(urls, "BobBot"), Matrix(urls, ["BobBot", "a"])
 denied = matrix.denials(body)
 size = int(open("/proc/self/statm").read().split()[0]) * resource.getpagesize()
 kept, errors = [], 0
@@ -174,7 +174,7 @@ resource.setrlimit(resource.RLIMIT_AS, (size + 48_000_000, resource.RLIM_INFINIT
 for turn in range(3):
     try:
         while True:
-            robots = Robots(body)
+            robots = Site(body)
             robots.allowed("/", "BobBot")
             kept.append(robots)
     except MemoryError:
@@ -188,7 +188,7 @@ for turn in range(3):
             errors += 1
     made = len(kept)
     del kept[:], robots
-    assert Robots(body).verdicts(urls, "BobBot") == expected and matrix.denials(body) == denied
+    assert Site(body).verdicts(urls, "BobBot") == expected and matrix.denials(body) == denied
 print(errors, made)
 """
 

@@ -146,13 +146,13 @@ from array import array
 from mmap import mmap
 from typing import Iterator, List, Mapping, Optional, Tuple, Type
 from urllib.robotparser import RequestRate, RobotFileParser
-from texting_robots import LIFETIME, REDIRECT_LIMIT, AgentError, Matrix, Meaning, OverlongRuleError, Robots, RobotsError, TooCostlyError, UrlError
-from texting_robots import Verdict, meaning, product_token, robots_url
+from texting_robots import LIFETIME, REDIRECT_LIMIT, AgentError, Matrix, Meaning, OverlongRuleError, Robots, RobotsError, Site, TooCostlyError
+from texting_robots import UrlError, Verdict, meaning, product_token, robots_url
 from texting_robots import protego, robotparser
 from texting_robots.aio import AsyncRobots, Response
-from texting_robots.cache import Decision, Fetch, RobotsCache, Site
+from texting_robots.cache import CacheVerdict, Decision, Fetch, KnownSite, RobotsCache
 
-class Own(Robots):
+class Own(Site):
     pass
 
 async def get(address: str, headers: Mapping[str, str]) -> Response:
@@ -160,24 +160,26 @@ async def get(address: str, headers: Mapping[str, str]) -> Response:
 
 async def may(url: str) -> float:
     with RobotsCache(database="x", after_30_days="no file", exempt=["a.example"]) as cache:
-        decision: Decision = await AsyncRobots(get, ["A", "B"], cache, patience=9).may(url)
+        verdict: CacheVerdict = await AsyncRobots(get, ["A", "B"], cache, patience=9).may(url)
         fetch: Optional[Fetch] = cache.look(url).fetch
-        if decision and fetch:
+        if verdict and fetch:
             known = {**cache.received(fetch, 200, [(b"ETag", b"1")], b"").known, **cache.failed(fetch, was_reached=False).known}
             return sum(cache.next_request(site, ("A", "B")) + site.failing_since for site in known.values())
-        return 0 if decision.line else 1
+        return 0 if verdict.line else 1
 
-robots: Robots = Robots(b"")
-allowed: bool = robots.allowed(robots_url("https://example.com/"), product_token("a/1"))
-verdicts: List[Verdict] = robots.verdicts(("/" for _ in range(2)), "a")
-rows: List[List[Optional[Verdict]]] = robots.matrix({"/"}, ["a"])
-delay: Optional[float] = robots.crawl_delay("a")
-line: Optional[int] = robots.verdict("/", "a").line
+site: Site = Site(b"")
+other: Robots = Robots(b"")
+false: Decision = CacheVerdict(False)
+allowed: bool = site.allowed(robots_url("https://example.com/"), product_token("a/1"))
+verdicts: List[Verdict] = site.verdicts(("/" for _ in range(2)), "a")
+rows: List[List[Optional[Verdict]]] = site.matrix({"/"}, ["a"])
+delay: Optional[float] = site.crawl_delay("a")
+line: Optional[int] = site.verdict("/", "a").line
 denied: List[Tuple[str, str, Optional[int]]] = Matrix({"/"}, ["a"]).denials(b"")
-names: List[str] = robots.sitemaps + robots.agents
+names: List[str] = site.sitemaps + site.agents
 own: Own = Own.parse("")
 named: bool = own.is_named("a")
-size: int = own.size
+memory: int = own.memory
 within: Verdict = own.verdict_within("/", "a", own.cost(1, "a"))
 meant: Meaning = meaning(None, redirects=REDIRECT_LIMIT, has_location=Own.deny_all().allowed("/", "a"))
 seconds: int = LIFETIME
@@ -190,5 +192,5 @@ protego_file: protego.Protego = protego.Protego.parse("")
 sitemaps: Iterator[str] = protego_file.sitemaps
 visit: Optional[protego.VisitTime] = protego_file.visit_time("a/1.0")
 errors: List[Type[RobotsError]] = [AgentError, OverlongRuleError, TooCostlyError, UrlError]
-Robots(bytearray()), Robots(memoryview(b"")), Robots.parse(mmap(-1, 1)), Matrix({"/"}, ["a"]).denials(array("b"))
+Site(bytearray()), Site(memoryview(b"")), Site.parse(mmap(-1, 1)), Matrix({"/"}, ["a"]).denials(array("b"))
 """

@@ -6,7 +6,7 @@ use std::io::{self, Read};
 use std::process::exit;
 use std::{env, error};
 
-use texting_robots_c::{robots_url, Error, Robot, FILE_LIMIT};
+use texting_robots_verified::{robots_url, Error, Robot, FILE_LIMIT};
 
 fn main() {
     match ask() {
@@ -29,7 +29,7 @@ fn ask() -> Result<bool, Box<dyn error::Error>> {
     if let Some(Ok(url)) = urls.first() {
         match robots_url(url) {
             Ok(address) => println!("robots {address}"),
-            Err(Error::NoAddress) => {}
+            Err(Error::NoRobotsUrl) => {}
             Err(error) => return Err(error.into()),
         }
     }
@@ -44,10 +44,10 @@ fn ask() -> Result<bool, Box<dyn error::Error>> {
     let mut denied = false;
     for url in urls {
         let url = url?;
-        let decision = robot.decision(&url)?;
-        let line = decision.line.map_or_else(|| "-".to_owned(), |line| line.to_string());
-        println!("{} {line} {url}", if decision.allowed { "allow" } else { "deny" });
-        denied |= !decision.allowed;
+        let verdict = robot.verdict(&url)?;
+        let line = verdict.line.map_or_else(|| "-".to_owned(), |line| line.to_string());
+        println!("{} {line} {url}", if verdict.allowed { "allow" } else { "deny" });
+        denied |= !verdict.allowed;
     }
     Ok(denied)
 }

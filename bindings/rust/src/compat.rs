@@ -1,7 +1,7 @@
 //! The calls of `texting_robots` 0.2.2 with its types, for code that moves from it:
 //!
 //! ```
-//! use texting_robots_c::compat::{get_robots_url, Robot};
+//! use texting_robots_verified::compat::{get_robots_url, Robot};
 //!
 //! let robot = Robot::new("FerrisBot", b"User-agent: *\nDisallow: /search\nCrawl-delay: 2.5\nSitemap: https://example.com/s.xml").unwrap();
 //! assert!(!robot.allowed("https://example.com/search"));

@@ -1,6 +1,6 @@
 use std::fmt;
 
-use texting_robots_c_sys as sys;
+use texting_robots_verified_sys as sys;
 
 /// Why a call has no result.
 #[derive(Debug, Clone, Copy, PartialEq, Eq)]
@@ -12,12 +12,12 @@ pub enum Error {
         /// The number of the first line with such a rule, counted from 1.
         line: usize,
     },
-    /// A query gave up, since it might have cost more than its budget.
+    /// A call gave up, since the verdict might have cost more than its budget.
     TooCostly,
     /// An allocation failed, or a URL, escaped, has 4 GiB or more.
     OutOfMemory,
     /// The text isn't a URL of http or https with a host, so it has no robots.txt file.
-    NoAddress,
+    NoRobotsUrl,
 }
 
 impl fmt::Display for Error {
@@ -26,9 +26,9 @@ impl fmt::Display for Error {
             Error::OverlongRule { line } => {
                 write!(f, "the rule in line {line} is too long: the file can't be used for this crawler")
             }
-            Error::TooCostly => f.write_str("the query is too costly for its budget"),
+            Error::TooCostly => f.write_str("the verdict is too costly for its budget"),
             Error::OutOfMemory => f.write_str("out of memory"),
-            Error::NoAddress => f.write_str("the URL has no robots.txt file"),
+            Error::NoRobotsUrl => f.write_str("the URL has no robots.txt file"),
         }
     }
 }
@@ -42,7 +42,7 @@ pub(crate) fn check(status: i32, line: usize) -> Result<(), Error> {
         sys::ROBOTS_OVERLONG_RULE => Err(Error::OverlongRule { line }),
         sys::ROBOTS_TOO_COSTLY => Err(Error::TooCostly),
         sys::ROBOTS_OUT_OF_MEMORY => Err(Error::OutOfMemory),
-        sys::ROBOTS_NO_ADDRESS => Err(Error::NoAddress),
+        sys::ROBOTS_NO_ROBOTS_URL => Err(Error::NoRobotsUrl),
         other => unreachable!("robots.h: status {other}"),
     }
 }

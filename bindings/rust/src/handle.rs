@@ -3,7 +3,7 @@
 use std::os::raw::c_char;
 use std::ptr::{self, NonNull};
 
-use texting_robots_c_sys as sys;
+use texting_robots_verified_sys as sys;
 
 use crate::error::{check, Error};
 
@@ -49,8 +49,8 @@ impl Site {
         Ok(Robot(Handle::new(robot)))
     }
 
-    /// The results for texts with a line feed between one item and the next.
-    pub(crate) fn matrix(&self, agents: &str, urls: &str, results: &mut [i64]) -> Result<(), Error> {
+    /// The verdicts for texts with a line feed between one item and the next.
+    pub(crate) fn matrix(&self, agents: &str, urls: &str, verdicts: &mut [i64]) -> Result<(), Error> {
         let status = unsafe {
             let (agents, agents_len, urls, urls_len) =
                 (agents.as_ptr().cast(), agents.len(), urls.as_ptr().cast(), urls.len());
@@ -60,8 +60,8 @@ impl Site {
                 agents_len,
                 urls,
                 urls_len,
-                results.as_mut_ptr(),
-                results.len(),
+                verdicts.as_mut_ptr(),
+                verdicts.len(),
             )
         };
         check(status, 0)
@@ -73,8 +73,8 @@ impl Site {
         (status == sys::ROBOTS_OK).then_some(delay)
     }
 
-    pub(crate) fn bytes(&self) -> usize {
-        unsafe { sys::robots_site_bytes(self.0.as_ptr()) }
+    pub(crate) fn memory(&self) -> usize {
+        unsafe { sys::robots_site_memory(self.0.as_ptr()) }
     }
 
     pub(crate) fn is_named(&self, agent: &str) -> bool {
@@ -101,32 +101,33 @@ impl Drop for Site {
 
 impl Robot {
     /// 0, the line that allows the URL, or minus the line that denies it.
-    pub(crate) fn query(&self, url: &str) -> Result<i64, Error> {
-        let mut result = 0;
-        check(unsafe { sys::robots_query(self.0.as_ptr(), url.as_ptr().cast(), url.len(), &mut result) }, 0)?;
-        Ok(result)
+    pub(crate) fn verdict(&self, url: &str) -> Result<i64, Error> {
+        let mut verdict = 0;
+        check(unsafe { sys::robots_verdict(self.0.as_ptr(), url.as_ptr().cast(), url.len(), &mut verdict) }, 0)?;
+        Ok(verdict)
     }
 
-    pub(crate) fn query_within(&self, url: &str, budget: u64) -> Result<i64, Error> {
-        let mut result = 0;
-        let status =
-            unsafe { sys::robots_query_within(self.0.as_ptr(), url.as_ptr().cast(), url.len(), budget, &mut result) };
+    pub(crate) fn verdict_within(&self, url: &str, budget: u64) -> Result<i64, Error> {
+        let mut verdict = 0;
+        let status = unsafe {
+            sys::robots_verdict_within(self.0.as_ptr(), url.as_ptr().cast(), url.len(), budget, &mut verdict)
+        };
         check(status, 0)?;
-        Ok(result)
+        Ok(verdict)
     }
 
     pub(crate) fn cost(&self, len: usize) -> u64 {
         unsafe { sys::robots_cost(self.0.as_ptr(), len) }
     }
 
-    pub(crate) fn bytes(&self) -> usize {
-        unsafe { sys::robots_bytes(self.0.as_ptr()) }
+    pub(crate) fn memory(&self) -> usize {
+        unsafe { sys::robots_memory(self.0.as_ptr()) }
     }
 
     /// In microseconds.
     pub(crate) fn delay(&self) -> Option<u64> {
         let mut delay = 0;
-        (unsafe { sys::robots_query_delay(self.0.as_ptr(), &mut delay) } == sys::ROBOTS_OK).then_some(delay)
+        (unsafe { sys::robots_delay(self.0.as_ptr(), &mut delay) } == sys::ROBOTS_OK).then_some(delay)
     }
 }
 
@@ -141,8 +142,8 @@ pub(crate) fn meaning(status: u32, redirects: u32, has_location: bool, is_comple
     unsafe { sys::robots_response_meaning(status, redirects, has_location, is_complete) }
 }
 
-pub(crate) fn address(url: &str) -> Result<String, Error> {
-    written(256, |out, room, len| unsafe { sys::robots_address(url.as_ptr().cast(), url.len(), out, room, len) })
+pub(crate) fn robots_url(url: &str) -> Result<String, Error> {
+    written(256, |out, room, len| unsafe { sys::robots_url(url.as_ptr().cast(), url.len(), out, room, len) })
 }
 
 /// What a call writes into a buffer with this room, which grows to the length that the call then needs.

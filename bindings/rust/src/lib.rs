@@ -17,11 +17,11 @@ pub use robots_url as get_robots_url;
 
 /// How many bytes of a file count: no more need be fetched. For a lower limit, pass a shorter slice. There is no higher one, since it is a
 /// constant of the C library.
-pub const FILE_LIMIT: usize = texting_robots_c_sys::ROBOTS_FILE_LIMIT;
+pub const FILE_LIMIT: usize = texting_robots_verified_sys::ROBOTS_FILE_LIMIT;
 
 /// Whether a crawler may fetch a URL, and the line of the file that decides.
 #[derive(Debug, Clone, Copy, PartialEq, Eq, Hash)]
-pub struct Decision {
+pub struct Verdict {
     /// Whether the crawler may fetch it.
     pub allowed: bool,
     /// The number of the deciding line, counted from 1 among all lines of the file. It is `None` if no rule matches, and for
@@ -29,10 +29,10 @@ pub struct Decision {
     pub line: Option<usize>,
 }
 
-impl Decision {
-    fn of(result: i64) -> Decision {
-        let line = result.unsigned_abs() as usize;
-        Decision { allowed: result >= 0, line: (line != 0).then_some(line) }
+impl Verdict {
+    fn of(number: i64) -> Verdict {
+        let line = number.unsigned_abs() as usize;
+        Verdict { allowed: number >= 0, line: (line != 0).then_some(line) }
     }
 }
 
@@ -66,9 +66,9 @@ impl Robot {
     }
 
     /// Whether the crawler may fetch this: an absolute URL or a path. Any other text, such as `example.com/a`, is compared with the rules
-    /// too, and usually allowed. If an allocation fails, it may not, and [`Robot::decision`] returns an error.
+    /// too, and usually allowed. If an allocation fails, it may not, and [`Robot::verdict`] returns an error.
     pub fn allowed(&self, url: &str) -> bool {
-        matches!(self.rules.query(url), Ok(result) if result >= 0)
+        matches!(self.rules.verdict(url), Ok(verdict) if verdict >= 0)
     }
 
     /// As [`Robot::allowed`], with the line that decides.
@@ -76,39 +76,39 @@ impl Robot {
     /// # Errors
     ///
     /// [`Error::OutOfMemory`].
-    pub fn decision(&self, url: &str) -> Result<Decision, Error> {
-        self.rules.query(url).map(Decision::of)
+    pub fn verdict(&self, url: &str) -> Result<Verdict, Error> {
+        self.rules.verdict(url).map(Verdict::of)
     }
 
-    /// As [`Robot::decision`], for a file that may be hostile. Each rule that is tried costs one, and each comparison of a byte of the URL
+    /// As [`Robot::verdict`], for a file that may be hostile. Each rule that is tried costs one, and each comparison of a byte of the URL
     /// one. Before a rule that might cost more than is left of the budget, it gives up.
     ///
     /// # Errors
     ///
     /// [`Error::TooCostly`] and [`Error::OutOfMemory`].
-    pub fn decision_within(&self, url: &str, budget: u64) -> Result<Decision, Error> {
-        self.rules.query_within(url, budget).map(Decision::of)
+    pub fn verdict_within(&self, url: &str, budget: u64) -> Result<Verdict, Error> {
+        self.rules.verdict_within(url, budget).map(Verdict::of)
     }
 
-    /// With so much as a budget, [`Robot::decision_within`] doesn't give up for any URL whose path, query and fragment, escaped, have this
+    /// With so much as a budget, [`Robot::verdict_within`] doesn't give up for any URL whose path, query and fragment, escaped, have this
     /// length. It is at most `u64::MAX`.
     pub fn cost(&self, len: usize) -> u64 {
         self.rules.cost(len)
     }
 
     /// How many bytes of memory it takes, without this value and [`Robot::sitemaps`].
-    pub fn bytes(&self) -> usize {
-        self.rules.bytes()
+    pub fn memory(&self) -> usize {
+        self.rules.memory()
     }
 
-    /// [`Robot::decision`] for each URL, in their order.
+    /// [`Robot::verdict`] for each URL, in their order.
     ///
     /// # Errors
     ///
     /// [`Error::OutOfMemory`].
-    pub fn decisions<U: AsRef<str>>(&self, urls: impl IntoIterator<Item = U>) -> Result<Vec<Decision>, Error> {
-        // robots_query_many wants one text with all URLs, which takes longer to make than a call for each takes
-        urls.into_iter().map(|url| self.decision(url.as_ref())).collect()
+    pub fn verdicts<U: AsRef<str>>(&self, urls: impl IntoIterator<Item = U>) -> Result<Vec<Verdict>, Error> {
+        // robots_verdicts wants one text with all URLs, which takes longer to make than a call for each takes
+        urls.into_iter().map(|url| self.verdict(url.as_ref())).collect()
     }
 }
 
@@ -154,7 +154,7 @@ impl Site {
     ///
     /// [`Error::OutOfMemory`].
     pub fn deny_all() -> Result<Site, Error> {
-        Site::new(texting_robots_c_sys::ROBOTS_DENY_ALL_FILE.as_bytes())
+        Site::new(texting_robots_verified_sys::ROBOTS_DENY_ALL_FILE.as_bytes())
     }
 
     /// What [`Robot::new`] returns for this file. The robot doesn't need the site any more.
@@ -166,7 +166,7 @@ impl Site {
         Ok(Robot::of(self.lines.robot(agent)?, self.sitemaps.clone()))
     }
 
-    /// A row for each crawler, and in it the decision for each URL, or `None`, which doesn't allow either, if the file can't be used for
+    /// A row for each crawler, and in it the verdict for each URL, or `None`, which doesn't allow either, if the file can't be used for
     /// the crawler ([`Error::OverlongRule`]). Crawlers that the file doesn't name cost little.
     ///
     /// # Errors
@@ -176,20 +176,20 @@ impl Site {
         &self,
         agents: &[impl AsRef<str>],
         urls: &[impl AsRef<str>],
-    ) -> Result<Vec<Vec<Option<Decision>>>, Error> {
+    ) -> Result<Vec<Vec<Option<Verdict>>>, Error> {
         let (agents_text, urls_text) = match (joined(agents), joined(urls)) {
             (Some(agents_text), Some(urls_text)) => (agents_text, urls_text),
             _ => return agents.iter().map(|agent| self.row(agent.as_ref(), urls)).collect(),
         };
-        let mut results = vec![0; agents.len() * urls.len()];
-        self.lines.matrix(&agents_text, &urls_text, &mut results)?;
-        let decision = |&result| (result != texting_robots_c_sys::ROBOTS_NO_RESULT).then(|| Decision::of(result));
-        Ok(results.chunks(urls.len()).map(|row| row.iter().map(decision).collect()).collect())
+        let mut numbers = vec![0; agents.len() * urls.len()];
+        self.lines.matrix(&agents_text, &urls_text, &mut numbers)?;
+        let verdict = |&number| (number != texting_robots_verified_sys::ROBOTS_NO_VERDICT).then(|| Verdict::of(number));
+        Ok(numbers.chunks(urls.len()).map(|row| row.iter().map(verdict).collect()).collect())
     }
 
-    fn row(&self, agent: &str, urls: &[impl AsRef<str>]) -> Result<Vec<Option<Decision>>, Error> {
+    fn row(&self, agent: &str, urls: &[impl AsRef<str>]) -> Result<Vec<Option<Verdict>>, Error> {
         match self.robot(agent) {
-            Ok(robot) => Ok(robot.decisions(urls)?.into_iter().map(Some).collect()),
+            Ok(robot) => Ok(robot.verdicts(urls)?.into_iter().map(Some).collect()),
             Err(Error::OverlongRule { .. }) => Ok(vec![None; urls.len()]),
             Err(error) => Err(error),
         }
@@ -210,8 +210,8 @@ impl Site {
     }
 
     /// How many bytes of memory it takes, without this value and [`Site::sitemaps`].
-    pub fn bytes(&self) -> usize {
-        self.lines.bytes()
+    pub fn memory(&self) -> usize {
+        self.lines.memory()
     }
 
     /// Whether a user-agent line names this crawler. All that none names have the same robot, so they can share it.
@@ -237,7 +237,7 @@ fn joined(texts: &[impl AsRef<str>]) -> Option<String> {
 ///
 /// # Errors
 ///
-/// [`Error::NoAddress`] for any other text, and [`Error::OutOfMemory`].
+/// [`Error::NoRobotsUrl`] for any other text, and [`Error::OutOfMemory`].
 pub fn robots_url(url: &str) -> Result<String, Error> {
-    handle::address(url)
+    handle::robots_url(url)
 }

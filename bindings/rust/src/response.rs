@@ -2,7 +2,7 @@
 
 use std::time::Duration;
 
-use texting_robots_c_sys as sys;
+use texting_robots_verified_sys as sys;
 
 use crate::handle;
 

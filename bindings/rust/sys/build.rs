@@ -73,10 +73,10 @@ fn run(command: &mut Command) {
 
 /// Says why nothing is linked: only linking fails then.
 fn warn(message: &str) {
-    println!("cargo:warning=texting_robots_c-sys: nothing can be linked: {message}");
+    println!("cargo:warning=texting_robots_verified-sys: nothing can be linked: {message}");
 }
 
 fn fail(message: &str) -> ! {
-    eprintln!("texting_robots_c-sys: {message}");
+    eprintln!("texting_robots_verified-sys: {message}");
     std::process::exit(1)
 }

@@ -3,10 +3,10 @@
 use std::sync::Arc;
 use std::time::Duration;
 
-use texting_robots_c::{
-    get_robots_url, robots_url, Decision, Error, Meaning, Response, Robot, Site, FILE_LIMIT, LIFETIME,
+use texting_robots_verified::{
+    get_robots_url, robots_url, Error, Meaning, Response, Robot, Site, Verdict, FILE_LIMIT, LIFETIME,
 };
-use texting_robots_c_sys as sys;
+use texting_robots_verified_sys as sys;
 
 const SHOP: &str = "\
 User-agent: *
@@ -21,14 +21,14 @@ Sitemap: https://example.com/one.xml
 Sitemap: https://example.com/zwölf.xml
 ";
 
-const ALLOWED: Decision = Decision { allowed: true, line: None };
+const ALLOWED: Verdict = Verdict { allowed: true, line: None };
 
-fn allowed(line: usize) -> Decision {
-    Decision { allowed: true, line: Some(line) }
+fn allowed(line: usize) -> Verdict {
+    Verdict { allowed: true, line: Some(line) }
 }
 
-fn denied(line: usize) -> Decision {
-    Decision { allowed: false, line: Some(line) }
+fn denied(line: usize) -> Verdict {
+    Verdict { allowed: false, line: Some(line) }
 }
 
 /// A file whose lines 2 and 5 are rules that are too long for every crawler but Other.
@@ -45,27 +45,27 @@ fn robot(agent: &str, file: impl AsRef<[u8]>) -> Robot {
 }
 
 #[test]
-fn decisions() {
+fn verdicts() {
     let ferris = robot("FerrisBot", SHOP);
-    assert_eq!(ferris.decision("https://example.com/search/tea"), Ok(denied(2)));
-    assert_eq!(ferris.decision("/search/help"), Ok(allowed(3)));
-    assert_eq!(ferris.decision("/"), Ok(ALLOWED));
-    assert_eq!(ferris.decision(""), Ok(ALLOWED));
-    assert_eq!(robot("SLOWBOT", SHOP).decision("/robots.txt"), Ok(ALLOWED));
-    assert_eq!(robot("SLOWBOT", SHOP).decision("/"), Ok(denied(7)));
+    assert_eq!(ferris.verdict("https://example.com/search/tea"), Ok(denied(2)));
+    assert_eq!(ferris.verdict("/search/help"), Ok(allowed(3)));
+    assert_eq!(ferris.verdict("/"), Ok(ALLOWED));
+    assert_eq!(ferris.verdict(""), Ok(ALLOWED));
+    assert_eq!(robot("SLOWBOT", SHOP).verdict("/robots.txt"), Ok(ALLOWED));
+    assert_eq!(robot("SLOWBOT", SHOP).verdict("/"), Ok(denied(7)));
     assert!(!ferris.allowed("/search") && ferris.allowed("/search/help") && robot("FerrisBot", "").allowed("/"));
 }
 
 #[test]
-fn decisions_within_a_budget() {
+fn verdicts_within_a_budget() {
     let ferris = robot("FerrisBot", SHOP);
     // the longer rule is tried first, and no byte is compared if it is longer than the URL's path
-    for (url, least, decision) in [("/search/tea", 9, denied(2)), ("/search/help", 13, allowed(3)), ("", 2, ALLOWED)] {
-        assert_eq!(ferris.decision_within(url, least), Ok(decision));
-        assert_eq!(ferris.decision_within(url, least - 1), Err(Error::TooCostly));
+    for (url, least, verdict) in [("/search/tea", 9, denied(2)), ("/search/help", 13, allowed(3)), ("", 2, ALLOWED)] {
+        assert_eq!(ferris.verdict_within(url, least), Ok(verdict));
+        assert_eq!(ferris.verdict_within(url, least - 1), Err(Error::TooCostly));
     }
     let private = robot("FerrisBot", "Disallow: /private");
-    assert_eq!([0, 1].map(|budget| private.decision_within("/", budget)), [Err(Error::TooCostly), Ok(ALLOWED)]);
+    assert_eq!([0, 1].map(|budget| private.verdict_within("/", budget)), [Err(Error::TooCostly), Ok(ALLOWED)]);
     assert_eq!([0, 6, 7, 12, usize::MAX].map(|len| ferris.cost(len)), [2, 2, 9, 21, 21]);
     assert_eq!(robot("FerrisBot", "Disallow: *\nDisallow: /*a").cost(usize::MAX), u64::MAX);
 }
@@ -76,10 +76,11 @@ fn bytes_of_memory() {
     // a rule takes 74 bytes, and the bytes of a file are kept once
     let (site, robot) = (Site::new(file.as_bytes()).unwrap(), robot("FerrisBot", &file));
     assert!(
-        (60 * 74..60 * 74 + 400).contains(&robot.bytes()) && robot.bytes() == site.robot("FerrisBot").unwrap().bytes()
+        (60 * 74..60 * 74 + 400).contains(&robot.memory())
+            && robot.memory() == site.robot("FerrisBot").unwrap().memory()
     );
     let comment = "#".repeat(1000);
-    assert_eq!(Site::new(comment.as_bytes()).unwrap().bytes(), Site::allow_all().unwrap().bytes() + 1000);
+    assert_eq!(Site::new(comment.as_bytes()).unwrap().memory(), Site::allow_all().unwrap().memory() + 1000);
 }
 
 #[test]
@@ -111,22 +112,22 @@ fn sitemaps_and_agents() {
 }
 
 #[test]
-fn decisions_for_many_urls() {
+fn verdicts_for_many_urls() {
     let ferris = robot("FerrisBot", SHOP);
     let urls: Vec<String> = (0..1000).map(|n| format!("https://example.com/search/{n}")).collect();
-    assert_eq!(ferris.decisions(&urls), Ok(vec![denied(2); 1000]));
-    assert_eq!(ferris.decisions(["/search/tea", "/search/help", "/"]), Ok(vec![denied(2), allowed(3), ALLOWED]));
-    assert_eq!(ferris.decisions("/search\n/search/help".lines()), Ok(vec![denied(2), allowed(3)]));
-    assert_eq!(ferris.decisions(["/search\n/", ""]), Ok(vec![denied(2), ALLOWED]));
-    assert_eq!(ferris.decisions(&[] as &[String]), Ok(vec![]));
+    assert_eq!(ferris.verdicts(&urls), Ok(vec![denied(2); 1000]));
+    assert_eq!(ferris.verdicts(["/search/tea", "/search/help", "/"]), Ok(vec![denied(2), allowed(3), ALLOWED]));
+    assert_eq!(ferris.verdicts("/search\n/search/help".lines()), Ok(vec![denied(2), allowed(3)]));
+    assert_eq!(ferris.verdicts(["/search\n/", ""]), Ok(vec![denied(2), ALLOWED]));
+    assert_eq!(ferris.verdicts(&[] as &[String]), Ok(vec![]));
 }
 
 #[test]
-fn a_site_has_the_decisions_of_its_robots() {
+fn a_site_has_the_verdicts_of_its_robots() {
     let site = Site::new(SHOP.as_bytes()).unwrap();
     for urls in [&["/search/tea", "/search/help", "", "/é"][..], &["/a\nb", "/search"], &["/"], &[]] {
         for agents in [&["FerrisBot", "SlowBot", "*", ""][..], &["a\nb", "SlowBot"], &[]] {
-            let row = |agent: &&str| urls.iter().map(|url| Some(robot(agent, SHOP).decision(url).unwrap())).collect();
+            let row = |agent: &&str| urls.iter().map(|url| Some(robot(agent, SHOP).verdict(url).unwrap())).collect();
             let rows: Vec<Vec<_>> = agents.iter().map(row).collect();
             assert_eq!(site.matrix(agents, urls), Ok(rows.clone()));
             let owned: Vec<String> = urls.iter().map(|url| url.to_string()).collect();
@@ -139,7 +140,7 @@ fn a_site_has_the_decisions_of_its_robots() {
     );
     let ferris = site.robot("FerrisBot").unwrap();
     drop(site);
-    assert_eq!(ferris.decision("/search"), Ok(denied(2)));
+    assert_eq!(ferris.verdict("/search"), Ok(denied(2)));
 }
 
 #[test]
@@ -156,13 +157,13 @@ fn a_rule_that_is_too_long() {
 }
 
 #[test]
-fn addresses() {
+fn robots_urls() {
     assert_eq!(
         robots_url("HTTPS://Bücher.example:443/ä?b#c").as_deref(),
         Ok("https://xn--bcher-kva.example/robots.txt")
     );
     for text in ["", "/a", "example.com/a", "mailto:a@example.com", "ftp://example.com/", "https://"] {
-        assert_eq!(robots_url(text), Err(Error::NoAddress), "{text}");
+        assert_eq!(robots_url(text), Err(Error::NoRobotsUrl), "{text}");
     }
     let long = format!("https://{}example", "a.".repeat(1000));
     assert_eq!(get_robots_url(&format!("{long}/b")), Ok(format!("{long}/robots.txt")));
@@ -176,11 +177,11 @@ fn any_bytes() {
         b"User-agent: a\nDisallow: /a\xFF\nDisallow: /a",
     ] {
         let line = file.split(|byte| b"\r\0\n".contains(byte)).position(|line| line == b"Disallow: /a").unwrap() + 1;
-        assert_eq!(robot("a", file).decision("https://example.com/a"), Ok(denied(line)));
+        assert_eq!(robot("a", file).verdict("https://example.com/a"), Ok(denied(line)));
     }
     let past_the_limit = [vec![b'#'; FILE_LIMIT], b"\nUser-agent: a\nDisallow: /\n".to_vec()].concat();
     assert!(robot("a", past_the_limit).allowed("/"));
-    assert_eq!(robot("é", "User-agent: é\nDisallow: /é").decision("https://example.com/%C3%A9"), Ok(denied(2)));
+    assert_eq!(robot("é", "User-agent: é\nDisallow: /é").verdict("https://example.com/%C3%A9"), Ok(denied(2)));
 }
 
 /// By RFC 9309, 2.3.1.
@@ -216,8 +217,8 @@ fn debug_and_errors_of_the_standard_library() {
         assert_eq!(format!("{robot:?} {site:?}"), shown);
     }
     let errors: [Box<dyn std::error::Error + Send + Sync>; 3] =
-        [Error::OutOfMemory.into(), Error::NoAddress.into(), Error::TooCostly.into()];
-    let texts = ["out of memory", "the URL has no robots.txt file", "the query is too costly for its budget"];
+        [Error::OutOfMemory.into(), Error::NoRobotsUrl.into(), Error::TooCostly.into()];
+    let texts = ["out of memory", "the URL has no robots.txt file", "the verdict is too costly for its budget"];
     assert_eq!(errors.map(|error| error.to_string()), texts);
 }
 

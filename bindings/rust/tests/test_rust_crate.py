@@ -93,7 +93,7 @@ def test_each_allocation_fails_in_turn(ask, tmp_path):
 def test_the_lines_of_the_readme_in_another_crate(installed, tmp_path):
     """Over the installed library, and under the former name of the crate, as when migrating."""
     (tmp_path / "src").mkdir()
-    lines = code(README, "rust")[0].replace("texting_robots_c", "texting_robots").replace("# Ok", "Ok")
+    lines = code(README, "rust")[0].replace("texting_robots_verified", "texting_robots").replace("# Ok", "Ok")
     (tmp_path / "src/main.rs").write_text(f"fn main() -> Result<(), texting_robots::Error> {{\n{lines}}}\n")
     named = re.search(r"`texting_robots = (\{ package.*?\})`", README)[1].replace('version = "1.0.0"', f'path = "{CRATE}"')
     (tmp_path / "Cargo.toml").write_text(f'[package]\nname = "caller"\nversion = "0.1.0"\nedition = "2021"\n[dependencies]\ntexting_robots = {named}\n')
@@ -112,7 +112,7 @@ def test_another_platform(build_script, arch, system, abi):
     """Nothing is linked, and a warning says so: the crate can be checked and documented."""
     target = {"CARGO_CFG_TARGET_ARCH": arch, "CARGO_CFG_TARGET_OS": system, "CARGO_CFG_TARGET_ENV": abi}
     message = f"there is no C library robots_c for {system} on {arch}, only for Linux with the GNU C library on x86_64 and aarch64"
-    for environment, said in [(target, [f"cargo:warning=texting_robots_c-sys: nothing can be linked: {message}"]), (target | {"DOCS_RS": "1"}, [])]:
+    for environment, said in [(target, [f"cargo:warning=texting_robots_verified-sys: nothing can be linked: {message}"]), (target | {"DOCS_RS": "1"}, [])]:
         ended = run(build_script, env=environment)
         assert (ended.status, ended.err) == (0, "") and "rustc-link" not in ended.out
         assert [line for line in ended.out.splitlines() if "rerun" not in line] == said
@@ -123,9 +123,9 @@ def test_documentation_without_the_c_library(tmp_path):
     copied = shutil.copytree(CRATE, tmp_path / "a/b/crate", ignore=shutil.ignore_patterns("target", "tests"))
     environment = {key: value for key, value in os.environ.items() if key != "ROBOTS_C"} | {"CARGO_TARGET_DIR": str(tmp_path / "target")}
     cargo("doc", "--no-deps", "--workspace", cwd=copied, env=environment | {"DOCS_RS": "1", "RUSTDOCFLAGS": "-D warnings"})
-    assert (tmp_path / "target/doc/texting_robots_c/struct.Robot.html").is_file()
+    assert (tmp_path / "target/doc/texting_robots_verified/struct.Robot.html").is_file()
     ended = subprocess.run(["cargo", "check", "--offline"], cwd=copied, env=environment, capture_output=True, text=True)
-    assert ended.returncode != 0 and "\n  texting_robots_c-sys: the C library isn't here: set ROBOTS_C" in ended.stderr
+    assert ended.returncode != 0 and "\n  texting_robots_verified-sys: the C library isn't here: set ROBOTS_C" in ended.stderr
 
 
 TYPES = {"int": "i32", "size_t": "usize", "int32_t": "i32", "uint32_t": "u32", "int64_t": "i64", "uint64_t": "u64", "char": "c_char", "void": "c_void"}

@@ -3,7 +3,7 @@
 use std::sync::atomic::{AtomicUsize, Ordering};
 use std::thread;
 
-use texting_robots_c::{Robot, Site};
+use texting_robots_verified::{Robot, Site};
 
 const FILE: &[u8] =
     b"User-agent: *\nDisallow: /a\nAllow: /a*b\nCrawl-delay: 3\nSitemap: s\nUser-agent: own\nDisallow: /o\n";

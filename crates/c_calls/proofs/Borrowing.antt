@@ -359,7 +359,7 @@ module _ {M : Type 1} {𝓤 : Ura M} (𝓛 : Logic 𝓤) (𝓜 : Model 𝓤 𝓛
         calls_at_once fn h.0 (fsep (flft κ q) T) lasts E (h.1 ∙ are_values h.0) (met b o) h.2)
 
 -- ---- What C opens can be lent to calls, and closed when they have ended: what `robots_open` ensures gives
--- what `robots_query` requires, and for what that ensures again there is what `robots_close` requires.
+-- what `robots_verdict` requires, and for what that ensures again there is what `robots_close` requires.
 
 -- the value is lent for a lifetime of which the caller has the whole token; for this token the caller gets
 -- back what can be closed
@@ -429,7 +429,7 @@ module _ {M : Type 1} {𝓤 : Ura M} (𝓛 : Logic 𝓤) where
   pub sites_lent_to_two_calls : LentToTwoCalls 𝓛 Sites
   sites_lent_to_two_calls = lent_twice Sites Site-laws.the_row_laws
 
--- and such a robot is one that the queries take
-pub queries_take_it : (agent file : List ℕ) (x : Robots.Denot) → IsRobotFor agent (bytes_read file) x
+-- and such a robot is one that the calls take
+pub calls_take_it : (agent file : List ℕ) (x : Robots.Denot) → IsRobotFor agent (bytes_read file) x
     → IsRobotOfSomeFile x
-queries_take_it agent file x is = (agent, file, is.1)
+calls_take_it agent file x is = (agent, file, is.1)

@@ -16,9 +16,9 @@ use Rattle.texting_robots.specs.declared.error.RobotError.TheVariants as rejecti
 use Rattle.texting_robots.proofs.Shared.{deciding_line_holds_its_rule, parsed_within, each_text_has_its_lines}
 use Rattle.texting_robots.proofs.Shared.{same_group_robot, no_line_allows, lines_satisfy, read_robot}
 use Rattle.texting_robots.proofs.Shared.{has_lines}
-use Rattle.c_calls.specs.{File.IsRobotOfSomeFile, File.IsSiteOfSomeFile, Status.IsWhyNoResult, Results.IsRow}
-use Rattle.c_calls.specs.Status.{IsWhyNoRobot, error_of}
-use Rattle.c_calls.specs.Results.{IsResultOn, LinesFit, number_of, HasResult, AreRows, items_in, no_result}
+use Rattle.c_calls.specs.{File.IsRobotOfSomeFile, File.IsSiteOfSomeFile, Verdicts.IsRow, Verdicts.LinesFit}
+use Rattle.c_calls.specs.Status.{IsWhyNoRobot, IsWhyNoVerdict, error_of}
+use Rattle.c_calls.specs.Verdicts.{IsVerdictOn, number_of, HasVerdict, AreRows, items_in, no_verdict}
 use Rattle.std.proofs.lemmas.List.Elements.{All-cons, All-head, All-tail}
 use Rattle.c_calls.specs.Batch.{Ascend, pieces}
 use Rattle.c_calls.specs.declared.error.Error.{Error, TheVariants.Memory, TheVariants.NotUtf8}
@@ -74,7 +74,7 @@ site_lines_fit site agent robot (file, is) of =
 
 line_says : (rules : List PlacedRule) (target : List ℕ) (allowed : Bool) (line : ℕ) → 0 < line
     → IsVerdict (unplaced rules) target allowed
-    → IsDecidingLine rules target (Some line) → IsResultOn rules target (number_of allowed (Some line))
+    → IsDecidingLine rules target (Some line) → IsVerdictOn rules target (number_of allowed (Some line))
 line_says rules target allowed zero some verdict decides = absurd (omega (arith, some))
 line_says rules target true (suc line) some verdict decides = record { verdict = verdict; deciding = decides }
 line_says rules target false (suc line) some verdict decides =
@@ -82,7 +82,7 @@ line_says rules target false (suc line) some verdict decides =
 
 pub number_says : (rules : List PlacedRule) (target : List ℕ) (allowed : Bool) (line : Option ℕ)
     → LinesFit rules → IsVerdict (unplaced rules) target allowed
-    → IsDecidingLine rules target line → IsResultOn rules target (number_of allowed line)
+    → IsDecidingLine rules target line → IsVerdictOn rules target (number_of allowed line)
 number_says rules target allowed None fit verdict decides =
     record { verdict = no_line_allows rules target decides; deciding = decides }
 number_says rules target allowed (Some line) fit verdict decides =
@@ -91,7 +91,7 @@ number_says rules target allowed (Some line) fit verdict decides =
 pub written_says : (rules : List PlacedRule) (target : List ℕ) (allowed : Bool) (line : Option ℕ)
     → LinesFit rules → IsVerdict (unplaced rules) target allowed → IsDecidingLine rules target line
     → (number : ℤ) → number ≡ number_of allowed line → SFits w64 number
-    → IsResultOn rules target (to_z w64 (of_z w64 number))
+    → IsVerdictOn rules target (to_z w64 (of_z w64 number))
 written_says rules target allowed line fit verdict decides number is fits =
     rw (to_z-of_z w64 number fits, is) (number_says rules target allowed line fit verdict decides)
 
@@ -124,40 +124,40 @@ pub not_utf8 : (text ends : List ℕ) (start end : ℕ) (left : List ℕ) → Sa
     → ¬ IsUtf8 (take (end - start) (drop start text)) → ¬ All IsUtf8 (pieces text 0 ends)
 not_utf8 text ends start end left same refused whole = refused (All-head IsUtf8 _ _ (same.these whole))
 
--- with the results for the URLs that are left, they are the results for all URLs
+-- with the verdicts for the URLs that are left, they are the verdicts for all URLs
 pub record SoFar (rules : List PlacedRule) (text ends : List ℕ) (start : ℕ) (left : List ℕ)
     (numbers : List ℤ) : Type 0 where
   pub ascend : Ascend start left (length text)
   pub utf8 : All IsUtf8 (pieces text start left)
-  pub results : (later : List ℤ) → AllZip (HasResult rules) (pieces text start left) later
-      → AllZip (HasResult rules) (pieces text 0 ends) (numbers ++ later)
+  pub verdicts : (later : List ℤ) → AllZip (HasVerdict rules) (pieces text start left) later
+      → AllZip (HasVerdict rules) (pieces text 0 ends) (numbers ++ later)
 
 pub one_more_end : (rules : List PlacedRule) (text ends : List ℕ) (start end : ℕ) (left : List ℕ)
     (numbers : List ℤ) (number : ℤ) → SoFar rules text ends start (end ∷ left) numbers
-    → HasResult rules (take (end - start) (drop start text)) number
+    → HasVerdict rules (take (end - start) (drop start text)) number
     → SoFar rules text ends end left (numbers ++ number ∷ [])
 one_more_end rules text ends start end left numbers number so has = record {
   ascend = so.ascend.2;
   utf8 = All-tail IsUtf8 _ _ so.utf8;
-  results = λ later are. subst (AllZip (HasResult rules) (pieces text 0 ends))
-      (sym (append_assoc numbers (number ∷ []) later)) (so.results (number ∷ later) (has, are));
+  verdicts = λ later are. subst (AllZip (HasVerdict rules) (pieces text 0 ends))
+      (sym (append_assoc numbers (number ∷ []) later)) (so.verdicts (number ∷ later) (has, are));
 }
 
 pub all_so_far : (rules : List PlacedRule) (text ends : List ℕ) (start : ℕ) (numbers : List ℤ)
-    → SoFar rules text ends start [] numbers → AllZip (HasResult rules) (pieces text 0 ends) numbers
+    → SoFar rules text ends start [] numbers → AllZip (HasVerdict rules) (pieces text 0 ends) numbers
 all_so_far rules text ends start numbers so =
-    subst (AllZip (HasResult rules) (pieces text 0 ends)) (append-nil numbers) (so.results [] tt)
+    subst (AllZip (HasVerdict rules) (pieces text 0 ends)) (append-nil numbers) (so.verdicts [] tt)
 
 pub count_pieces : (text : List ℕ) (start : ℕ) (ends : List ℕ) → length (pieces text start ends) ≡ length ends
 count_pieces text start [] = refl
 count_pieces text start (end ∷ ends) = omega (arith, count_pieces text end ends)
 
-pub only_memory : (url : List ℕ) (error : Error) → IsUtf8 url → IsWhyNoResult url error → error ≡ Memory
+pub only_memory : (url : List ℕ) (error : Error) → IsUtf8 url → IsWhyNoVerdict url error → error ≡ Memory
 only_memory url NotUtf8 is why = absurd (why is)
 only_memory url Memory is why = refl
 only_memory url _ is why = absurd why
 
--- ---- The rows of the results of many crawlers.
+-- ---- The rows of the verdicts of many crawlers.
 
 pub one_more_mapped : {A B C : Type 0} (f : A → C) (g : B → C) (xs : List A) (at : ℕ) (x : A) (ys : List B)
     (y : B) → (at < length xs) × (x ≡ slice_index_or xs at x) → map g ys ≡ map f (take at xs) → g y ≡ f x
@@ -204,9 +204,9 @@ one_more_row site targets agents at agent rows row (below, here) are is =
 row_length : (site : List ℕ) (targets : List (List ℕ)) (agent : List ℕ) (row : List ℤ)
     → IsRow site targets agent row → length row ≡ length targets
 row_length site targets agent row (inl (robot, of, are)) =
-    AllZip-long (IsResultOn robot.rules) targets row are
+    AllZip-long (IsVerdictOn robot.rules) targets row are
 row_length site targets agent row (inr (rejected, is)) = ap length is
-    ∙ length-replicate (length targets) no_result
+    ∙ length-replicate (length targets) no_verdict
 
 pub rows_length : (site : List ℕ) (targets agents : List (List ℕ)) (numbers : List ℤ)
     → AreRows site targets agents numbers → length numbers ≡ length agents * length targets

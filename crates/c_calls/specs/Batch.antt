@@ -2,7 +2,7 @@
 use Rattle.std.specs.Prelude.{ℕ, ◌-◌, ◌<◌, ◌≤◌, ℤ, Bool, true, false, IsUtf8, List, [], ◌∷◌, drop, length, take}
 use Rattle.std.specs.List.{All, AllZip}
 use Rattle.texting_robots.specs.{Callers.PlacedRule}
-use Rattle.c_calls.specs.{Results.HasResult, Results.HasResults, Status.IsWhyNoResults}
+use Rattle.c_calls.specs.{Verdicts.HasVerdict, Verdicts.HasVerdicts, Status.IsWhyNoVerdicts}
 use Rattle.c_calls.specs.{declared.error.Error.Error}
 use Rattle.c_calls.specs.declared.error.Error.TheVariants.{BufferTooSmall, InvalidEnds, Memory, NotUtf8}
 
@@ -16,15 +16,15 @@ abbrev pub Ascend : ℕ → List ℕ → ℕ → Type 0
 Ascend least [] limit = Unit {0}
 Ascend least (end ∷ ends) limit = (least ≤ end) × (end ≤ limit) × Ascend end ends limit
 
--- the results for the URLs that end at these places, or else for those that LFs separate
-abbrev pub AreResults : List PlacedRule → List ℕ → List ℕ → Bool → List ℤ → Type 0
-AreResults rules text ends true numbers =
-    Ascend 0 ends (length text) × AllZip (HasResult rules) (pieces text 0 ends) numbers
-AreResults rules text ends false numbers = HasResults rules text numbers
+-- the verdicts for the URLs that end at these places, or else for those that LFs separate
+abbrev pub AreVerdicts : List PlacedRule → List ℕ → List ℕ → Bool → List ℤ → Type 0
+AreVerdicts rules text ends true numbers =
+    Ascend 0 ends (length text) × AllZip (HasVerdict rules) (pieces text 0 ends) numbers
+AreVerdicts rules text ends false numbers = HasVerdicts rules text numbers
 
 -- the places are checked first, then the URLs, then the capacity, and then an allocation can fail
 abbrev pub IsWhyNone : List ℕ → List ℕ → Bool → ℕ → Error → Type 0
-IsWhyNone text ends false capacity error = IsWhyNoResults text capacity error
+IsWhyNone text ends false capacity error = IsWhyNoVerdicts text capacity error
 IsWhyNone text ends true capacity InvalidEnds = ¬ Ascend 0 ends (length text)
 IsWhyNone text ends true capacity NotUtf8 = Ascend 0 ends (length text) × ¬ All IsUtf8 (pieces text 0 ends)
 IsWhyNone text ends true capacity BufferTooSmall =

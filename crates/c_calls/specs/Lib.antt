@@ -3,6 +3,6 @@ pub mod File
 pub mod Kept
 pub mod Number
 pub mod Response
-pub mod Results
+pub mod Verdicts
 pub mod Status
 pub mod Text

@@ -3,8 +3,8 @@ use Rattle.std.specs.Prelude.{◌≡◌, ◌⊎◌, ℕ, ◌*◌, ◌<◌, ◌�
 use Rattle.texting_robots.specs.Callers.{IsFirstOverlong, file_lines, PlacedRule}
 use Rattle.texting_robots.specs.Callers.{cost_of, placed_rules, prepared, robots_address}
 use Rattle.url.specs.declared.error.{ParseError.ParseError}
-use Rattle.c_calls.specs.{Results.items_in, declared.error.Error.Error}
-use Rattle.c_calls.specs.declared.error.Error.TheVariants.{Memory, NoAddress, NoDelay, BufferTooSmall}
+use Rattle.c_calls.specs.{Verdicts.items_in, declared.error.Error.Error}
+use Rattle.c_calls.specs.declared.error.Error.TheVariants.{Memory, NoRobotsUrl, NoDelay, BufferTooSmall}
 use Rattle.texting_robots.specs.declared.error.RobotError.{RobotError}
 use Rattle.texting_robots.specs.declared.error.RobotError.TheVariants as rejection
 use Rattle.c_calls.specs.declared.error.Error.TheVariants.{InvalidEnds, NotUtf8, Overlong, TooCostly}
@@ -19,7 +19,7 @@ status_of NotUtf8 = negsuc 0
 status_of Memory = negsuc 1
 status_of BufferTooSmall = negsuc 2
 status_of NoDelay = negsuc 3
-status_of NoAddress = negsuc 4
+status_of NoRobotsUrl = negsuc 4
 status_of (Overlong line) = negsuc 5
 status_of InvalidEnds = negsuc 6
 status_of TooCostly = negsuc 7
@@ -38,7 +38,7 @@ abbrev pub HasErrorAt : (Error → Type 0) → ℤ → ℕ → ℕ → Type 0
 HasErrorAt Why status old new = ((status ≡ pos 0) × (new ≡ old))
     ⊎ ((error : Error) × Why error × (status ≡ status_of error) × (new ≡ line_after error old))
 
--- ---- The cause of each error, by task: texts come first, then room for results, then allocations.
+-- ---- The cause of each error, by task: texts come first, then room for verdicts, then allocations.
 
 -- the number, counted from 1, of the first line with a rule for the crawler that is too long
 abbrev pub IsOverlongLine : List ℕ → List ℕ → ℕ → Type 0
@@ -53,22 +53,22 @@ IsWhyNoRobot agent site _ = ⊥
 abbrev pub IsWhyNoSite : Error → Type 0
 IsWhyNoSite error = error ≡ Memory
 
--- the results for the URLs in a string, with this capacity for numbers
-abbrev pub IsWhyNoResults : List ℕ → ℕ → Error → Type 0
-IsWhyNoResults text capacity NotUtf8 = ¬ IsUtf8 text
-IsWhyNoResults text capacity Memory = IsUtf8 text × (length (items_in text) ≤ capacity)
-IsWhyNoResults text capacity BufferTooSmall = IsUtf8 text × (capacity < length (items_in text))
-IsWhyNoResults text capacity _ = ⊥
+-- the verdicts for the URLs in a string, with this capacity for numbers
+abbrev pub IsWhyNoVerdicts : List ℕ → ℕ → Error → Type 0
+IsWhyNoVerdicts text capacity NotUtf8 = ¬ IsUtf8 text
+IsWhyNoVerdicts text capacity Memory = IsUtf8 text × (length (items_in text) ≤ capacity)
+IsWhyNoVerdicts text capacity BufferTooSmall = IsUtf8 text × (capacity < length (items_in text))
+IsWhyNoVerdicts text capacity _ = ⊥
 
--- making a robot from a file, and its results
+-- making a robot from a file, and its verdicts
 abbrev pub IsWhyUndecided : List ℕ → List ℕ → List ℕ → ℕ → Error → Type 0
 IsWhyUndecided agent site text capacity NotUtf8 = (¬ IsUtf8 agent) ⊎ (¬ IsUtf8 text)
 IsWhyUndecided agent site text capacity BufferTooSmall = IsUtf8 agent
-    × IsWhyNoResults text capacity BufferTooSmall
+    × IsWhyNoVerdicts text capacity BufferTooSmall
 IsWhyUndecided agent site text capacity error = IsUtf8 text × (length (items_in text) ≤ capacity)
     × IsWhyNoRobot agent site error
 
--- the results of many crawlers for many URLs; a rule that is too long isn't an error
+-- the verdicts of many crawlers for many URLs; a rule that is too long isn't an error
 abbrev pub IsWhyNoMatrix : List ℕ → List ℕ → ℕ → Error → Type 0
 IsWhyNoMatrix agents urls capacity NotUtf8 = (¬ IsUtf8 agents) ⊎ (¬ IsUtf8 urls)
 IsWhyNoMatrix agents urls capacity Memory =
@@ -77,13 +77,13 @@ IsWhyNoMatrix agents urls capacity BufferTooSmall =
     IsUtf8 agents × IsUtf8 urls × (capacity < length (items_in agents) * length (items_in urls))
 IsWhyNoMatrix agents urls capacity _ = ⊥
 
--- the result for one URL
-abbrev pub IsWhyNoResult : List ℕ → Error → Type 0
-IsWhyNoResult url NotUtf8 = ¬ IsUtf8 url
-IsWhyNoResult url Memory = IsUtf8 url
-IsWhyNoResult url _ = ⊥
+-- the verdict for one URL
+abbrev pub IsWhyNoVerdict : List ℕ → Error → Type 0
+IsWhyNoVerdict url NotUtf8 = ¬ IsUtf8 url
+IsWhyNoVerdict url Memory = IsUtf8 url
+IsWhyNoVerdict url _ = ⊥
 
--- the result for one URL within this budget, whose match target is allocated
+-- the verdict for one URL within this budget, whose match target is allocated
 abbrev pub IsWhyNotWithin : List PlacedRule → List ℕ → ℕ → Error → Type 0
 IsWhyNotWithin rules url budget NotUtf8 = ¬ IsUtf8 url
 IsWhyNotWithin rules url budget Memory = IsUtf8 url
@@ -91,11 +91,11 @@ IsWhyNotWithin rules url budget TooCostly =
     IsUtf8 url × (budget < cost_of rules (length (prepared url)))
 IsWhyNotWithin rules url budget _ = ⊥
 
-abbrev pub IsAddress : List ℕ → List ℕ → Type 0
-IsAddress url text = IsUtf8 url × (robots_address url ≡ Ok text)
+abbrev pub IsRobotsUrl : List ℕ → List ℕ → Type 0
+IsRobotsUrl url text = IsUtf8 url × (robots_address url ≡ Ok text)
 
-abbrev pub IsWhyNoAddress : List ℕ → Error → Type 0
-IsWhyNoAddress url NotUtf8 = ¬ IsUtf8 url
-IsWhyNoAddress url Memory = IsUtf8 url
-IsWhyNoAddress url NoAddress = IsUtf8 url × ((error : ParseError) × (robots_address url ≡ Err error))
-IsWhyNoAddress url _ = ⊥
+abbrev pub IsWhyNoRobotsUrl : List ℕ → Error → Type 0
+IsWhyNoRobotsUrl url NotUtf8 = ¬ IsUtf8 url
+IsWhyNoRobotsUrl url Memory = IsUtf8 url
+IsWhyNoRobotsUrl url NoRobotsUrl = IsUtf8 url × ((error : ParseError) × (robots_address url ≡ Err error))
+IsWhyNoRobotsUrl url _ = ⊥

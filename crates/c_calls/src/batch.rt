@@ -1,12 +1,13 @@
-//! The results for URLs in one text: each with the place where it ends, or separated by LF.
+//! The verdicts for URLs in one text: each with the place where it ends, or separated by LF.
 ghost use Rattle.std.specs.Prelude.{◌≡◌, ◌≢◌, ◌≤◌, IfErr, IfOk, IsUtf8, MatchBool, length, pos};
 ghost use Rattle.std.specs.List.{All, AllZip};
-ghost use Rattle.c_calls.specs.Batch.{AreResults, Ascend, IsWhyNone, pieces};
-ghost use Rattle.c_calls.specs.{File.IsRobotOfSomeFile, Results.ArePutIn, Results.HasResult, Status.HasError};
+ghost use Rattle.c_calls.specs.Batch.{AreVerdicts, Ascend, IsWhyNone, pieces};
+ghost use Rattle.c_calls.specs.{File.IsRobotOfSomeFile, Status.HasError};
+ghost use Rattle.c_calls.specs.Verdicts.{ArePutIn, HasVerdict};
 
 use crate::error::Error;
 use crate::file::text_of;
-use crate::urls::{result_for, results_of};
+use crate::urls::{verdict_for, verdicts_of};
 use std::alloc::Global;
 use texting_robots::Robot;
 
@@ -39,27 +40,27 @@ fn are_utf8(text: &[u8], ends: &[usize]) -> bool
     true
 }
 
-/// The result for each URL, up to its place in `ends`.
+/// The verdict for each URL, up to its place in `ends`.
 fn numbers_at(alloc: Global, robot: &Robot, text: &[u8], ends: &[usize]) -> Result<Vec<i64>, Error>
     requires robot { IsRobotOfSomeFile robot.now }
     requires ends { Ascend 0 ends.now (length text.now) }
     requires utf8 { All IsUtf8 (pieces text.now 0 ends.now) }
-    ensures ok { IfOk result (λ numbers. AllZip (HasResult robot.now.rules) (pieces text.now 0 ends.now) numbers.items) }
+    ensures ok { IfOk result (λ numbers. AllZip (HasVerdict robot.now.rules) (pieces text.now 0 ends.now) numbers.items) }
     ensures count { IfOk result (λ numbers. length numbers.items ≡ length ends.now) }
     ensures error { IfErr result (λ error. error ≡ Error.Memory) }
 {
     let mut numbers = Vec::with_capacity(alloc, ends.len())?;
     let mut start = 0;
     for end in ends {
-        let number = result_for(alloc, robot, &text[start..*end])?;
+        let number = verdict_for(alloc, robot, &text[start..*end])?;
         numbers.push(number)?;
         start = *end;
     }
     Ok(numbers)
 }
 
-/// The results that [`query_many`] writes, or the first error.
-fn results_in(
+/// The verdicts that [`write_verdicts`] writes, or the first error.
+fn verdicts_in(
     alloc: Global,
     robot: &Robot,
     text: &[u8],
@@ -68,12 +69,13 @@ fn results_in(
     capacity: usize,
 ) -> Result<Vec<i64>, Error>
     requires { IsRobotOfSomeFile robot.now }
-    ensures ok { IfOk result (λ numbers. AreResults robot.now.rules text.now ends.now are_ended numbers.items) }
+    ensures ok { IfOk result (λ numbers.
+        AreVerdicts robot.now.rules text.now ends.now are_ended numbers.items) }
     ensures capacity { IfOk result (λ numbers. length numbers.items ≤ capacity) }
     ensures error { IfErr result (IsWhyNone text.now ends.now are_ended capacity) }
 {
     if !are_ended {
-        return results_of(alloc, robot, text, capacity);
+        return verdicts_of(alloc, robot, text, capacity);
     }
     if !ascend(ends, text.len()) {
         return Err(Error::InvalidEnds);
@@ -88,8 +90,8 @@ fn results_in(
     Ok(numbers)
 }
 
-/// Writes a result for each URL. They end at these places if `are_ended`, else LF separates them.
-pub fn query_many(
+/// Writes a verdict for each URL. They end at these places if `are_ended`, else LF separates them.
+pub fn write_verdicts(
     alloc: Global,
     robot: &Robot,
     text: &[u8],
@@ -99,11 +101,11 @@ pub fn query_many(
 ) -> i32
     requires { IsRobotOfSomeFile robot.now }
     ensures written { result ≡ pos 0
-        → ArePutIn (AreResults robot.now.rules text.now ends.now are_ended) out.old out.new }
+        → ArePutIn (AreVerdicts robot.now.rules text.now ends.now are_ended) out.old out.new }
     ensures kept { result ≢ pos 0 → out.new ≡ out.old }
     ensures why { HasError (IsWhyNone text.now ends.now are_ended (length out.old)) result }
 {
-    match results_in(alloc, robot, text, ends, are_ended, out.len()) {
+    match verdicts_in(alloc, robot, text, ends, are_ended, out.len()) {
         Ok(numbers) => {
             out[..numbers.len()].copy_from_slice(&numbers);
             0

@@ -10,13 +10,13 @@ pub enum Error {
     Memory,
     BufferTooSmall,
     NoDelay,
-    /// The URL has no robots.txt address.
-    NoAddress,
+    /// The URL has no robots.txt file.
+    NoRobotsUrl,
     /// The file is rejected: the crawler's rule in this line is too long.
     Overlong(usize),
     /// The places where URLs end decrease, or one is after the end of the text.
     InvalidEnds,
-    /// The query might take more looks than its budget.
+    /// The verdict might take more looks than its budget.
     TooCostly,
 }
 
@@ -32,7 +32,7 @@ impl Error {
             Error::Memory => -2,
             Error::BufferTooSmall => -3,
             Error::NoDelay => -4,
-            Error::NoAddress => -5,
+            Error::NoRobotsUrl => -5,
             Error::Overlong(_) => -6,
             Error::InvalidEnds => -7,
             Error::TooCostly => -8,

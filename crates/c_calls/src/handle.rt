@@ -46,7 +46,7 @@ pub fn opened(
     }
 }
 
-/// Writes a number: for 0 what a query within a budget costs at most for a match target of this
+/// Writes a number: for 0 what a verdict within a budget costs at most for a match target of this
 /// length, for 1 how many bytes of memory the robot takes, and else its delay in microseconds.
 pub fn number(robot: &Robot, which: usize, length: usize, out: &mut u64) -> i32
     ensures written { result ≡ pos 0 → IsNumber robot.now which length out.new }

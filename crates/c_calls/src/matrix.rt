@@ -1,9 +1,9 @@
-//! The results of many crawlers for many URLs.
+//! The verdicts of many crawlers for many URLs.
 ghost use Rattle.std.specs.Prelude.{◌≡◌, ◌≢◌, ◌<◌, ◌≤◌, ◌*◌, IfErr, IfOk, IfSome, IsUtf8, MatchBool, codes};
 ghost use Rattle.std.specs.Prelude.{length, map, pos, string_bytes};
 ghost use Rattle.std.specs.List.{AllZip};
-ghost use Rattle.c_calls.specs.{File.IsSiteOfSomeFile, Status.HasError, Status.IsWhyNoMatrix};
-ghost use Rattle.c_calls.specs.Results.{ArePutIn, AreRows, HasMatrix, IsResultOn, IsRow, LinesFit, items_in};
+ghost use Rattle.c_calls.specs.{File.IsSiteOfSomeFile, Status.HasError, Status.IsWhyNoMatrix, Verdicts.IsRow};
+ghost use Rattle.c_calls.specs.Verdicts.{ArePutIn, AreRows, HasMatrix, IsVerdictOn, LinesFit, items_in};
 ghost use Rattle.texting_robots.specs.Callers.{prepared};
 
 use crate::error::Error;
@@ -13,7 +13,7 @@ use std::alloc::{AllocError, Global};
 use texting_robots::{Robot, RobotError, Site, match_target};
 
 /// The number in the row of a crawler for which the file is rejected.
-pub const NO_RESULT: i64 = i64::MIN;
+pub const NO_VERDICT: i64 = i64::MIN;
 
 fn targets_of(alloc: Global, urls: &str) -> Result<Vec<String>, AllocError>
     ensures { IfOk result (λ targets. map string_bytes targets.items ≡ map prepared (items_in urls.now)) }
@@ -25,10 +25,11 @@ fn targets_of(alloc: Global, urls: &str) -> Result<Vec<String>, AllocError>
     Ok(targets)
 }
 
-/// A robot's result for each match target.
-fn results_on(alloc: Global, robot: &Robot, targets: &[String]) -> Result<Vec<i64>, AllocError>
+/// A robot's verdict for each match target.
+fn verdicts_on(alloc: Global, robot: &Robot, targets: &[String]) -> Result<Vec<i64>, AllocError>
     requires { LinesFit robot.now.rules }
-    ensures { IfOk result (λ row. AllZip (IsResultOn robot.now.rules) (map string_bytes targets.now) row.items) }
+    ensures { IfOk result (λ row.
+        AllZip (IsVerdictOn robot.now.rules) (map string_bytes targets.now) row.items) }
 {
     let mut row = Vec::new(alloc);
     for target in targets {
@@ -37,7 +38,7 @@ fn results_on(alloc: Global, robot: &Robot, targets: &[String]) -> Result<Vec<i6
     Ok(row)
 }
 
-/// The crawler's results, or `NO_RESULT` for each target if the file is rejected for it.
+/// The crawler's verdicts, or `NO_VERDICT` for each target if the file is rejected for it.
 fn row_of(
     alloc: Global,
     site: &Site,
@@ -49,10 +50,10 @@ fn row_of(
 {
     match site.robot_without_sitemaps(alloc, agent) {
         Ok(robot) => {
-            let row = results_on(alloc, &robot, targets)?;
+            let row = verdicts_on(alloc, &robot, targets)?;
             Ok(row)
         }
-        Err(RobotError::Overlong(_)) => vec![in alloc; NO_RESULT; targets.len()],
+        Err(RobotError::Overlong(_)) => vec![in alloc; NO_VERDICT; targets.len()],
         Err(RobotError::Memory) => Err(AllocError),
     }
 }
@@ -120,7 +121,7 @@ fn fits(agents: &str, urls: &str, capacity: usize) -> bool
     }
 }
 
-/// Crawlers and URLs as strings, if they are UTF-8 and their results fit.
+/// Crawlers and URLs as strings, if they are UTF-8 and their verdicts fit.
 fn texts_of<'a>(
     agents: &'a [u8],
     urls: &'a [u8],
@@ -139,7 +140,7 @@ fn texts_of<'a>(
     Ok((agents, urls))
 }
 
-/// The results that [`matrix_by`] writes, or the first error.
+/// The verdicts that [`matrix_by`] writes, or the first error.
 fn matrix_in(
     alloc: Global,
     site: &Site,
@@ -157,7 +158,7 @@ fn matrix_in(
     Ok(numbers)
 }
 
-/// Writes the results of each crawler for each URL, and returns the status.
+/// Writes the verdicts of each crawler for each URL, and returns the status.
 pub fn matrix_by(alloc: Global, site: &Site, agents: &[u8], urls: &[u8], out: &mut [i64]) -> i32
     requires { IsSiteOfSomeFile site.now }
     ensures written { result ≡ pos 0 → ArePutIn (HasMatrix site.now agents.now urls.now) out.old out.new }

@@ -1,7 +1,7 @@
 //! Strings for C: the sitemaps and the crawlers of a site, and the address of robots.txt.
 ghost use Rattle.std.specs.Prelude.{◌≡◌, ◌≢◌, ◌<◌, ◌⊎◌, IfErr, IfOk, length, map, pos, string_bytes};
 ghost use Rattle.safe_output.specs.Lines.{ended};
-ghost use Rattle.c_calls.specs.Status.{IsAddress, IsWhyNoAddress, status_of};
+ghost use Rattle.c_calls.specs.Status.{IsRobotsUrl, IsWhyNoRobotsUrl, status_of};
 ghost use Rattle.c_calls.specs.{File.AreTexts, Text.IsPutIn};
 
 use crate::error::Error;
@@ -32,14 +32,14 @@ pub(crate) fn texts_in(alloc: Global, site: &Site, are_agents: bool) -> Result<S
     lines_of(alloc, &sitemaps)
 }
 
-pub fn address(alloc: Global, url: &[u8]) -> Result<String, Error>
-    ensures ok { IfOk result (λ text. IsAddress url.now (string_bytes text)) }
-    ensures error { IfErr result (IsWhyNoAddress url.now) }
+pub fn robots_url(alloc: Global, url: &[u8]) -> Result<String, Error>
+    ensures ok { IfOk result (λ text. IsRobotsUrl url.now (string_bytes text)) }
+    ensures error { IfErr result (IsWhyNoRobotsUrl url.now) }
 {
     match get_robots_url(alloc, text_of(url)?) {
         Ok(text) => Ok(text),
         Err(ParseError::OutOfMemory | ParseError::Overflow) => Err(Error::Memory),
-        Err(_) => Err(Error::NoAddress),
+        Err(_) => Err(Error::NoRobotsUrl),
     }
 }
 

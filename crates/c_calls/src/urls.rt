@@ -1,9 +1,10 @@
-//! The results for URLs.
+//! The verdicts for URLs.
 ghost use Rattle.std.specs.Prelude.{◌≡◌, ◌≢◌, ◌<◌, ◌≤◌, ◌==◌, ◌^◌, IfErr, IfOk, IfSome, IsUtf8, count_by, length, pos};
 ghost use Rattle.std.specs.List.{AllZip};
 ghost use Rattle.c_calls.specs.File.{GivesRobot, IsRobotOfSomeFile, bytes_read};
-ghost use Rattle.c_calls.specs.Results.{HasResult, HasResults, IsResult, IsResultOn, LinesFit, number_of, items_in, lf};
-ghost use Rattle.c_calls.specs.Status.{HasError, IsWhyNoResult, IsWhyNoResults, IsWhyNotWithin, IsWhyUndecided};
+ghost use Rattle.c_calls.specs.Verdicts.{HasVerdict, HasVerdicts, IsVerdictFor, IsVerdictOn, LinesFit, number_of};
+ghost use Rattle.c_calls.specs.Verdicts.{items_in, lf};
+ghost use Rattle.c_calls.specs.Status.{HasError, IsWhyNoVerdict, IsWhyNoVerdicts, IsWhyNotWithin, IsWhyUndecided};
 
 use crate::error::Error;
 use crate::file::{robot_of, text_of};
@@ -25,24 +26,24 @@ fn number_of(decision: Decision) -> i64
 
 pub(crate) fn number_on(robot: &Robot, target: &str) -> i64
     requires { LinesFit robot.now.rules }
-    ensures { IsResultOn robot.now.rules target.now result }
+    ensures { IsVerdictOn robot.now.rules target.now result }
 {
     number_of(robot.decide_prepared(target))
 }
 
-/// The result for a URL that is UTF-8.
+/// The verdict for a URL that is UTF-8.
 fn number_for(alloc: Global, robot: &Robot, url: &str) -> Result<i64, AllocError>
     requires { LinesFit robot.now.rules }
-    ensures { IfOk result (IsResult robot.now.rules url.now) }
+    ensures { IfOk result (IsVerdictFor robot.now.rules url.now) }
 {
     let decision = robot.decide(alloc, url)?;
     Ok(number_of(decision))
 }
 
-pub(crate) fn result_for(alloc: Global, robot: &Robot, url: &[u8]) -> Result<i64, Error>
+pub(crate) fn verdict_for(alloc: Global, robot: &Robot, url: &[u8]) -> Result<i64, Error>
     requires { IsRobotOfSomeFile robot.now }
-    ensures ok { IfOk result (HasResult robot.now.rules url.now) }
-    ensures error { IfErr result (IsWhyNoResult url.now) }
+    ensures ok { IfOk result (HasVerdict robot.now.rules url.now) }
+    ensures error { IfErr result (IsWhyNoVerdict url.now) }
 {
     let url = text_of(url)?;
     match number_for(alloc, robot, url) {
@@ -51,10 +52,10 @@ pub(crate) fn result_for(alloc: Global, robot: &Robot, url: &[u8]) -> Result<i64
     }
 }
 
-/// The result for a URL, unless that may take more looks than the budget.
-fn result_within(alloc: Global, robot: &Robot, url: &[u8], budget: u64) -> Result<i64, Error>
+/// The verdict for a URL, unless that may take more looks than the budget.
+fn verdict_within(alloc: Global, robot: &Robot, url: &[u8], budget: u64) -> Result<i64, Error>
     requires { IsRobotOfSomeFile robot.now }
-    ensures ok { IfOk result (HasResult robot.now.rules url.now) }
+    ensures ok { IfOk result (HasVerdict robot.now.rules url.now) }
     ensures error { IfErr result (IsWhyNotWithin robot.now.rules url.now budget) }
 {
     let target = match_target(alloc, text_of(url)?)?;
@@ -65,10 +66,10 @@ fn result_within(alloc: Global, robot: &Robot, url: &[u8], budget: u64) -> Resul
     }
 }
 
-/// The results for URLs that LF separates.
-fn results_for(alloc: Global, robot: &Robot, urls: &str) -> Result<Vec<i64>, AllocError>
+/// The verdicts for URLs that LF separates.
+fn verdicts_for(alloc: Global, robot: &Robot, urls: &str) -> Result<Vec<i64>, AllocError>
     requires { IsRobotOfSomeFile robot.now }
-    ensures results { IfOk result (λ numbers. AllZip (IsResult robot.now.rules) (items_in urls.now) numbers.items) }
+    ensures verdicts { IfOk result (λ numbers. AllZip (IsVerdictFor robot.now.rules) (items_in urls.now) numbers.items) }
     ensures count { IfOk result (λ numbers. length numbers.items ≡ length (items_in urls.now)) }
 {
     let mut numbers = Vec::new(alloc);
@@ -91,10 +92,10 @@ pub(crate) fn count_items(text: &str) -> usize
     count_feeds(text.as_bytes()) + 1
 }
 
-/// The URLs, if they are UTF-8 and their results fit.
+/// The URLs, if they are UTF-8 and their verdicts fit.
 fn urls_of<'a>(urls: &'a [u8], capacity: usize) -> Result<&'a str, Error>
     ensures ok { IfOk result (λ text. (text.now ≡ urls.now) × IsUtf8 urls.now × (length (items_in urls.now) ≤ capacity)) }
-    ensures error { IfErr result (IsWhyNoResults urls.now capacity) }
+    ensures error { IfErr result (IsWhyNoVerdicts urls.now capacity) }
 {
     let text = text_of(urls)?;
     if capacity < count_items(text) {
@@ -103,8 +104,8 @@ fn urls_of<'a>(urls: &'a [u8], capacity: usize) -> Result<&'a str, Error>
     Ok(text)
 }
 
-/// The results for URLs that LF separates, by a file for a crawler.
-pub fn decide(
+/// The verdicts for URLs that LF separates, by a file for a crawler.
+pub fn verdicts_of_file(
     alloc: Global,
     agent: &[u8],
     file: &[u8],
@@ -112,41 +113,41 @@ pub fn decide(
     capacity: usize,
 ) -> Result<Vec<i64>, Error>
     ensures ok { IfOk result (λ numbers. GivesRobot agent.now (bytes_read file.now) (λ robot.
-        HasResults robot.rules urls.now numbers.items)) }
+        HasVerdicts robot.rules urls.now numbers.items)) }
     ensures capacity { IfOk result (λ numbers. length numbers.items ≤ capacity) }
     ensures error { IfErr result (IsWhyUndecided agent.now (bytes_read file.now) urls.now capacity) }
 {
     text_of(agent)?;
     let urls = urls_of(urls, capacity)?;
     let robot = robot_of(alloc, agent, file)?;
-    let numbers = results_for(alloc, &robot, urls)?;
+    let numbers = verdicts_for(alloc, &robot, urls)?;
     Ok(numbers)
 }
 
-pub(crate) fn results_of(
+pub(crate) fn verdicts_of(
     alloc: Global,
     robot: &Robot,
     urls: &[u8],
     capacity: usize,
 ) -> Result<Vec<i64>, Error>
     requires { IsRobotOfSomeFile robot.now }
-    ensures ok { IfOk result (λ numbers. HasResults robot.now.rules urls.now numbers.items) }
+    ensures ok { IfOk result (λ numbers. HasVerdicts robot.now.rules urls.now numbers.items) }
     ensures capacity { IfOk result (λ numbers. length numbers.items ≤ capacity) }
-    ensures error { IfErr result (IsWhyNoResults urls.now capacity) }
+    ensures error { IfErr result (IsWhyNoVerdicts urls.now capacity) }
 {
     let urls = urls_of(urls, capacity)?;
-    let numbers = results_for(alloc, robot, urls)?;
+    let numbers = verdicts_for(alloc, robot, urls)?;
     Ok(numbers)
 }
 
-/// Writes the result for a URL, and returns the status.
-pub fn query(alloc: Global, robot: &Robot, url: &[u8], out: &mut i64) -> i32
+/// Writes the verdict for a URL, and returns the status.
+pub fn write_verdict(alloc: Global, robot: &Robot, url: &[u8], out: &mut i64) -> i32
     requires { IsRobotOfSomeFile robot.now }
-    ensures written { result ≡ pos 0 → HasResult robot.now.rules url.now out.new }
+    ensures written { result ≡ pos 0 → HasVerdict robot.now.rules url.now out.new }
     ensures kept { result ≢ pos 0 → out.new ≡ out.old }
-    ensures why { HasError (IsWhyNoResult url.now) result }
+    ensures why { HasError (IsWhyNoVerdict url.now) result }
 {
-    match result_for(alloc, robot, url) {
+    match verdict_for(alloc, robot, url) {
         Ok(number) => {
             *out = number;
             0
@@ -155,14 +156,20 @@ pub fn query(alloc: Global, robot: &Robot, url: &[u8], out: &mut i64) -> i32
     }
 }
 
-/// Writes what [`query`] does, unless that may take more looks than the budget.
-pub fn query_within(alloc: Global, robot: &Robot, url: &[u8], budget: u64, out: &mut i64) -> i32
+/// Writes what [`write_verdict`] does, unless that may take more looks than the budget.
+pub fn write_verdict_within(
+    alloc: Global,
+    robot: &Robot,
+    url: &[u8],
+    budget: u64,
+    out: &mut i64,
+) -> i32
     requires { IsRobotOfSomeFile robot.now }
-    ensures written { result ≡ pos 0 → HasResult robot.now.rules url.now out.new }
+    ensures written { result ≡ pos 0 → HasVerdict robot.now.rules url.now out.new }
     ensures kept { result ≢ pos 0 → out.new ≡ out.old }
     ensures why { HasError (IsWhyNotWithin robot.now.rules url.now budget) result }
 {
-    match result_within(alloc, robot, url, budget) {
+    match verdict_within(alloc, robot, url, budget) {
         Ok(number) => {
             *out = number;
             0

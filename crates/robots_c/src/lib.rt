@@ -8,25 +8,26 @@
 ghost use Rattle.std.specs.Prelude.{◌≡◌, ◌≢◌, ◌<◌, ◌⊎◌, None, if◌then◌else◌, length, pos, unwrap_or};
 ghost use Rattle.std.specs.Borrow.{sem};
 ghost use base.Fml.{Lft, Share, flft};
-ghost use Rattle.c_calls.specs.Batch.{AreResults, IsWhyNone};
+ghost use Rattle.c_calls.specs.Batch.{AreVerdicts, IsWhyNone};
 ghost use Rattle.c_calls.specs.File.{GivesRobot, IsRobotFor, IsRobotOfSomeFile, bytes_read};
 ghost use Rattle.c_calls.specs.Kept.{Robots, lends, opens, owned_or_null};
 ghost use Rattle.c_calls.specs.{Number.IsNumber, Response.SaysMeaning, Text.IsTooLong, Text.IsWritten};
-ghost use Rattle.c_calls.specs.Results.{ArePutIn, HasResult, HasResults, is_allowed, line_named, no_result};
-ghost use Rattle.c_calls.specs.Status.{HasError, HasErrorAt, IsAddress, IsWhyNoAddress, IsWhyNoResult};
+ghost use Rattle.c_calls.specs.Verdicts.{ArePutIn, HasVerdict, HasVerdicts, is_allowed, line_named};
+ghost use Rattle.c_calls.specs.Verdicts.{no_verdict};
+ghost use Rattle.c_calls.specs.Status.{HasError, HasErrorAt, IsRobotsUrl, IsWhyNoRobotsUrl, IsWhyNoVerdict};
 ghost use Rattle.c_calls.specs.Status.{IsWhyNoRobot, IsWhyNotWithin, IsWhyUndecided, status_of};
 ghost use Rattle.texting_robots.specs.Callers.{RobotValue};
 
 mod site;
 
-use c_calls::batch::query_many;
+use c_calls::batch::write_verdicts;
 use c_calls::error::Error;
 use c_calls::handle::{close, number, opened};
 use c_calls::kept::{Handle, Kept};
-use c_calls::matrix::NO_RESULT;
+use c_calls::matrix::NO_VERDICT;
 use c_calls::response::meaning;
-use c_calls::texts::{address, put};
-use c_calls::urls::{decide, query, query_within};
+use c_calls::texts::{self, put};
+use c_calls::urls::{verdicts_of_file, write_verdict, write_verdict_within};
 use std::alloc::Global;
 use texting_robots::Robot;
 
@@ -41,7 +42,7 @@ pub extern "C" fn robots_version() -> u32
 /// Writes a number for each URL: 0 if the crawler may fetch it and no line decides, n if line n of the file
 /// allows it, -n if line n denies it. The URLs are one string, separated by LF.
 #[unsafe(no_mangle)]
-pub extern "C" fn robots_decide(
+pub extern "C" fn robots_verdicts_of_file(
     alloc: Global,
     agent: &[u8],
     file: &[u8],
@@ -50,11 +51,11 @@ pub extern "C" fn robots_decide(
     line: &mut usize,
 ) -> i32
     ensures written { result ≡ pos 0
-        → GivesRobot agent.now (bytes_read file.now) (λ robot. ArePutIn (HasResults robot.rules urls.now) out.old out.new) }
+        → GivesRobot agent.now (bytes_read file.now) (λ robot. ArePutIn (HasVerdicts robot.rules urls.now) out.old out.new) }
     ensures kept { result ≢ pos 0 → out.new ≡ out.old }
     ensures why { HasErrorAt (IsWhyUndecided agent.now (bytes_read file.now) urls.now (length out.old)) result line.old line.new }
 {
-    match decide(alloc, agent, file, urls, out.len()) {
+    match verdicts_of_file(alloc, agent, file, urls, out.len()) {
         Ok(numbers) => {
             out[..numbers.len()].copy_from_slice(&numbers);
             0
@@ -65,14 +66,14 @@ pub extern "C" fn robots_decide(
 
 /// Writes the address of robots.txt for the site of a URL, as `robots_site_sitemaps` writes sitemaps.
 #[unsafe(no_mangle)]
-pub extern "C" fn robots_address(alloc: Global, url: &[u8], out: &mut [u8], len: &mut usize) -> i32
-    ensures written { result ≡ pos 0 → IsWritten (IsAddress url.now) out.old out.new len.new }
-    ensures buffer_too_small { result ≡ status_of Error.BufferTooSmall → IsTooLong (IsAddress url.now) (length out.old) len.new }
+pub extern "C" fn robots_url(alloc: Global, url: &[u8], out: &mut [u8], len: &mut usize) -> i32
+    ensures written { result ≡ pos 0 → IsWritten (IsRobotsUrl url.now) out.old out.new len.new }
+    ensures buffer_too_small { result ≡ status_of Error.BufferTooSmall → IsTooLong (IsRobotsUrl url.now) (length out.old) len.new }
     ensures length_kept { result ≢ pos 0 → result ≢ status_of Error.BufferTooSmall → len.new ≡ len.old }
     ensures kept { result ≢ pos 0 → out.new ≡ out.old }
-    ensures why { (result ≡ status_of Error.BufferTooSmall) ⊎ HasError (IsWhyNoAddress url.now) result }
+    ensures why { (result ≡ status_of Error.BufferTooSmall) ⊎ HasError (IsWhyNoRobotsUrl url.now) result }
 {
-    match address(alloc, url) {
+    match texts::robots_url(alloc, url) {
         Ok(text) => put(&text, out, len),
         Err(error) => error.status(),
     }
@@ -96,9 +97,10 @@ pub extern "C" fn robots_open(
     status
 }
 
-/// Writes the result for one URL, as `robots_decide` does. The robot is borrowed: the call only reads it.
+/// Writes the verdict for one URL, as `robots_verdicts_of_file` does. The robot is borrowed: the call only
+/// reads it.
 #[unsafe(no_mangle)]
-pub unsafe extern "C" fn robots_query(
+pub unsafe extern "C" fn robots_verdict(
     alloc: Global,
     robot: *const u8,
     url: &[u8],
@@ -108,16 +110,16 @@ pub unsafe extern "C" fn robots_query(
     requires* lent { sem 𝓛 (lends Robots robot g) }
     requires robot { IsRobotOfSomeFile g.2 }
     ensures* lent { sem 𝓛 (flft g.0 g.1) }
-    ensures written { result ≡ pos 0 → HasResult g.2.rules url.now out.new }
+    ensures written { result ≡ pos 0 → HasVerdict g.2.rules url.now out.new }
     ensures kept { result ≢ pos 0 → out.new ≡ out.old }
-    ensures why { HasError (IsWhyNoResult url.now) result }
+    ensures why { HasError (IsWhyNoVerdict url.now) result }
 {
-    query(alloc, &*(robot as *const Robot), url, out)
+    write_verdict(alloc, &*(robot as *const Robot), url, out)
 }
 
-/// Writes the result for one URL, as `robots_query` does, unless that may take more looks than the budget.
+/// Writes the verdict for one URL, as `robots_verdict` does, unless that may take more looks than the budget.
 #[unsafe(no_mangle)]
-pub unsafe extern "C" fn robots_query_within(
+pub unsafe extern "C" fn robots_verdict_within(
     alloc: Global,
     robot: *const u8,
     url: &[u8],
@@ -128,17 +130,17 @@ pub unsafe extern "C" fn robots_query_within(
     requires* lent { sem 𝓛 (lends Robots robot g) }
     requires robot { IsRobotOfSomeFile g.2 }
     ensures* lent { sem 𝓛 (flft g.0 g.1) }
-    ensures written { result ≡ pos 0 → HasResult g.2.rules url.now out.new }
+    ensures written { result ≡ pos 0 → HasVerdict g.2.rules url.now out.new }
     ensures kept { result ≢ pos 0 → out.new ≡ out.old }
     ensures why { HasError (IsWhyNotWithin g.2.rules url.now budget) result }
 {
-    query_within(alloc, &*(robot as *const Robot), url, budget, out)
+    write_verdict_within(alloc, &*(robot as *const Robot), url, budget, out)
 }
 
-/// Writes the results for many URLs: those that end at these places in the text, each from the end before it,
-/// or else those that LF separates, as `robots_decide` does.
+/// Writes the verdicts for many URLs: those that end at these places in the text, each from the end before
+/// it, or else those that LF separates, as `robots_verdicts_of_file` does.
 #[unsafe(no_mangle)]
-pub unsafe extern "C" fn robots_results(
+pub unsafe extern "C" fn robots_verdict_list(
     alloc: Global,
     robot: *const u8,
     urls: &[u8],
@@ -151,14 +153,14 @@ pub unsafe extern "C" fn robots_results(
     requires robot { IsRobotOfSomeFile g.2 }
     ensures* lent { sem 𝓛 (flft g.0 g.1) }
     ensures written { result ≡ pos 0
-        → ArePutIn (AreResults g.2.rules urls.now ends.now are_ended) out.old out.new }
+        → ArePutIn (AreVerdicts g.2.rules urls.now ends.now are_ended) out.old out.new }
     ensures kept { result ≢ pos 0 → out.new ≡ out.old }
     ensures why { HasError (IsWhyNone urls.now ends.now are_ended (length out.old)) result }
 {
-    query_many(alloc, &*(robot as *const Robot), urls, ends, are_ended, out)
+    write_verdicts(alloc, &*(robot as *const Robot), urls, ends, are_ended, out)
 }
 
-/// Writes a number: for 0 what `robots_query_within` costs at most for a match target of this length, for 1
+/// Writes a number: for 0 what `robots_verdict_within` costs at most for a match target of this length, for 1
 /// how many bytes of memory the robot takes with this handle, of which only a bound is proved, and else its
 /// delay in microseconds.
 #[unsafe(no_mangle)]
@@ -208,7 +210,7 @@ pub extern "C" fn robots_response_meaning(
     meaning(status, redirects, has_location, is_complete)
 }
 
-/// 1 if the crawler may fetch the URL with this result, and 0 if it may not.
+/// 1 if the crawler may fetch the URL with this verdict, and 0 if it may not.
 #[unsafe(no_mangle)]
 pub extern "C" fn robots_may_fetch(number: i64) -> i32
     ensures { result ≡ (if is_allowed number then pos 1 else pos 0) }
@@ -216,15 +218,15 @@ pub extern "C" fn robots_may_fetch(number: i64) -> i32
     i32::from(number >= 0)
 }
 
-/// The number of the deciding line, and 0 if none decides or there is no result.
+/// The number of the deciding line, and 0 if none decides or there is no verdict.
 #[unsafe(no_mangle)]
-pub extern "C" fn robots_line(number: i64) -> i64
-    ensures line { number ≢ no_result → result ≡ pos (unwrap_or (line_named number) 0) }
-    ensures no_result { number ≡ no_result → result ≡ pos 0 }
+pub extern "C" fn robots_verdict_line(number: i64) -> i64
+    ensures line { number ≢ no_verdict → result ≡ pos (unwrap_or (line_named number) 0) }
+    ensures no_verdict { number ≡ no_verdict → result ≡ pos 0 }
 {
     if number >= 0 {
         number
-    } else if number == NO_RESULT {
+    } else if number == NO_VERDICT {
         0
     } else {
         -number

@@ -2,7 +2,7 @@
 ghost use Rattle.std.specs.Prelude.{◌≡◌, ◌≢◌, ◌⊎◌, ℕ, List, length, pos};
 ghost use Rattle.std.specs.Borrow.{sem};
 ghost use base.Fml.{Lft, Share, flft};
-ghost use Rattle.c_calls.specs.{Results.ArePutIn, Results.HasMatrix, Text.IsTooLong, Text.IsWritten};
+ghost use Rattle.c_calls.specs.{Verdicts.ArePutIn, Verdicts.HasMatrix, Text.IsTooLong, Text.IsWritten};
 ghost use Rattle.c_calls.specs.File.{AreTexts, IsRobotFor, IsSiteOfSomeFile, bytes_read};
 ghost use Rattle.c_calls.specs.Kept.{Robots, Sites, lends, opens, owned_or_null};
 ghost use Rattle.c_calls.specs.Number.{IsSiteNumber, IsWhyNoSiteNumber};
@@ -55,9 +55,9 @@ pub unsafe extern "C" fn robots_site_robot(
     status
 }
 
-/// Writes a matrix of numbers: a row for each crawler with a number for each URL, as `robots_decide` does.
-/// The crawlers are one string, and the URLs another, separated by LF. In the row of a crawler for which the
-/// file is rejected, each number is the least `i64`.
+/// Writes a matrix of numbers: a row for each crawler with a number for each URL, as
+/// `robots_verdicts_of_file` does. The crawlers are one string, and the URLs another, separated by LF. In the
+/// row of a crawler for which the file is rejected, each number is the least `i64`.
 #[unsafe(no_mangle)]
 pub unsafe extern "C" fn robots_site_matrix(
     alloc: Global,

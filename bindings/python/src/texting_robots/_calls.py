@@ -19,8 +19,8 @@ if not lib.processor_fits():
 FILE_LIMIT: Final = lib.ROBOTS_FILE_LIMIT
 """How many bytes of a file count: no more need be fetched."""
 
-NO_RESULT: Final = lib.NO_RESULT
-LAST_FAILURE: Final = NO_RESULT - lib.ROBOTS_OVERLONG_RULE
+NO_VERDICT: Final = lib.NO_VERDICT
+LAST_FAILURE: Final = NO_VERDICT - lib.ROBOTS_OVERLONG_RULE
 Body = Union["ReadableBuffer", str]
 _MAY_BE: Final = {
     "url": "a str, such as 'https://example.com/a'",
@@ -28,9 +28,9 @@ _MAY_BE: Final = {
     "user_agent": "a str, such as 'FerrisBot/1.0'",
     "urls": "several str, for example in a list",
     "agents": "several str, for example in a list",
-    "body": "bytes or another buffer, or for a Robots or a Robot a str",
+    "body": "bytes or another buffer, or for a Site or a Robot a str",
     "column": "an array of strings of Arrow without nulls, or a buffer with `ends`",
-    "results": "a buffer of 64-bit integers that can be written to, with room for each URL",
+    "verdicts": "a buffer of 64-bit integers that can be written to, with room for each URL",
     "ends": "a buffer of 64-bit integers, which don't decrease, up to the length of the URLs",
 }
 """What an argument may be, for the error about another type."""
@@ -106,12 +106,12 @@ def name_bytes(agent: str) -> bytes:
 
 
 def integers(buffer: ReadableBuffer, argument: str, kind: str) -> CData:
-    """A buffer of 64-bit integers, which can be written to if it is for results."""
+    """A buffer of 64-bit integers, which can be written to if it is for verdicts."""
     try:
         with memoryview(buffer) as view:
             fits = view.format.strip("@=<") in tuple("lqLQnN") and view.itemsize == 8 and view.c_contiguous
         if fits:
-            return ffi.from_buffer(kind, buffer, argument == "results")
+            return ffi.from_buffer(kind, buffer, argument == "verdicts")
     except (TypeError, BufferError):
         pass
     raise wrong_type(argument, buffer)
@@ -131,8 +131,8 @@ def arrow(column: object) -> tuple[CData, CData, object]:
     return ffi.cast("struct ArrowSchema *", schema), ffi.cast("struct ArrowArray *", array), kept
 
 
-def verdict_of(result: int) -> Verdict:
-    return Verdict(result >= 0, abs(result) or None)
+def verdict_of(number: int) -> Verdict:
+    return Verdict(number >= 0, abs(number) or None)
 
 
 def delay_of(status: int, microseconds: CData) -> int | None:
@@ -167,7 +167,7 @@ def check(status: int, robot: CData | None = None, url: str = "") -> None:
         return
     if status == lib.ROBOTS_OUT_OF_MEMORY:
         raise MemoryError
-    if status == lib.ROBOTS_NO_ADDRESS:
+    if status == lib.ROBOTS_NO_ROBOTS_URL:
         raise UrlError(f"{url!r} is no URL of http or https with a host, so it has no robots.txt file")
     if status == lib.ROBOTS_TOO_COSTLY:
         raise TooCostlyError("the verdict is too costly for its budget")

@@ -38,7 +38,7 @@ _CAN_NOT: Final = re.compile("unable to open|readonly|permission", re.I)
 
 
 class Record(NamedTuple):
-    """What is kept of a site: see `texting_robots.cache.Site`."""
+    """What is kept of a site: see `texting_robots.cache.KnownSite`."""
 
     address: str
     state: int

@@ -23,7 +23,7 @@ class OverlongRuleError(RobotsError):
 
 
 class TooCostlyError(RobotsError):
-    """`Robots.verdict_within` gave up, since the verdict might have cost more than its budget."""
+    """`Site.verdict_within` gave up, since the verdict might have cost more than its budget."""
 
 
 class AgentError(RobotsError, TypeError, ValueError):

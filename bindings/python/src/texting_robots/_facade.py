@@ -11,7 +11,7 @@ from ._calls import FILE_LIMIT
 from ._errors import AgentError, OverlongRuleError
 from ._names import product_token
 from ._robot import Robot
-from ._robots import Robots
+from ._robots import Site
 
 T = TypeVar("T")
 _NAMES_KEPT: Final = 1000
@@ -80,7 +80,7 @@ class _Values(Generic[T]):
             self._values.append(value)
             return b"Crawl-delay:%d" % (len(self._values) - 1)
 
-        self._robots = Robots(re.sub(_LINE % field, numbered, body))
+        self._robots = Site(re.sub(_LINE % field, numbered, body))
 
     def value(self, name: bytes) -> T | None:
         microseconds = self._robots._site.delay(name)
@@ -92,7 +92,7 @@ class File:
 
     def __init__(self, body: bytes | str) -> None:
         encoded = body.encode("utf-8", "surrogateescape") if isinstance(body, str) else body
-        self.robots = Robots(encoded)
+        self.robots = Site(encoded)
         self.body = bytes(encoded)[:FILE_LIMIT]
         self._names: dict[str, bytes] = {}
         self._kept: dict[str, Robot] = {}
@@ -145,7 +145,7 @@ class File:
         return name
 
 
-def _name_in(robots: Robots, user_agent: str) -> bytes:
+def _name_in(robots: Site, user_agent: str) -> bytes:
     """The first name in a User-Agent that a line of the file is for: with its version, or all before a slash, as for a name with a space; or
     else the product token."""
     token = product_token(user_agent)

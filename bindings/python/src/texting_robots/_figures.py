@@ -10,7 +10,7 @@ from typing import Any
 from scrapy import signals
 from twisted.internet.task import LoopingCall
 
-from .cache import Site
+from .cache import KnownSite
 
 logger = logging.getLogger(__name__)
 
@@ -25,13 +25,13 @@ class Figures:
         self._call: Any = None
         crawler.signals.connect(self._spider_opened, signals.spider_opened)
 
-    def known(self, sites: Iterable[Site]) -> None:
+    def known(self, sites: Iterable[KnownSite]) -> None:
         """Notes which of these sites fail."""
         for site in sites:
             if not site.is_failing:
-                self._outages.pop(site.address, None)
+                self._outages.pop(site.robots_url, None)
             else:
-                self._outages.setdefault(site.address, site.failing_since)
+                self._outages.setdefault(site.robots_url, site.failing_since)
 
     def write(self) -> None:
         """Writes the figures."""

@@ -38,7 +38,7 @@ def robots_url(url: str) -> str:
     address = _ADDRESSES.get(front[0]) if front else None
     if address is None:
         text = encoded(url, "url")
-        address = written(lambda *out: lib.robots_address(text, len(text), *out), 256, url)
+        address = written(lambda *out: lib.robots_url(text, len(text), *out), 256, url)
         if front:
             if len(_ADDRESSES) >= _ADDRESSES_KEPT:
                 _ADDRESSES.clear()

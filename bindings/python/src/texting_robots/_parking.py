@@ -13,7 +13,7 @@ from scrapy.utils.defer import maybe_deferred_to_future
 from twisted.internet.defer import Deferred
 
 from ._waiting import WaitingRequests
-from .cache import Site, State
+from .cache import KnownSite, State
 
 logger = logging.getLogger(__name__)
 
@@ -47,7 +47,7 @@ class _Parked:
 
     __slots__ = ("request", "site", "until", "waiter")
 
-    def __init__(self, request: Any, until: float, site: Site) -> None:
+    def __init__(self, request: Any, until: float, site: KnownSite) -> None:
         self.request, self.until, self.site = request, until, site
         self.waiter: Deferred[Outcome] = Deferred()
 
@@ -91,7 +91,7 @@ class Parking:
         row = request.meta.pop(_ROW, None)
         return None if row is None else row[1] if self._open_rows().take(row[0]) else 0.0
 
-    async def wait(self, address: str, request: Any, site: Site, until: float | None) -> tuple[Outcome, Site]:
+    async def wait(self, address: str, request: Any, site: KnownSite, until: float | None) -> tuple[Outcome, KnownSite]:
         """Waits for the site, or until the request is on disk, or has waited for as long as it may: until this time, if it has one."""
         until = until or time.time() + self._limits.seconds
         if not self._limits.seconds or site.refresh > until or self._is_given_up(address, site):
@@ -115,7 +115,7 @@ class Parking:
         outcome: Outcome = await maybe_deferred_to_future(parked.waiter)
         return outcome, parked.site
 
-    def known(self, address: str, site: Site) -> None:
+    def known(self, address: str, site: KnownSite) -> None:
         """The file was asked for: its requests go on, or wait until it is asked for again, if they may wait that long."""
         place = self._places.get(address)
         if place is None:
@@ -158,7 +158,7 @@ class Parking:
 
     # ---- the end of waiting
 
-    def _is_given_up(self, address: str, site: Site) -> bool:
+    def _is_given_up(self, address: str, site: KnownSite) -> bool:
         return not site.was_reached and (site.failures >= self._limits.tries_of_host or address in self._over)
 
     def _release(self, address: str, outcome: Outcome, until: float = float("inf")) -> None:

@@ -19,8 +19,8 @@ class Meaning(enum.Enum):
 
     - ``PARSE``: the body is the site's file.
     - ``FOLLOW``: the file is at the address in ``Location``. It counts for the site that was asked first.
-    - ``ALLOW_ALL``: there is no file. `Robots.allow_all` allows everything.
-    - ``DENY_ALL``: the file can't be reached. An earlier one is kept, or nothing is fetched, as by `Robots.deny_all`.
+    - ``ALLOW_ALL``: there is no file. `Site.allow_all` allows everything.
+    - ``DENY_ALL``: the file can't be reached. An earlier one is kept, or nothing is fetched, as by `Site.deny_all`.
     """
 
     PARSE = lib.ROBOTS_PARSE

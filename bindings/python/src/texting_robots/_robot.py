@@ -7,7 +7,7 @@ from typing import TYPE_CHECKING, Final
 
 from ._calls import (
     LAST_FAILURE,
-    NO_RESULT,
+    NO_VERDICT,
     Body,
     Verdict,
     arrow,
@@ -30,7 +30,7 @@ if TYPE_CHECKING:
 
     from ._native import CData
 
-_query: Final = lib.robot_query
+_verdict: Final = lib.robot_verdict
 _encode: Final = str.encode
 _MISFITS: Final = {
     lib.ROBOTS_INVALID_ENDS: "the ends decrease, or one is after the end of the URLs",
@@ -39,9 +39,9 @@ _MISFITS: Final = {
 
 
 class Robot:
-    """What a robots.txt file says to one crawler. It takes less memory than a `Robots`, as it keeps no file.
+    """What a robots.txt file says to one crawler. It takes less memory than a `Site`, as it keeps no file.
 
-    ``body`` and ``agent`` are those of a `Robots`, and so are the methods and their errors, but that the constructor already raises
+    ``body`` and ``agent`` are those of a `Site`, and so are the methods and their errors, but that the constructor already raises
     `OverlongRuleError`. Threads share it without a lock. It can't be pickled: keep the bytes.
     """
 
@@ -63,21 +63,21 @@ class Robot:
             text = _encode(url)
         except TypeError:
             raise wrong_type("url", url) from None
-        result = _query(self._opened, text, len(text))
-        if result >= 0:
+        number = _verdict(self._opened, text, len(text))
+        if number >= 0:
             return True
-        return result <= LAST_FAILURE and self._fails(result)
+        return number <= LAST_FAILURE and self._fails(number)
 
     def verdict(self, url: str) -> Verdict:
         """Whether the crawler may fetch the URL, and the line that decides it."""
-        return verdict_of(self._result(url))
+        return verdict_of(self._number(url))
 
     def verdict_within(self, url: str, budget: int) -> Verdict:
         """The verdict for a URL, for a file that may be hostile: before a rule that might cost more than is left of the budget, it raises
-        `TooCostlyError` (see `Robots.verdict_within`)."""
-        text, result = encoded(url, "url"), ffi.new("int64_t *")
-        check(lib.robot_query_within(self._opened, text, len(text), budget, result), self._opened)
-        return verdict_of(result[0])
+        `TooCostlyError` (see `Site.verdict_within`)."""
+        text, number = encoded(url, "url"), ffi.new("int64_t *")
+        check(lib.robot_verdict_within(self._opened, text, len(text), budget, number), self._opened)
+        return verdict_of(number[0])
 
     def cost(self, length: int) -> int:
         """A budget that suffices for any URL whose path, query and fragment, escaped, have this length."""
@@ -91,21 +91,21 @@ class Robot:
         text = joined(urls, "urls")
         if text is None:
             return [self.verdict(url) for url in urls]
-        results = ffi.new("int64_t[]", len(urls))
-        check(lib.robot_query_many(self._opened, text, len(text), results, len(urls)), self._opened)
-        numbers = ffi.unpack(results, len(urls))
+        out = ffi.new("int64_t[]", len(urls))
+        check(lib.robot_verdicts(self._opened, text, len(text), out, len(urls)), self._opened)
+        numbers = ffi.unpack(out, len(urls))
         verdicts = {number: verdict_of(number) for number in set(numbers)}
         return [verdicts[number] for number in numbers]
 
-    def decide(self, urls: ReadableBuffer | object, results: WriteableBuffer, ends: ReadableBuffer | None = None) -> None:
-        """Writes a number for each URL of a column to ``results``, such as an ``int64`` array of NumPy: 0 if no line decides, the line that
+    def verdicts_batch(self, urls: ReadableBuffer | object, verdicts: WriteableBuffer, ends: ReadableBuffer | None = None) -> None:
+        """Writes a number for each URL of a column to ``verdicts``, such as an ``int64`` array of NumPy: 0 if no line decides, the line that
         allows the URL, or minus the line that denies it. It copies no URL, and makes no object for one.
 
         ``urls`` is an array of strings of Arrow (by ``__arrow_c_array__``), or, with ``ends``, a buffer in which the URLs follow one
         another, in UTF-8: each ends at one of these places, and begins at the end of the one before. Nobody may write to a buffer
         meanwhile.
         """
-        room, opened = integers(results, "results", "int64_t[]"), self._opened
+        room, opened = integers(verdicts, "verdicts", "int64_t[]"), self._opened
         if ends is None:
             schema, array, _kept = arrow(urls)
             count = lib.array_length(schema, array)
@@ -119,11 +119,11 @@ class Robot:
             except (TypeError, BufferError):
                 raise wrong_type("column", urls, "urls") from None
         if count > len(room):
-            raise ValueError("results has less room than there are URLs")
+            raise ValueError("verdicts has less room than there are URLs")
         if ends is None:
-            status = lib.robot_query_array(opened, schema, array, room)
+            status = lib.robot_verdicts_array(opened, schema, array, room)
         else:
-            status = lib.robot_query_batch(opened, text, len(text), places, count, room)
+            status = lib.robot_verdicts_batch(opened, text, len(text), places, count, room)
         if status in _MISFITS:
             raise ValueError(_MISFITS[status])
         check(status, opened)
@@ -141,21 +141,21 @@ class Robot:
         return delay_of(lib.robot_delay(self._opened, microseconds), microseconds)
 
     @property
-    def size(self) -> int:
+    def memory(self) -> int:
         """How many bytes of memory it takes."""
-        return lib.robot_bytes(self._opened)
+        return lib.robot_memory(self._opened)
 
-    def _result(self, url: str) -> int:
+    def _number(self, url: str) -> int:
         """0 or the line that allows the URL, or minus the line that denies it."""
         try:
             text = _encode(url)
         except TypeError:
             raise wrong_type("url", url) from None
-        result = _query(self._opened, text, len(text))
-        if result <= LAST_FAILURE:
-            self._fails(result)
-        return result
+        number = _verdict(self._opened, text, len(text))
+        if number <= LAST_FAILURE:
+            self._fails(number)
+        return number
 
-    def _fails(self, result: int) -> bool:
-        check(NO_RESULT - result, self._opened)
+    def _fails(self, number: int) -> bool:
+        check(NO_VERDICT - number, self._opened)
         return False

@@ -7,7 +7,7 @@ from typing import TYPE_CHECKING, Final
 
 from ._calls import (
     LAST_FAILURE,
-    NO_RESULT,
+    NO_VERDICT,
     Body,
     Verdict,
     check,
@@ -32,13 +32,13 @@ if TYPE_CHECKING:
     from ._native import CData
 
 _AGENTS_KEPT: Final = 1000
-"""For so many agents a Robots keeps what the file says to them, so that it doesn't grow forever."""
+"""For so many agents a Site keeps what the file says to them, so that it doesn't grow forever."""
 
-_query: Final = lib.robot_query
+_verdict: Final = lib.robot_verdict
 _encode: Final = str.encode
 
 
-class Robots:
+class Site:
     """A robots.txt file. When one crawler is asked about, it is parsed for that one alone, and from a second one on once for all.
 
     ``body`` is the file: preferably its bytes as received, which needn't be UTF-8, in a ``bytes`` or any other buffer, which is copied. A
@@ -75,7 +75,7 @@ class Robots:
 
     def allowed(self, url: str, agent: str) -> bool:
         """Whether the crawler may fetch the URL."""
-        # the lookup of its robot and that robot's query, written out to save two calls; most callers have one `str` for their agent
+        # the lookup of its robot and that robot's verdict, written out to save two calls; most callers have one `str` for their agent
         newest, opened = self._site.newest
         if newest is not agent:
             site = self._site
@@ -85,10 +85,10 @@ class Robots:
             text = _encode(url)
         except TypeError:
             raise wrong_type("url", url) from None
-        result = _query(opened, text, len(text))
-        if result >= 0:
+        number = _verdict(opened, text, len(text))
+        if number >= 0:
             return True
-        return result <= LAST_FAILURE and self._site.robot(agent)._fails(result)
+        return number <= LAST_FAILURE and self._site.robot(agent)._fails(number)
 
     can_fetch = allowed
     """Protego's name. (The one of urllib.robotparser has the agent first.)"""
@@ -121,10 +121,10 @@ class Robots:
         if urls_text is None or agents_text is None:
             return [[self._verdict_or_none(url, agent) for url in urls] for agent in agents]
         width, length = len(urls), len(urls) * len(agents)
-        results = ffi.new("int64_t[]", length)
-        check(lib.site_matrix(self._site.opened, agents_text, len(agents_text), urls_text, len(urls_text), results, length))
-        numbers = ffi.unpack(results, length)
-        verdicts = {number: None if number == NO_RESULT else verdict_of(number) for number in set(numbers)}
+        out = ffi.new("int64_t[]", length)
+        check(lib.site_matrix(self._site.opened, agents_text, len(agents_text), urls_text, len(urls_text), out, length))
+        numbers = ffi.unpack(out, length)
+        verdicts = {number: None if number == NO_VERDICT else verdict_of(number) for number in set(numbers)}
         return [[verdicts[number] for number in numbers[start : start + width]] for start in range(0, length, width)]
 
     def delay(self, agent: str) -> float | None:
@@ -154,12 +154,12 @@ class Robots:
         return written(lambda *out: lib.site_agents(site, *out), 256).split("\n")[:-1]
 
     @property
-    def size(self) -> int:
+    def memory(self) -> int:
         """How many bytes of memory it takes: the file, and the rules for the agents that were asked about; with a second agent the file once
         more, and what its lines are."""
         site = self._site
-        kept = 0 if site.kept is None else lib.site_bytes(site.kept)
-        return len(site.body) + kept + sum(robot.size for robot in list(site.robots.values()))
+        kept = 0 if site.kept is None else lib.site_memory(site.kept)
+        return len(site.body) + kept + sum(robot.memory for robot in list(site.robots.values()))
 
     def is_named(self, agent: str) -> bool:
         """Whether a user-agent line names the crawler. All crawlers that none names have the rules and the delay of ``*``."""
@@ -175,6 +175,9 @@ class Robots:
         return f"<{type(self).__name__} of {len(self._site.body)} bytes>"
 
 
+Robots = Site
+"""Another name of `Site`, also in older pickles."""
+
 _NONE: Final = (object(), ffi.NULL)
 
 
@@ -182,7 +185,7 @@ class _Site:
     """A file, and what it says to each agent that was asked about. C reads it for the first agent alone, and for all from the second one on,
     so that for one crawler no more is kept than its bytes and the robot. C's part is closed when nothing refers to it.
 
-    It is pickled as its bytes, and so a `Robots` as any object is, with all its attributes.
+    It is pickled as its bytes, and so a `Site` as any object is, with all its attributes.
     """
 
     __slots__ = ("body", "kept", "newest", "robots")
@@ -239,9 +242,9 @@ class _Site:
 
 
 class Matrix:
-    """The same URLs and agents for many files: what `Robots.matrix` decides, in one call of the library for each file.
+    """The same URLs and agents for many files: what `Site.matrix` decides, in one call of the library for each file.
 
-    Threads share it without a lock. The constructor raises what `Robots.matrix` raises, and ValueError without URLs
+    Threads share it without a lock. The constructor raises what `Site.matrix` raises, and ValueError without URLs
     or agents, or for a line feed in one.
     """
 
@@ -264,10 +267,10 @@ class Matrix:
         if isinstance(body, str):
             raise wrong_type("body", body)
         file, length = file_bytes(body), len(self._pairs)
-        results = ffi.new("int64_t[]", length)
-        check(lib.file_matrix(self._agents, len(self._agents), file, len(file), self._urls, len(self._urls), results, length))
+        out = ffi.new("int64_t[]", length)
+        check(lib.file_matrix(self._agents, len(self._agents), file, len(file), self._urls, len(self._urls), out, length))
         return [
-            (agent, url, None if result == NO_RESULT else -result)
-            for (agent, url), result in zip(self._pairs, ffi.unpack(results, length))
-            if result < 0
+            (agent, url, None if number == NO_VERDICT else -number)
+            for (agent, url), number in zip(self._pairs, ffi.unpack(out, length))
+            if number < 0
         ]

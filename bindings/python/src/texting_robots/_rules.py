@@ -5,7 +5,7 @@ from __future__ import annotations
 from collections.abc import Iterable, Sequence
 from typing import Final, NamedTuple, Union
 
-from . import OverlongRuleError, Robots, TooCostlyError, product_token
+from . import OverlongRuleError, Site, TooCostlyError, product_token
 from ._robot import Robot
 
 COST_LIMIT: Final = 20_000_000
@@ -23,10 +23,10 @@ _RULES_BYTES: Final = 800  # of Python's objects for a file, and
 _NAME_BYTES: Final = 230  # for each crawler that was asked about: both measured
 
 
-class Decision(NamedTuple):
+class CacheVerdict(NamedTuple):
     """Whether a crawler may fetch a URL, and the line that decides it. If there is a problem, the URL is denied because of it.
 
-    It is true if the crawler may fetch the URL, and false if not. The problem is ``"unreachable"`` if the file can't be fetched now, ``"the
+    It is true only if the crawler may fetch the URL. The problem is ``"unreachable"`` if the file can't be fetched now, ``"the
     rule in line 2 is too long: .."``, where ``line`` is that line, ``"a verdict may take too long"`` or ``"out of memory"``.
     """
 
@@ -38,44 +38,47 @@ class Decision(NamedTuple):
         return self.allowed
 
 
-OUT_OF_MEMORY: Final = Decision(False, None, "out of memory")  # made in advance, as it can't be made without memory
-_TOO_COSTLY: Final = Decision(False, None, "a verdict may take too long")
+Decision = CacheVerdict
+"""Another name of `CacheVerdict`, also in older pickles."""
+
+OUT_OF_MEMORY: Final = CacheVerdict(False, None, "out of memory")  # made in advance, as it can't be made without memory
+_TOO_COSTLY: Final = CacheVerdict(False, None, "a verdict may take too long")
 
 
-_DECISIONS: Final[dict[int, Decision]] = {}  # those that were made, by what the library returns
-_DECISIONS_KEPT: Final = 10_000
+_VERDICTS: Final[dict[int, CacheVerdict]] = {}  # those that were made, by what the library returns
+_VERDICTS_KEPT: Final = 10_000
 
 
-def _decision(result: int) -> Decision:
-    decision = Decision(result >= 0, abs(result) or None)
-    if len(_DECISIONS) < _DECISIONS_KEPT:
-        _DECISIONS[result] = decision
-    return decision
+def _verdict(number: int) -> CacheVerdict:
+    verdict = CacheVerdict(number >= 0, abs(number) or None)
+    if len(_VERDICTS) < _VERDICTS_KEPT:
+        _VERDICTS[number] = verdict
+    return verdict
 
 
 class Rules:
     """The rules of a file, for crawlers by their names."""
 
-    __slots__ = ("_known", "_limit", "_robots", "learned")
+    __slots__ = ("_file", "_known", "_limit", "learned")
 
     def __init__(self, body: bytes, cost_limit: int = COST_LIMIT) -> None:
-        self._robots = Robots(body)
+        self._file = Site(body)
         self._limit = cost_limit
         self.learned = 0
-        """How often another crawler was asked about, as that changes the size."""
+        """How often another crawler was asked about, as that changes the memory."""
         self._known: dict[str | tuple[str, ...], tuple[Robot, bool, float]] = {}
 
-    def decide(self, url: str, agents: Agents) -> Decision:
+    def verdict(self, url: str, agents: Agents) -> CacheVerdict:
         """Whether the crawler with these names may fetch the URL."""
         try:
             robot, is_costly, _ = (type(agents) is str and self._known.get(agents)) or self._learned(agents)
             if is_costly or len(url) > _URL_CHARACTERS:
-                return Decision(*robot.verdict_within(url, self._limit))
-            result = robot._result(url)
-            decision = _DECISIONS.get(result)
-            return _decision(result) if decision is None else decision
+                return CacheVerdict(*robot.verdict_within(url, self._limit))
+            number = robot._number(url)
+            verdict = _VERDICTS.get(number)
+            return _verdict(number) if verdict is None else verdict
         except OverlongRuleError as error:
-            return Decision(False, error.line, str(error))
+            return CacheVerdict(False, error.line, str(error))
         except TooCostlyError:
             return _TOO_COSTLY
         except MemoryError:
@@ -86,24 +89,24 @@ class Rules:
         try:
             return ((type(agents) is str and self._known.get(agents)) or self._learned(agents))[2]
         except OverlongRuleError:
-            return self._robots.delay(self._token(names_of(agents))) or 0.0
+            return self._file.delay(self._token(names_of(agents))) or 0.0
 
     @property
     def sitemaps(self) -> list[str]:
         """The sitemaps, as the file has them."""
-        return self._robots.sitemaps
+        return self._file.sitemaps
 
     @property
-    def size(self) -> int:
+    def memory(self) -> int:
         """How many bytes of memory the file takes, with a sixteenth for what is lost between allocations. It grows with each crawler that is asked
         about."""
-        size = self._robots.size
-        return size + size // 16 + _RULES_BYTES + len(self._known) * _NAME_BYTES
+        memory = self._file.memory
+        return memory + memory // 16 + _RULES_BYTES + len(self._known) * _NAME_BYTES
 
     def _token(self, names: tuple[str, ...]) -> str:
         """The product token that counts."""
         tokens = [product_token(name) for name in names]
-        return tokens[0] if len(tokens) == 1 else next(filter(self._robots.is_named, tokens), "*")
+        return tokens[0] if len(tokens) == 1 else next(filter(self._file.is_named, tokens), "*")
 
     def _learned(self, agents: Agents) -> tuple[Robot, bool, float]:
         """What the file says to a crawler, which is kept; whether a verdict may take too long; and the delay."""
@@ -111,7 +114,7 @@ class Rules:
         key: str | tuple[str, ...] = names[0] if len(names) == 1 else names
         known = self._known.get(key)
         if not known:
-            site, token = self._robots._site, self._token(names)
+            site, token = self._file._site, self._token(names)
             before, robot = site.kept, site.robot(token)
             if len(self._known) >= _NAMES_KEPT or site.kept is not before:
                 self._known.clear()  # of the second crawler on, all share what C has read

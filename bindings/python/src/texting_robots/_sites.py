@@ -35,54 +35,55 @@ class Action(enum.Enum):
     WAIT = "wait"
 
 
-class Site:
+class KnownSite:
     """What is known of a site.
 
-    ``address`` is that of its robots.txt file, and ``state`` is what is known. Until ``expires`` the file is in force, and from ``refresh``
-    on it is fetched again. ``failing_since`` is when its server failed first, if it has failed ever since, or else 0.0, and ``failures`` how
-    often it has failed since then; as long as it fails, a file that it gave before stays in force. All times are seconds since 1970.
-    ``was_reached`` is whether there was ever a connection to its server.
+    ``robots_url`` is the address of its robots.txt file, and ``state`` is what is known. Until ``expires`` the file is in force, and from
+    ``refresh`` on it is fetched again. ``failing_since`` is when its server failed first, if it has failed ever since, or else 0.0, and
+    ``failures`` how often it has failed since then; as long as it fails, a file that it gave before stays in force. All times are seconds
+    since 1970. ``was_reached`` is whether there was ever a connection to its server.
 
     The other attributes are for the cache: ``packed`` is the file, compressed, ``source`` the address that it came from at last, after
-    redirects, and ``etag`` its version there; ``rules`` is the parsed file, as long as there is room for it, and ``size`` how many bytes that
-    takes; ``longest_delay`` is the longest delay of the crawlers that have been asked about. Sitemaps come by the cache's ``found``.
+    redirects, and ``etag`` its version there; ``rules`` is the parsed file, as long as there is room for it, and ``rules_memory`` how many
+    bytes that takes; ``longest_delay`` is the longest delay of the crawlers that have been asked about. Sitemaps come by the cache's
+    ``found``.
     """
 
     __slots__ = (
-        "__weakref__", "address", "etag", "expires", "failing_since", "failures", "longest_delay", "packed", "refresh", "rules", "size",
-        "source", "state", "was_reached",
+        "__weakref__", "etag", "expires", "failing_since", "failures", "longest_delay", "packed", "refresh", "robots_url", "rules",
+        "rules_memory", "source", "state", "was_reached",
     )  # fmt: skip
 
-    def __init__(self, address: str, state: State, expires: float, refresh: float) -> None:
-        self.address, self.state, self.expires, self.refresh = address, state, expires, refresh
+    def __init__(self, robots_url: str, state: State, expires: float, refresh: float) -> None:
+        self.robots_url, self.state, self.expires, self.refresh = robots_url, state, expires, refresh
         self.failing_since, self.failures, self.was_reached = 0.0, 0, True
-        self.source, self.etag = address, ""  # where the file was at last, and its version there
+        self.source, self.etag = robots_url, ""  # where the file was at last, and its version there
         self.packed = b""  # the file, compressed
         self.rules: Rules | None = None  # the file, parsed, as long as there is room
-        self.size = 0  # of the rules
+        self.rules_memory = 0
         self.longest_delay = 0.0  # of the crawlers that were asked about
 
     @classmethod
-    def of(cls, record: Record) -> Site:
+    def of(cls, record: Record) -> KnownSite:
         """The site that was kept on disk."""
         site = cls(record.address, State(record.state), record.expires, record.refresh)
         site.failing_since, site.failures, site.was_reached = record.failing_since, record.failures, bool(record.was_reached)
-        site.source = site.address if record.source == site.address else record.source
+        site.source = site.robots_url if record.source == site.robots_url else record.source
         site.etag, site.packed = record.etag, record.packed
         return site
 
     def record(self) -> Record:
         """What is kept of it on disk."""
         return Record(
-            self.address, self.state.value, self.expires, self.refresh, self.failing_since, self.failures, self.was_reached, self.source,
+            self.robots_url, self.state.value, self.expires, self.refresh, self.failing_since, self.failures, self.was_reached, self.source,
             self.etag, self.packed,
         )  # fmt: skip
 
-    def copy(self, address: str) -> Site:
+    def copy(self, robots_url: str) -> KnownSite:
         """The same of the site with this address. The rules stay what they are."""
-        site = Site.of(self.record()._replace(address=address))
-        if address == self.address:
-            site.rules, site.size, site.longest_delay = self.rules, self.size, self.longest_delay
+        site = KnownSite.of(self.record()._replace(address=robots_url))
+        if robots_url == self.robots_url:
+            site.rules, site.rules_memory, site.longest_delay = self.rules, self.rules_memory, self.longest_delay
         return site
 
     @property
@@ -97,10 +98,10 @@ class Site:
     @property
     def memory(self) -> int:
         """How many bytes of memory it takes without the rules."""
-        return _SITE_BYTES + len(self.packed) + len(self.etag) + (0 if self.source is self.address else len(self.source))
+        return _SITE_BYTES + len(self.packed) + len(self.etag) + (0 if self.source is self.robots_url else len(self.source))
 
     def __repr__(self) -> str:
-        return f"<{type(self).__name__} {self.address}: {self.state.name}>"
+        return f"<{type(self).__name__} {self.robots_url}: {self.state.name}>"
 
 
 class Fetch:
@@ -124,8 +125,8 @@ class Look(NamedTuple):
     """
 
     action: Action
-    address: str
-    site: Site | None = None
+    robots_url: str
+    site: KnownSite | None = None
     fetch: Fetch | None = None
     again: float = 0.0
 
@@ -137,7 +138,7 @@ class Step(NamedTuple):
     last request waits for one that was given out for another site, to whose file it was redirected.
     """
 
-    known: dict[str, Site]
+    known: dict[str, KnownSite]
     fetch: Fetch | None
 
 
@@ -150,5 +151,5 @@ class Flight:
     def __init__(self, since: float, until: float) -> None:
         self.since, self.until = since, until
         self.redirects: dict[str, int] = {}
-        self.before: dict[str, Site | None] = {}
+        self.before: dict[str, KnownSite | None] = {}
         self.reached = _NONE

@@ -47,7 +47,7 @@ from weakref import WeakValueDictionary
 from . import AgentError, robots_url
 from ._responses import reason_of
 from ._rules import names_of
-from .cache import Agents, Decision, Fetch, Headers, RobotsCache, Site, State, Step
+from .cache import Agents, CacheVerdict, Fetch, Headers, KnownSite, RobotsCache, State, Step
 
 __all__ = ["AsyncRobots", "Response"]
 
@@ -118,15 +118,15 @@ class AsyncRobots:
         self._turns: WeakValueDictionary[str, asyncio.Lock] = WeakValueDictionary()  # of sites for which calls wait
         self._mistakes: set[type[Exception]] = set()  # those that were logged with their traceback
 
-    async def may(self, url: str) -> Decision:
-        """Whether the crawler may fetch a URL, as soon as it may. The `texting_robots.cache.Decision` is true if so.
+    async def may(self, url: str) -> CacheVerdict:
+        """Whether the crawler may fetch a URL, as soon as it may. The `texting_robots.cache.CacheVerdict` is true only then.
 
-        The call waits for the site's robots.txt file, and then for its turn: between two calls for a site that return a true decision, there
+        The call waits for the site's robots.txt file, and then for its turn: between two calls for a site that return a true verdict, there
         are at least as many seconds as the site's file asks for (``Crawl-delay``). There is no delay if it asks for none, and no setting for
         a shortest delay. The time that your requests take doesn't count, so requests may overlap, and neither does the request for the file.
         A call that is cancelled doesn't use a turn.
 
-        A false decision has the ``line`` that denies the URL, or a ``problem``:
+        A false verdict has the ``line`` that denies the URL, or a ``problem``:
 
         - ``"unreachable"``: the file can't be fetched now, so nothing may be. Until ``(await robots.site(url)).refresh``, in seconds since
           1970, calls return this at once, without a request.
@@ -139,16 +139,16 @@ class AsyncRobots:
         """
         while True:
             site = await self.site(url)
-            decision = self.cache.decide(site, url, self._user_agent)
-            if decision or site.state is not State.UNREACHABLE or site.refresh > site.failing_since + self._patience:
+            verdict = self.cache.verdict(site, url, self._user_agent)
+            if verdict or site.state is not State.UNREACHABLE or site.refresh > site.failing_since + self._patience:
                 break
             await asyncio.sleep(max(0.01, site.refresh - self.cache._clock()))
-        if decision:
+        if verdict:
             await self._turn(site)
-        return decision
+        return verdict
 
-    async def site(self, url: str) -> Site:
-        """The `texting_robots.cache.Site` of a URL: what is known of it, after a request if nothing is known. One request fetches the file,
+    async def site(self, url: str) -> KnownSite:
+        """The `texting_robots.cache.KnownSite` of a URL: what is known of it, after a request if nothing is known. One request fetches the file,
         and all calls wait for it."""
         address = robots_url(url)
         while True:
@@ -162,10 +162,10 @@ class AsyncRobots:
             waiter = self._waiting.setdefault(address, asyncio.get_running_loop().create_future())
             await asyncio.wait([waiter], timeout=look.again)
 
-    async def _turn(self, site: Site) -> None:
+    async def _turn(self, site: KnownSite) -> None:
         """Waits for the calls for this site that came before, and then until the next request may go. A turn is used only then, so one that is
         cancelled isn't lost."""
-        lock = self._turns.setdefault(site.address, asyncio.Lock())
+        lock = self._turns.setdefault(site.robots_url, asyncio.Lock())
         async with lock:
             await asyncio.sleep(min(self.cache.until_next_request(site), self._longest_delay))
             self.cache.next_request(site, self._user_agent, self._longest_delay)

@@ -7,8 +7,8 @@
     (<Action.FETCH: 'fetch'>, 'https://example.com/robots.txt')
     >>> step = cache.received(look.fetch, 200, {"ETag": '"1"'}, b"User-agent: *\\nDisallow: /private/")
     >>> site = step.known["https://example.com/robots.txt"]
-    >>> cache.decide(site, "https://example.com/private/x", "FerrisBot/1.0")
-    Decision(allowed=False, line=2, problem='')
+    >>> cache.verdict(site, "https://example.com/private/x", "FerrisBot/1.0")
+    CacheVerdict(allowed=False, line=2, problem='')
 """
 
 from __future__ import annotations
@@ -22,15 +22,15 @@ from math import inf
 from typing import Final, Literal, NoReturn
 from urllib.parse import urlsplit
 
-from . import FILE_LIMIT, LIFETIME, Meaning, Robots, meaning, robots_url
+from . import FILE_LIMIT, LIFETIME, Meaning, Site, meaning, robots_url
 from ._contents import Headers, fields_of, max_age, seconds_of, target, unpacked
 from ._disk import Disk, Path
 from ._memory import Memory
-from ._rules import COST_LIMIT, OUT_OF_MEMORY, Agents, Decision, Rules
+from ._rules import COST_LIMIT, OUT_OF_MEMORY, Agents, CacheVerdict, Decision, Rules
 from ._settings import positive
-from ._sites import Action, Fetch, Flight, Look, Site, State, Step
+from ._sites import Action, Fetch, Flight, KnownSite, Look, State, Step
 
-__all__ = ["Action", "Agents", "Decision", "Fetch", "Headers", "Look", "RobotsCache", "Site", "State", "Step"]
+__all__ = ["Action", "Agents", "CacheVerdict", "Decision", "Fetch", "Headers", "KnownSite", "Look", "RobotsCache", "State", "Step"]
 
 logger = logging.getLogger(__name__)
 
@@ -43,7 +43,7 @@ _TURNS_KEPT: Final = 1000
 _LOOK_AGAIN: Final = 1.0  # seconds until another process may have the file
 _ETAG_LIMIT: Final = 200
 _FLIGHT_BYTES: Final = 610  # measured
-_CLOSED: Final = Robots.deny_all()
+_CLOSED: Final = Site.deny_all()
 
 
 class RobotsCache:
@@ -51,7 +51,7 @@ class RobotsCache:
 
     `look` says what to do for a URL. Who makes the request that it asks for gives the response to `received`, or if there was none calls
     `failed`, and goes on with the next request until there is none. One of the two has to be called for each request, whatever happens, as
-    when a task is cancelled: else the site's URLs wait, until after ``answer_within`` seconds the request counts as failed. `decide` says
+    when a task is cancelled: else the site's URLs wait, until after ``answer_within`` seconds the request counts as failed. `verdict` says
     whether a crawler may fetch a URL.
 
     A file is in force for ``lifetime`` seconds (RFC 9309 asks for at most 24 hours), or for as many as its server says if they are fewer
@@ -117,22 +117,22 @@ class RobotsCache:
         """What to do for a URL, or UrlError if it isn't one of http or https."""
         return self.at(robots_url(url))
 
-    def at(self, address: str) -> Look:
+    def at(self, robots_url: str) -> Look:
         """What to do for the site whose file has this address, which is what `texting_robots.robots_url` returned: no other text is one."""
         now = self._clock()
-        if self._exempt and urlsplit(address).hostname in self._exempt:
-            return Look(Action.USE, address, Site(address, State.NO_FILE, inf, inf))
+        if self._exempt and urlsplit(robots_url).hostname in self._exempt:
+            return Look(Action.USE, robots_url, KnownSite(robots_url, State.NO_FILE, inf, inf))
         if self._flights:
-            self._give_up(now, self._flights.get(address))
-        site = self._known(address, now)
-        flight = self._flights.get(address)
+            self._give_up(now, self._flights.get(robots_url))
+        site = self._known(robots_url, now)
+        flight = self._flights.get(robots_url)
         if flight is None:
             if site is not None and now < site.refresh:
-                return Look(Action.USE, address, site)
-            return self._due(address, site, now)
+                return Look(Action.USE, robots_url, site)
+            return self._due(robots_url, site, now)
         if site and (site.counts(now) or site.state is not State.UNREACHABLE and flight.since < site.expires):
-            return Look(Action.USE, address, site)  # the request was made in time
-        return Look(Action.WAIT, address, again=flight.until - now)
+            return Look(Action.USE, robots_url, site)  # the request was made in time
+        return Look(Action.WAIT, robots_url, again=flight.until - now)
 
     def received(self, fetch: Fetch, status: int, headers: Headers, body: bytes, is_complete: bool = True) -> Step:
         """What a response says.
@@ -144,7 +144,7 @@ class RobotsCache:
         flight, fields = fetch.flight, fields_of(headers)
         if not isinstance(body, (bytes, bytearray, memoryview)):
             raise TypeError(f"body has the type {type(body).__name__}: it has to be bytes")
-        location, known, files = target(fetch.address, fields.get("location")), dict[str, Site](), list[Site]()
+        location, known, files = target(fetch.address, fields.get("location")), dict[str, KnownSite](), list[KnownSite]()
         flight.reached = flight.reached.union(flight.redirects)
         before, lifetime = dict(flight.before), self._lifetime_of(fields)
         try:
@@ -168,7 +168,7 @@ class RobotsCache:
             known |= self.failed(fetch).known
         step = self._followed(flight, location, known) if flight.redirects else Step(known, None)
         for site in files:
-            self._tell_sitemaps(site, before[site.address])
+            self._tell_sitemaps(site, before[site.robots_url])
         return step
 
     def failed(self, fetch: Fetch, was_reached: bool = True) -> Step:
@@ -179,24 +179,24 @@ class RobotsCache:
             flight.reached = flight.reached.union(flight.redirects)
         return Step({it: self._unreachable(flight, it, None) for it in list(flight.redirects)}, None)
 
-    def decide(self, site: Site, url: str, user_agent: Agents) -> Decision:
+    def verdict(self, site: KnownSite, url: str, user_agent: Agents) -> CacheVerdict:
         """Whether a crawler may fetch a URL of the site. ``user_agent`` is its User-Agent or product token, or a list of several in order of
-        precedence: the first that the file names counts, or else ``*``. The decision is true if the crawler may fetch the URL."""
+        precedence: the first that the file names counts, or else ``*``. The verdict is true only if the crawler may fetch the URL."""
         if site.state is State.NO_FILE:
-            return Decision(True)
+            return CacheVerdict(True)
         if site.state is State.UNREACHABLE:
-            return Decision(_CLOSED.allowed(url, "*"), None, "unreachable")
+            return CacheVerdict(_CLOSED.allowed(url, "*"), None, "unreachable")
         try:
             rules = self._memory.rules(site)
             before = rules.learned
-            decision = rules.decide(url, user_agent)
+            verdict = rules.verdict(url, user_agent)
             if rules.learned != before:
                 self._memory.measure(site)
-            return decision
+            return verdict
         except MemoryError:
             return OUT_OF_MEMORY
 
-    def delay(self, site: Site, user_agent: Agents) -> float:
+    def delay(self, site: KnownSite, user_agent: Agents) -> float:
         """How many seconds a crawler waits between two requests to the site, or 0.0 if its file asks for no delay or it has no file. If several
         crawlers have been asked about, it is the longest of their delays."""
         if site.state is State.FILE:
@@ -206,24 +206,24 @@ class RobotsCache:
                 pass  # then nothing is fetched either
         return site.longest_delay
 
-    def next_request(self, site: Site, user_agent: Agents, longest: float = 60) -> float:
+    def next_request(self, site: KnownSite, user_agent: Agents, longest: float = 60) -> float:
         """In how many seconds the next request to the site may go: 0.0 if now, else as long after the one before as the file asks for, but at
         most ``longest`` seconds. The request counts as made at that time, so call this once for each request, before it.
 
         A turn can't be given back. If a task may be cancelled while it waits, let one task at a time wait for a site, for as long as
         `until_next_request` says, and call this after that."""
         now, delay = self._clock(), min(self.delay(site, user_agent), longest)
-        moment = max(now, self._turns.pop(site.address, 0.0))
+        moment = max(now, self._turns.pop(site.robots_url, 0.0))
         if len(self._turns) >= self._turns_kept:
             self._turns = {address: turn for address, turn in self._turns.items() if turn > now}
             self._turns_kept = max(_TURNS_KEPT, 2 * len(self._turns))
         if delay:
-            self._turns[site.address] = moment + delay
+            self._turns[site.robots_url] = moment + delay
         return moment - now
 
-    def until_next_request(self, site: Site) -> float:
+    def until_next_request(self, site: KnownSite) -> float:
         """In how many seconds the next request to the site may go, by the calls of `next_request` for it: 0.0 if now. It uses no turn."""
-        turn = self._turns.get(site.address)
+        turn = self._turns.get(site.robots_url)
         return 0.0 if turn is None else max(0.0, turn - self._clock())
 
     def close(self) -> None:
@@ -232,9 +232,9 @@ class RobotsCache:
             self._disk.close()
 
     @property
-    def size(self) -> int:
+    def memory(self) -> int:
         """How many bytes of memory the sites take, with the requests that have no answer yet."""
-        return self._memory.size + len(self._flights) * _FLIGHT_BYTES
+        return self._memory.taken + len(self._flights) * _FLIGHT_BYTES
 
     @property
     def in_flight(self) -> int:
@@ -259,14 +259,14 @@ class RobotsCache:
 
     # ---- requests
 
-    def _due(self, address: str, site: Site | None, now: float) -> Look:
+    def _due(self, address: str, site: KnownSite | None, now: float) -> Look:
         """What to do for a site whose file is to be asked for, unless another process does so, or has done it."""
         if self._disk:
             is_ours, record = self._disk.claim(address, now, now + self._answer_within), self._disk.get(address)
             if record and now < record.refresh:
                 if is_ours:
                     self._disk.release(address)
-                return Look(Action.USE, address, self._read(Site.of(record)))
+                return Look(Action.USE, address, self._read(KnownSite.of(record)))
             if not is_ours:
                 return Look(Action.USE, address, site) if site and site.counts(now) else Look(Action.WAIT, address, again=_LOOK_AGAIN)
         flight = Flight(now, now + self._answer_within)
@@ -287,7 +287,7 @@ class RobotsCache:
             for address in list(flight.redirects):
                 self._unreachable(flight, address, None)
 
-    def _join(self, flight: Flight, address: str, redirects: int, before: Site | None) -> None:
+    def _join(self, flight: Flight, address: str, redirects: int, before: KnownSite | None) -> None:
         flight.redirects[address], flight.before[address] = redirects, before
         self._flights[address] = flight
 
@@ -299,7 +299,7 @@ class RobotsCache:
             headers["If-None-Match"] = versions.pop()
         return Fetch(address, headers, flight)
 
-    def _followed(self, flight: Flight, address: str, known: dict[str, Site]) -> Step:
+    def _followed(self, flight: Flight, address: str, known: dict[str, KnownSite]) -> Step:
         """What comes after a redirect to this address, for the sites that are in the flight. Where the address is that of a site's file, that
         one is in it too, and what is known of it, or is on its way, counts for all of them."""
         now = self._clock()
@@ -325,9 +325,9 @@ class RobotsCache:
         self._join(flight, address, 0, site)
         return Step(known, self._fetch(address, flight))
 
-    def _settled(self, flight: Flight, site: Site) -> Site:
+    def _settled(self, flight: Flight, site: KnownSite) -> KnownSite:
         """Keeps what a flight found out of a site."""
-        del flight.redirects[site.address], flight.before[site.address], self._flights[site.address]
+        del flight.redirects[site.robots_url], flight.before[site.robots_url], self._flights[site.robots_url]
         self._memory.keep(site)
         if self._disk:
             self._disk.put(site.record(), is_last=not self._flights)
@@ -338,25 +338,25 @@ class RobotsCache:
         said = max_age(fields)
         return self._lifetime if said is None else min(self._lifetime, max(said, _LEAST_LIFETIME))
 
-    def _new(self, address: str, state: State, lifetime: float) -> Site:
+    def _new(self, address: str, state: State, lifetime: float) -> KnownSite:
         expires = self._clock() + lifetime
-        return Site(address, state, expires, expires - min(_AN_HOUR, lifetime / 2))
+        return KnownSite(address, state, expires, expires - min(_AN_HOUR, lifetime / 2))
 
-    def _with_file(self, flight: Flight, address: str, packed: bytes, source: str, etag: str, lifetime: float) -> Site:
+    def _with_file(self, flight: Flight, address: str, packed: bytes, source: str, etag: str, lifetime: float) -> KnownSite:
         site = self._new(address, State.FILE, lifetime)
         site.packed, site.source = packed, address if source == address else source
         site.etag = etag if len(etag) <= _ETAG_LIMIT and etag.isascii() and etag.isprintable() else ""
         site.rules = Rules(zlib.decompress(packed), self._cost_limit)
         return self._settled(flight, site)
 
-    def _renewed(self, flight: Flight, address: str, before: Site, lifetime: float) -> Site:
+    def _renewed(self, flight: Flight, address: str, before: KnownSite, lifetime: float) -> KnownSite:
         """A site whose file is still the one that was known before, for it or another site."""
         self._counted("not_modified")
         site, fresh = before.copy(address), self._new(address, State.FILE, lifetime)
         site.expires, site.refresh, site.failing_since, site.failures = fresh.expires, fresh.refresh, 0.0, 0
         return self._settled(flight, site)
 
-    def _unreachable(self, flight: Flight, address: str, refresh: float | None) -> Site:
+    def _unreachable(self, flight: Flight, address: str, refresh: float | None) -> KnownSite:
         """A site whose server fails: what was known of it before counts on, if it still can. It is asked again at this time at the earliest."""
         before, now = flight.before[address], self._clock()
         failures = 1 + (before.failures if before else 0)
@@ -369,7 +369,7 @@ class RobotsCache:
         elif before and before.counts(refresh):
             site = before.copy(address)
         else:
-            site = Site(address, State.UNREACHABLE, refresh, refresh)
+            site = KnownSite(address, State.UNREACHABLE, refresh, refresh)
         site.refresh, site.failures, site.failing_since = refresh, failures, (before and before.failing_since) or now
         site.was_reached = address in flight.reached or bool(before and before.was_reached)
         if now - site.failing_since >= _30_DAYS and self._after_30_days != "last file":
@@ -383,7 +383,7 @@ class RobotsCache:
         seconds = seconds_of(fields["retry-after"], now) if "retry-after" in fields else None
         return None if seconds is None else now + min(seconds if seconds > 0 else min(_FIRST_RETRY, self._retry), self._lifetime)
 
-    def _tell_sitemaps(self, site: Site, before: Site | None) -> None:
+    def _tell_sitemaps(self, site: KnownSite, before: KnownSite | None) -> None:
         """Tells of the sitemaps of a file, unless those of the file before were the same."""
         if not self._found:
             return
@@ -391,29 +391,29 @@ class RobotsCache:
             sitemaps = self._memory.rules(site).sitemaps
             old = before if sitemaps and before and before.state is State.FILE else None
             if sitemaps and not (old and (old.packed == site.packed or Rules(zlib.decompress(old.packed)).sitemaps == sitemaps)):
-                self._found(site.address, sitemaps)
+                self._found(site.robots_url, sitemaps)
         except MemoryError:
             pass
 
     # ---- what is known
 
-    def _known(self, address: str, now: float) -> Site | None:
+    def _known(self, address: str, now: float) -> KnownSite | None:
         """The site, from memory, or else from the database."""
         site = self._memory.get(address)
         if site is None and self._disk:
             self._disk.write_if_due()
             record = self._disk.get(address)
-            site = self._read(Site.of(record)) if record else None
+            site = self._read(KnownSite.of(record)) if record else None
         if site is not None:
             latest = now + self._longest  # a clock that was wrong makes no file count for longer
             if site.expires > latest or site.refresh > latest:
                 site.expires, site.refresh = min(site.expires, latest), min(site.refresh, latest)
         return site
 
-    def _read(self, site: Site) -> Site:
+    def _read(self, site: KnownSite) -> KnownSite:
         """Keeps a site that the database has."""
         self._counted("read")
-        before = self._memory.sites.get(site.address)
+        before = self._memory.sites.get(site.robots_url)
         self._memory.keep(site)
         if site.state is State.FILE:
             self._tell_sitemaps(site, before)

@@ -35,7 +35,7 @@ from ._parking import Limits, Outcome, Parking, later
 from ._responses import reason_of
 from ._rules import COST_LIMIT
 from ._settings import not_negative, positive
-from .cache import Agents, Decision, Fetch, RobotsCache, Site, State, Step
+from .cache import Agents, CacheVerdict, Fetch, KnownSite, RobotsCache, State, Step
 from .scrapy import warn_of_browser
 
 logger = logging.getLogger(__name__)
@@ -70,39 +70,39 @@ _WARNINGS_KEPT: Final = 10_000
 
 
 class Forbidden(IgnoreRequest):
-    """The robots.txt file with this ``address`` forbids the request: by the line with this number, or because of a ``problem`` if ``line`` is
-    None."""
+    """The robots.txt file at this ``robots_url`` forbids the request: by the line with this number, or because of a ``problem`` if ``line``
+    is None."""
 
-    def __init__(self, address: str, line: int | None, problem: str = "") -> None:
-        super().__init__(f"Forbidden by robots.txt: {f'line {line} of {address}' if line else f'{address}: {problem}'}")
-        self.address, self.line, self.problem = address, line, problem
+    def __init__(self, robots_url: str, line: int | None, problem: str = "") -> None:
+        super().__init__(f"Forbidden by robots.txt: {f'line {line} of {robots_url}' if line else f'{robots_url}: {problem}'}")
+        self.robots_url, self.line, self.problem = robots_url, line, problem
 
     def __reduce__(self) -> tuple[type[Forbidden], tuple[str, int | None, str]]:
-        return type(self), (self.address, self.line, self.problem)
+        return type(self), (self.robots_url, self.line, self.problem)
 
 
 class Unreachable(IgnoreRequest):
-    """The robots.txt file with this ``address`` can't be fetched, and until it can, nothing is. It is asked for again in ``seconds``: nothing
-    forbids the request itself."""
+    """The robots.txt file at this ``robots_url`` can't be fetched, and until it can, nothing is. It is asked for again in ``seconds``:
+    nothing forbids the request itself."""
 
-    def __init__(self, address: str, seconds: float) -> None:
-        super().__init__(f"{address} can't be fetched: it is asked for again in {seconds:.0f} seconds")
-        self.address, self.seconds = address, seconds
+    def __init__(self, robots_url: str, seconds: float) -> None:
+        super().__init__(f"{robots_url} can't be fetched: it is asked for again in {seconds:.0f} seconds")
+        self.robots_url, self.seconds = robots_url, seconds
 
     def __reduce__(self) -> tuple[type[Unreachable], tuple[str, float]]:
-        return type(self), (self.address, self.seconds)
+        return type(self), (self.robots_url, self.seconds)
 
 
 class Postponed(IgnoreRequest):
-    """The robots.txt file with this ``address`` can't be fetched, and the request waits on disk until it can: then it comes again. Its errback
-    isn't called for that."""
+    """The robots.txt file at this ``robots_url`` can't be fetched, and the request waits on disk until it can: then it comes again. Its
+    errback isn't called for that."""
 
-    def __init__(self, address: str) -> None:
-        super().__init__(f"{address} can't be fetched: the request waits on disk until it can")
-        self.address = address
+    def __init__(self, robots_url: str) -> None:
+        super().__init__(f"{robots_url} can't be fetched: the request waits on disk until it can")
+        self.robots_url = robots_url
 
     def __reduce__(self) -> tuple[type[Postponed], tuple[str]]:
-        return type(self), (self.address,)
+        return type(self), (self.robots_url,)
 
 
 class RobotsMiddleware:
@@ -183,7 +183,7 @@ class RobotsMiddleware:
         self._parking = Parking(crawler, _limits(settings), path, bool(job), self._ask)
         self._figures = Figures(crawler, lambda: self._parking.waiting, lambda: self._cache.in_flight)
         self._timers: dict[str, Any] = {}  # of files that are looked for again
-        self._waiting: dict[str, list[Deferred[Site]]] = {}  # for a file that is being fetched
+        self._waiting: dict[str, list[Deferred[KnownSite]]] = {}  # for a file that is being fetched
         self._paces: WeakValueDictionary[str, Pace] = WeakValueDictionary()
         self._pace_of: WeakKeyDictionary[Any, Pace] = WeakKeyDictionary()
         self._received: WeakKeyDictionary[Any, int] = WeakKeyDictionary()
@@ -226,8 +226,8 @@ class RobotsMiddleware:
         user_agent = self._names or _text(self._user_agent or request.headers.get("User-Agent") or default)
         if isinstance(user_agent, str):
             warn_of_browser(user_agent, spider)
-        decision = self._cache.decide(site, request.url, user_agent)
-        if not decision.allowed and site.state is State.UNREACHABLE:
+        verdict = self._cache.verdict(site, request.url, user_agent)
+        if not verdict and site.state is State.UNREACHABLE:
             return await self._after_outage(address, request, site, until)
         delay = self._cache.delay(site, user_agent)
         if delay > self._max_delay > 0:
@@ -235,25 +235,25 @@ class RobotsMiddleware:
         delay = min(delay, self._max_delay)
         pace.keep(delay)
         self._pace_of[request] = pace
-        if not decision.allowed:
-            self._forbid(address, request, user_agent, decision)
+        if not verdict:
+            self._forbid(address, request, user_agent, verdict)
         if delay:
             leave_shared_slot(request, address.removesuffix("/robots.txt"), self._is_by_ip, self._slots)
         return None
 
-    def _forbid(self, address: str, request: Any, user_agent: Agents, decision: Decision) -> None:
+    def _forbid(self, address: str, request: Any, user_agent: Agents, verdict: CacheVerdict) -> None:
         extra = {"spider": self._crawler.spider}
-        error = Forbidden(address, decision.line, decision.problem)
-        if decision.problem and (address, decision.problem) not in self._warned:
+        error = Forbidden(address, verdict.line, verdict.problem)
+        if verdict.problem and (address, verdict.problem) not in self._warned:
             if len(self._warned) >= _WARNINGS_KEPT:
                 self._warned.clear()
-            self._warned.add((address, decision.problem))
-            logger.warning("%s for %s: %s: it isn't fetched", address, user_agent, decision.problem, extra=extra)
+            self._warned.add((address, verdict.problem))
+            logger.warning("%s for %s: %s: it isn't fetched", address, user_agent, verdict.problem, extra=extra)
         logger.debug("%s: %s", error, request, extra=extra)
         self._count("forbidden")
         raise error
 
-    async def _after_outage(self, address: str, request: Any, site: Site, until: float | None) -> Any:
+    async def _after_outage(self, address: str, request: Any, site: KnownSite, until: float | None) -> Any:
         """The request, to be scheduled again, once its site's file can be fetched."""
         if request.callback is not NO_CALLBACK:
             outcome, site = await self._parking.wait(address, request, site, until)
@@ -272,10 +272,10 @@ class RobotsMiddleware:
 
     # ---- files
 
-    async def _site(self, address: str, request: Any) -> Site:
+    async def _site(self, address: str, request: Any) -> KnownSite:
         """The site whose file has this address. One request fetches the file, and others wait for it."""
         look = self._cache.at(address)
-        waiter: Deferred[Site] | None = None
+        waiter: Deferred[KnownSite] | None = None
         if not look.site:
             waiter = Deferred()
             self._waiting.setdefault(address, []).append(waiter)
@@ -283,7 +283,7 @@ class RobotsMiddleware:
         if look.fetch:
             deferred_from_coro(self._fetched(look.fetch, request))
         if waiter:
-            awaited: Site = await maybe_deferred_to_future(waiter)
+            awaited: KnownSite = await maybe_deferred_to_future(waiter)
             return awaited
         assert look.site
         return look.site
@@ -361,7 +361,7 @@ class RobotsMiddleware:
             if timer.active():
                 timer.cancel()
 
-    def _settle(self, known: dict[str, Site]) -> None:
+    def _settle(self, known: dict[str, KnownSite]) -> None:
         """Lets requests go on that wait for these sites."""
         for address, site in known.items():
             timer = self._timers.pop(address, None)
@@ -373,7 +373,7 @@ class RobotsMiddleware:
         if known:
             self._figures.known(known.values())
             self._crawler.stats.max_value("robotstxt/sites_max", len(self._cache))
-            self._crawler.stats.max_value("robotstxt/bytes_max", self._cache.size)
+            self._crawler.stats.max_value("robotstxt/memory_max", self._cache.memory)
 
     def _found(self, address: str, sitemaps: list[str]) -> None:
         words = {"sitemaps": sitemaps, "robots_url": address, "spider": self._crawler.spider}

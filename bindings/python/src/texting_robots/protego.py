@@ -7,7 +7,7 @@ from collections.abc import Iterator
 from typing import TYPE_CHECKING, Final
 
 from ._facade import File, RequestRate, VisitTime
-from ._robots import Robots
+from ._robots import Site
 
 if TYPE_CHECKING:
     from typing_extensions import Self
@@ -21,7 +21,7 @@ class Protego:
     """A robots.txt file with the interface of `protego.Protego`, and the verdicts of this library.
 
     A ``user_agent`` may be a whole one, of which the name at the front counts, and isn't looked for elsewhere in it: with its version, as
-    ``FerrisBot/1.0``, if a line of the file is for just that, or else the product token. ``robots`` is the same file as a `Robots`, which
+    ``FerrisBot/1.0``, if a line of the file is for just that, or else the product token. ``site`` is the same file as a `Site`, which
     says more, such as the line that decides.
     """
 
@@ -36,8 +36,8 @@ class Protego:
         return made
 
     @property
-    def robots(self) -> Robots:
-        """The file as a `Robots`."""
+    def site(self) -> Site:
+        """The file as a `Site`."""
         return self._file.robots
 
     def can_fetch(self, url: str, user_agent: str) -> bool:

@@ -13,7 +13,7 @@ from ._calls import FILE_LIMIT
 from ._contents import unpacked
 from ._facade import File
 from ._responses import Meaning, meaning
-from ._robots import Robots
+from ._robots import Site
 
 __all__ = ["RequestRate", "RobotFileParser"]
 
@@ -22,7 +22,7 @@ class RobotFileParser(UrllibParser):
     """A robots.txt file with the interface of `urllib.robotparser.RobotFileParser`, and the verdicts of this library.
 
     A ``useragent`` may be a whole one, of which the name at the front counts: with its version, as ``FerrisBot/1.0``, if a line of the file
-    is for just that, or else the product token. ``robots`` is the same file as a `Robots`, which says more, such as the line that decides.
+    is for just that, or else the product token. ``site`` is the same file as a `Site`, which says more, such as the line that decides.
     """
 
     url: str
@@ -32,8 +32,8 @@ class RobotFileParser(UrllibParser):
         self._file = File(b"")
 
     @property
-    def robots(self) -> Robots:
-        """The file as a `Robots`."""
+    def site(self) -> Site:
+        """The file as a `Site`."""
         return self._file.robots
 
     def read(self) -> None:

@@ -8,7 +8,7 @@ from typing import Any, ClassVar, Final
 from scrapy.robotstxt import RobotParser as ScrapyRobotParser
 
 from . import product_token
-from ._rules import COST_LIMIT, OUT_OF_MEMORY, Decision, Rules
+from ._rules import COST_LIMIT, OUT_OF_MEMORY, CacheVerdict, Rules
 
 logger = logging.getLogger(__name__)
 
@@ -52,10 +52,10 @@ class RobotParser(ScrapyRobotParser):
         try:
             if type(user_agent) is not type(self._agent) or user_agent != self._agent:
                 self._meet(user_agent)
-            decision = self._rules.decide(url if type(url) is str else _text(url), self._name)
-            if decision.problem:
-                self._warn_of(decision, url)
-            return decision.allowed
+            verdict = self._rules.verdict(url if type(url) is str else _text(url), self._name)
+            if verdict.problem:
+                self._warn_of(verdict, url)
+            return verdict.allowed
         except MemoryError:
             _warn(self._spider, "robots.txt for %s: out of memory: it isn't fetched", url)
             return False
@@ -70,9 +70,9 @@ class RobotParser(ScrapyRobotParser):
         return self._rules.sitemaps
 
     @property
-    def size(self) -> int:
+    def memory(self) -> int:
         """How many bytes of memory the file takes."""
-        return self._rules.size
+        return self._rules.memory
 
     def _meet(self, user_agent: str | bytes) -> None:
         """Takes another User-Agent for that of the crawler."""
@@ -80,13 +80,13 @@ class RobotParser(ScrapyRobotParser):
         warn_of_browser(self._name, self._spider)
         self._agent = user_agent if type(user_agent) in (str, bytes) else ""  # another type may have its own equality
 
-    def _warn_of(self, decision: Decision, url: str | bytes) -> None:
-        if decision is OUT_OF_MEMORY:
+    def _warn_of(self, verdict: CacheVerdict, url: str | bytes) -> None:
+        if verdict is OUT_OF_MEMORY:
             raise MemoryError
         token = product_token(self._name)
         if token not in self._warned:
             self._warned.add(token)
-            _warn(self._spider, "robots.txt for %s: %s, %s: nothing is fetched", _text(url), token, decision.problem)
+            _warn(self._spider, "robots.txt for %s: %s, %s: nothing is fetched", _text(url), token, verdict.problem)
 
 
 class _Closed(RobotParser):

@@ -1,5 +1,5 @@
 use Rattle.std.proofs.Common.{IfSome, codes, length, map, string_bytes, take}
-use Rattle.c_calls.specs.Results.{AreRows, IsRow, items_in}
+use Rattle.c_calls.specs.Verdicts.{AreRows, IsRow, items_in}
 use Rattle.c_calls.proofs.matrix.rows_of.Given as goal
 
 abbrev pub invariant-loop-agent : goal.invariant-loop-agent

@@ -1,5 +1,5 @@
 use Rattle.std.proofs.{Common.arith, Common.◌==◌, lemmas.List.Splits.length-slice_split}
-use Rattle.c_calls.specs.{Results.lf}
+use Rattle.c_calls.specs.{Verdicts.lf}
 use Rattle.c_calls.proofs.urls.count_items.Goals as goal
 
 pub returns : goal.returns

@@ -2,7 +2,7 @@ use Rattle.std.proofs.Common.{◌≡◌, ℕ, List, rules, subst}
 use Rattle.texting_robots.specs.declared.decision.Decision.{Decision}
 use Rattle.texting_robots.specs.Callers.{IsDecisionOn, PlacedRule, prepared}
 use Rattle.c_calls.proofs.NumberLemmas.{line_below, lines_fit, written_says}
-use Rattle.c_calls.proofs.urls.result_within.Goals as goal
+use Rattle.c_calls.proofs.urls.verdict_within.Goals as goal
 
 moved : (rules : List PlacedRule) (decision : Decision) (text target : List ℕ)
     → IsDecisionOn rules text decision → text ≡ target → IsDecisionOn rules target decision

@@ -1,14 +1,14 @@
 use Rattle.c_calls.proofs.Borrowing.{ℕ, [], ◌∷◌, refl, ◌$◌, ◌∵◌, ! }
 use Rattle.c_calls.proofs.Borrowing as m
 use Rattle.c_calls.specs.{Kept.Robots, File.IsRobotOfSomeFile}
-use Rattle.c_calls.specs.contracts.batch.query_many as callee
-use Rattle.c_calls.proofs.batch.query_many.Met.{met}
-use Rattle.robots_c.proofs.robots_results.Statement.{statement}
-use Rattle.robots_c.specs.contracts.robots_results as self
-use Rattle.robots_c.proofs.robots_results.Code as code
+use Rattle.c_calls.specs.contracts.batch.write_verdicts as callee
+use Rattle.c_calls.proofs.batch.write_verdicts.Met.{met}
+use Rattle.robots_c.proofs.robots_verdict_list.Statement.{statement}
+use Rattle.robots_c.specs.contracts.robots_verdict_list as self
+use Rattle.robots_c.proofs.robots_verdict_list.Code as code
 
-pub robots_results_spec : {M : Type 1} → statement M
-robots_results_spec 𝓤 𝓛 𝓜 𝓡 wired =
+pub robots_verdict_list_spec : {M : Type 1} → statement M
+robots_verdict_list_spec 𝓤 𝓛 𝓜 𝓡 wired =
     let S = self.signature in
     m.meets 𝓛 𝓜 𝓡 S (self.spec 𝓛 𝓜.mem 𝓡.returns) self.Key.name code.function (code.unfolded 𝓤 𝓛.H 𝓜 𝓡 wired)
     (λ z are.
@@ -36,5 +36,5 @@ robots_results_spec 𝓤 𝓛 𝓜 𝓡 wired =
           (λ v r good. m.lands_as ! refl refl good $ m.returns ! (m.look_at ! 0 refl) $ m.free_all ! refl $
           m.done !)),
     ))
-    (λ b o. met 𝓤 𝓛 𝓜 𝓡 (code.calls-c_calls::batch::query_many 𝓡.env wired)
+    (λ b o. met 𝓤 𝓛 𝓜 𝓡 (code.calls-c_calls::batch::write_verdicts 𝓡.env wired)
     ((κs, (q, z.0.1), tt, given_at b o, vs), tt)))

@@ -25,34 +25,34 @@ line_named (pos (suc n)) = Some (suc n)
 line_named (negsuc n) = Some (suc n)
 
 -- the rules' verdict on the match target, and the line that decides
-pub record IsResultOn (rules : List PlacedRule) (target : List ℕ) (number : ℤ) : Type 0 where
+pub record IsVerdictOn (rules : List PlacedRule) (target : List ℕ) (number : ℤ) : Type 0 where
   pub verdict : IsVerdict (unplaced rules) target (is_allowed number)
   pub deciding : IsDecidingLine rules target (line_named number)
 
-abbrev pub IsResult : List PlacedRule → List ℕ → ℤ → Type 0
-IsResult rules url number = IsResultOn rules (prepared url) number
+abbrev pub IsVerdictFor : List PlacedRule → List ℕ → ℤ → Type 0
+IsVerdictFor rules url number = IsVerdictOn rules (prepared url) number
 
-abbrev pub HasResult : List PlacedRule → List ℕ → ℤ → Type 0
-HasResult rules url number = IsUtf8 url × IsResult rules url number
+abbrev pub HasVerdict : List PlacedRule → List ℕ → ℤ → Type 0
+HasVerdict rules url number = IsUtf8 url × IsVerdictFor rules url number
 
-abbrev pub HasResults : List PlacedRule → List ℕ → List ℤ → Type 0
-HasResults rules text numbers = IsUtf8 text × AllZip (IsResult rules) (items_in text) numbers
+abbrev pub HasVerdicts : List PlacedRule → List ℕ → List ℤ → Type 0
+HasVerdicts rules text numbers = IsUtf8 text × AllZip (IsVerdictFor rules) (items_in text) numbers
 
 -- numbers with the property P are written to the start of the buffer, in order
 abbrev pub ArePutIn : (List ℤ → Type 0) → List ℤ → List ℤ → Type 0
 ArePutIn P old new = (numbers : List ℤ) × P numbers × IsPutIn old new numbers
 
--- ---- The results of many crawlers: a row for each crawler with a number for each URL
+-- ---- The verdicts of many crawlers: a row for each crawler with a number for each URL
 
 -- the number in the row of a crawler for which the site is rejected
-abbrev pub no_result : ℤ
-no_result = negsuc (2 ^ 63 - 1)
+abbrev pub no_verdict : ℤ
+no_verdict = negsuc (2 ^ 63 - 1)
 
--- the crawler's results for the match targets, in order; or the site is rejected for it, and there are none
+-- the crawler's verdicts for the match targets, in order; or the site is rejected for it, and there are none
 abbrev pub IsRow : List ℕ → List (List ℕ) → List ℕ → List ℤ → Type 0
 IsRow site targets agent row =
-    ((robot : RobotValue) × IsRobotOfFile agent site robot × AllZip (IsResultOn robot.rules) targets row)
-    ⊎ (IsFileRejected agent site × (row ≡ replicate (length targets) no_result))
+    ((robot : RobotValue) × IsRobotOfFile agent site robot × AllZip (IsVerdictOn robot.rules) targets row)
+    ⊎ (IsFileRejected agent site × (row ≡ replicate (length targets) no_verdict))
 
 abbrev pub AreRows : List ℕ → List (List ℕ) → List (List ℕ) → List ℤ → Type 0
 AreRows site targets [] numbers = numbers ≡ []

@@ -3,7 +3,7 @@ use Rattle.std.proofs.{lemmas.Int.to_z-of_z, lemmas.List.length_push, lemmas.Sli
 use Rattle.std.proofs.{lemmas.Iterator.Splits.YieldsList-from_str_split, Math.Seq.take-length}
 use Rattle.std.proofs.lemmas.Iterator.Consumers.{YieldsList-at, YieldsList-end, YieldsList-turn}
 use Rattle.c_calls.proofs.NumberLemmas.{lines_fit, one_more}
-use Rattle.c_calls.proofs.urls.results_for.Goals as goal
+use Rattle.c_calls.proofs.urls.verdicts_for.Goals as goal
 
 pub number_for-requires : goal.number_for-requires
 number_for-requires c = lines_fit _ c.requires
@@ -27,4 +27,4 @@ returns c =
     let end = YieldsList-end gives c.loop-url.yielded _ c.loop-url.yielded_by _ _ c.in-None.is
     c.next.ensures.steps in
     let all = rw (end.1, take-length) at c.loop-url.invariant in
-    record { results = all; count = AllZip-long _ _ _ all }
+    record { verdicts = all; count = AllZip-long _ _ _ all }

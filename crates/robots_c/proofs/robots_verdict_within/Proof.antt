@@ -1,13 +1,14 @@
-use Rattle.c_calls.proofs.Borrowing.{ℕ, refl, [], ◌∷◌, ◌$◌, ◌∵◌, ! }
+use Rattle.c_calls.proofs.Borrowing.{ℕ, [], ◌∷◌, refl, ◌$◌, ◌∵◌, ! }
 use Rattle.c_calls.proofs.Borrowing as m
-use Rattle.c_calls.{proofs.urls.query.Met.met, specs.Kept.Robots, specs.File.IsRobotOfSomeFile}
-use Rattle.robots_c.proofs.robots_query.Statement.{statement}
-use Rattle.c_calls.specs.contracts.urls.query as callee
-use Rattle.robots_c.specs.contracts.robots_query as self
-use Rattle.robots_c.proofs.robots_query.Code as code
+use Rattle.c_calls.specs.{Kept.Robots, File.IsRobotOfSomeFile}
+use Rattle.c_calls.specs.contracts.urls.write_verdict_within as callee
+use Rattle.c_calls.proofs.urls.write_verdict_within.Met.{met}
+use Rattle.robots_c.proofs.robots_verdict_within.Statement.{statement}
+use Rattle.robots_c.specs.contracts.robots_verdict_within as self
+use Rattle.robots_c.proofs.robots_verdict_within.Code as code
 
-pub robots_query_spec : {M : Type 1} → statement M
-robots_query_spec 𝓤 𝓛 𝓜 𝓡 wired =
+pub robots_verdict_within_spec : {M : Type 1} → statement M
+robots_verdict_within_spec 𝓤 𝓛 𝓜 𝓡 wired =
     let S = self.signature in
     m.meets 𝓛 𝓜 𝓡 S (self.spec 𝓛 𝓜.mem 𝓡.returns) self.Key.name code.function (code.unfolded 𝓤 𝓛.H 𝓜 𝓡 wired)
     (λ z are.
@@ -19,16 +20,16 @@ robots_query_spec 𝓤 𝓛 𝓜 𝓡 wired =
     (m.lasts callee.ended κs (given_at 0 0))
     (m.ensured_by callee.ended (callee.clauses 𝓛 𝓜.mem 𝓡.returns) κs (given_at 0 0) tt) _ (λ b o e.
     let ws = m.heap 𝓛 a.0 vs.0 are.0 ∷ m.lent_place are.1.0 e ∷ m.slice are.1.1.0.0
-    ∷ m.place are.1.1.1.0.0 ∷ [] in (
+    ∷ m.number are.1.1.1.0 ∷ m.place are.1.1.1.1.0.0 ∷ [] in (
       ws,
       refl,
       λ X Q given. m.enter ! _ _ _ _ _ $ m.alloc_all ! (λ l. m.pass_all ! refl (m.goods ws) $
           m.sets ! (m.local ! refl) refl (tt, tt) $
           m.sets ! (m.again ! refl) refl (tt, tt) $
           m.sets ! (m.again ! refl) refl (tt, tt) $
-          m.hands_on 𝓛 𝓜 𝓡 ! given (m.arg ! refl (m.arg ! refl (m.arg ! refl (m.arg ! refl (m.no_more !)))))
-          (λ v r good. m.lands_as ! refl refl good $
-          m.returns ! (m.look_at ! 0 refl) $ m.free_all ! refl $ m.done !)),
+          m.hands_on 𝓛 𝓜 𝓡 ! given (m.arg ! refl (m.arg ! refl (m.arg ! refl (m.arg ! refl (m.arg ! refl
+          (m.no_more !)))))) (λ v r good.
+          m.lands_as ! refl refl good $ m.returns ! (m.look_at ! 0 refl) $ m.free_all ! refl $ m.done !)),
     ))
-    (λ b o. met 𝓤 𝓛 𝓜 𝓡 (code.calls-c_calls::urls::query 𝓡.env wired)
+    (λ b o. met 𝓤 𝓛 𝓜 𝓡 (code.calls-c_calls::urls::write_verdict_within 𝓡.env wired)
     ((κs, (q, z.0.1), tt, given_at b o, vs), tt)))

@@ -1,8 +1,0 @@
-use Rattle.std.proofs.Common.{map, string_bytes, take}
-use Rattle.std.specs.List.{AllZip}
-use Rattle.c_calls.specs.Results.{IsResultOn}
-use Rattle.c_calls.proofs.matrix.results_on.Given as goal
-
-abbrev pub invariant-loop-target : goal.invariant-loop-target
-invariant-loop-target l =
-    AllZip (IsResultOn l.robot.rules) (map string_bytes (take l.target-index l.targets)) l.row.items

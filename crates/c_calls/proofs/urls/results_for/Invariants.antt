@@ -1,8 +1,0 @@
-use Rattle.std.proofs.Common.{length, take}
-use Rattle.std.specs.List.{AllZip}
-use Rattle.c_calls.specs.Results.{IsResult, items_in}
-use Rattle.c_calls.proofs.urls.results_for.Given as goal
-
-abbrev pub invariant-loop-url : goal.invariant-loop-url
-invariant-loop-url l =
-    AllZip (IsResult l.robot.rules) (take (length l.yielded) (items_in l.fn.urls)) l.numbers.items
