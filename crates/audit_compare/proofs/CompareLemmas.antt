@@ -1,20 +1,20 @@
 -- What a comparison finds: the verdicts by the same rules.
 use Rattle.std.proofs.Common.{◌≡◌, ◌∙◌, ◌↔◌, ℕ, zero, suc, Bool, true, false, List, [], ◌∷◌, ◌++◌, Contains}
-use Rattle.std.proofs.Common.{ap, arith, codes, not, refl, subst, ◌==◌, if◌then◌else◌, length, map, sym}
-use Rattle.std.proofs.Common.{◌<◌, drop}
-use Rattle.std.proofs.Math.{Seq.drop-nil}
-use Rattle.std.proofs.lemmas.{Bool.and_parts, Grind.common_steps, Slice.Eq.bytes_eq-Decides}
-use Rattle.std.proofs.lemmas.List.{Folds.Any-from_list_any}
+use Rattle.std.proofs.Common.{ap, arith, codes, not, refl, subst, ◌==◌, if◌then◌else◌, length, map, sym, ◌<◌}
+use Rattle.std.proofs.Common.{drop}
+use Rattle.std.proofs.Math.Seq.{drop-nil}
+use Rattle.std.proofs.lemmas.{Bool.and_parts, Grind.common_steps}
+use Rattle.std.proofs.lemmas.Slice.Eq.{bytes_eq-Decides}
+use Rattle.std.proofs.lemmas.List.Folds.{Any-from_list_any}
 use Rattle.texting_robots.specs.Callers.{IsDenied, IsVerdict, LineValue, PlacedRule, Rule, placed_rules}
 use Rattle.texting_robots.specs.Callers.{label_by_value, rules_for, unplaced}
 use Rattle.texting_robots.specs.declared.labels.LabeledLine.{LabeledLine}
 use Rattle.robots_rules.specs.Same.{HaveSameVerdicts}
-use Rattle.robots_warnings.specs.{File.lines_of}
-use Rattle.audit_core.specs.{Audit.VerdictValue}
-use Rattle.audit_core.proofs.{AuditLemmas.nil_if_empty}
+use Rattle.robots_warnings.specs.File.{lines_of}
+use Rattle.audit_core.specs.Audit.{VerdictValue}
+use Rattle.audit_core.proofs.AuditLemmas.{nil_if_empty}
 use Rattle.audit_compare.specs.declared.compared.{Compared.Compared, RuleChanges.RuleChanges}
-use Rattle.audit_compare.specs.Compare.{AreChanges, IsCompared, are_none, changes_in, has_rule}
-use Rattle.audit_compare.specs.Compare.{is_same_rule}
+use Rattle.audit_compare.specs.Compare.{AreChanges, IsCompared, are_none, changes_in, has_rule, is_same_rule}
 use Rattle.audit_compare.specs.Compare.{is_unchanged, rules_lacked}
 
 abbrev Includes : List Rule → List Rule → Type 0

@@ -1,27 +1,26 @@
 -- How an audit is built: crawlers, rows and lists of lines.
 use Rattle.std.proofs.Common.{◌≡◌, ℕ, ◌||◌, Bool, true, false, List, [], ◌∷◌, ◌++◌, ap, bytes_eq, not, refl}
-use Rattle.std.proofs.Common.{if◌then◌else◌, subst, sym, ⊎_elim, ◌∙◌, ◌+◌, ◌<◌, ◌==◌, arith, drop}
-use Rattle.std.proofs.Common.{length, map, slice_index_or, None, Option, take}
-use Rattle.std.specs.{BTreeSet.BTreeSet, List.AllZip}
-use Rattle.std.specs.Str.{is_utf8, str_to_ascii_lowercase}
-use Rattle.std.proofs.Math.{Bool.or-false}
-use Rattle.std.proofs.lemmas.Bool.{cases_Bool, Decides.Decides-eqb}
-use Rattle.std.proofs.lemmas.{Slice.Eq.bytes_eq-Decides, List.Elements.filter_map-append}
+use Rattle.std.proofs.Common.{if◌then◌else◌, subst, sym, ⊎_elim, ◌∙◌, ◌+◌, ◌<◌, ◌==◌, arith, drop, length}
+use Rattle.std.proofs.Common.{map, slice_index_or, None, Option, take}
+use Rattle.std.specs.{BTreeSet.BTreeSet, List.AllZip, Str.is_utf8, Str.str_to_ascii_lowercase}
+use Rattle.std.proofs.Math.Bool.{or-false}
+use Rattle.std.proofs.lemmas.Bool.{cases_Bool}
 use Rattle.std.proofs.lemmas.List.{append-nil, drop_more, map-append, take_more}
-use Rattle.texting_robots.specs.Callers.{label_by_value, sitemaps_in, IsDelayFor, placed_rules}
-use Rattle.texting_robots.specs.Callers.{AnswerAlike, IsRobotWithoutSitemaps, PlacedRule, RobotValue}
-use Rattle.texting_robots.specs.Callers.{file_limit}
+use Rattle.std.proofs.lemmas.Bool.Decides.{Decides-eqb}
+use Rattle.std.proofs.lemmas.Slice.Eq.{bytes_eq-Decides}
+use Rattle.std.proofs.lemmas.List.Elements.{filter_map-append}
+use Rattle.texting_robots.specs.Callers.{label_by_value, sitemaps_in, IsDelayFor, placed_rules, AnswerAlike}
+use Rattle.texting_robots.specs.Callers.{IsRobotWithoutSitemaps, PlacedRule, RobotValue, file_limit}
 use Rattle.texting_robots.specs.Callers.{UserAgent, by_value, HasLines, delay_for, lines_read}
 use Rattle.texting_robots.specs.{Agents.is_among, Executable.sitemap_in}
-use Rattle.texting_robots.specs.declared.labels.{LabeledLine.LabeledLine}
+use Rattle.texting_robots.specs.declared.labels.LabeledLine.{LabeledLine}
 use Rattle.robots_warnings.specs.Internal.Names.{AddsName, Key}
 use Rattle.audit_core.specs.Internal.Agents.{AddsAgent, HasAgents, has_lowered}
-use Rattle.robots_warnings.proofs.{ClosedLemmas.any_last}
-use Rattle.robots_warnings.specs.{File.lines_of}
-use Rattle.audit_core.specs.Audit.{IsRuling, IsVerdictOn, VerdictValue}
+use Rattle.robots_warnings.proofs.ClosedLemmas.{any_last}
+use Rattle.robots_warnings.specs.File.{lines_of}
+use Rattle.audit_core.specs.{Audit.IsRuling, Audit.IsVerdictOn, Audit.VerdictValue, Target.asked_target}
 use Rattle.texting_robots.proofs.Shared.{delay_is_computed, answer_as_placed, lines_are_read, lines_satisfy}
 use Rattle.texting_robots.proofs.Shared.{read_robot}
-use Rattle.audit_core.specs.{Target.asked_target}
 
 absorbed : (names : List (List ℕ)) (name key : List ℕ) → is_among name names ≡ true
     → (has_lowered key names || bytes_eq (str_to_ascii_lowercase name) key) ≡ has_lowered key names

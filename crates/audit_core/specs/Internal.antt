@@ -4,11 +4,11 @@ pub mod Views
 use Rattle.std.specs.Prelude.{◌≡◌, ◌++◌, ◌||◌, ℕ, All, Bool, true, Contains, List, flat_map, take}
 use Rattle.texting_robots.specs.Callers.{IsFirstOverlong, IsRobotWithoutSitemaps, Label, file_limit}
 use Rattle.texting_robots.specs.Callers.{lines_read, placed_rules}
-use Rattle.robots_warnings.specs.{Conflicts.is_empty_at, Means.is_style, Message.WarningValue}
 use Rattle.robots_warnings.specs.Warnings.{HasClosed, HasOverruling, url_warnings}
+use Rattle.robots_warnings.specs.{Conflicts.is_empty_at, Means.is_style, Message.WarningValue}
 use Rattle.audit_core.specs.{Audit.IsSo, Together.is_needless, Together.needless_line}
-use Rattle.audit_core.specs.declared.audit.Crawler.{Crawler}
-use Rattle.audit_core.specs.declared.audit.Reading.{Reading, TheVariants.Accepted, TheVariants.Rejected}
+use Rattle.audit_core.specs.declared.audit.{Crawler.Crawler, Reading.Reading}
+use Rattle.audit_core.specs.declared.audit.Reading.TheVariants.{Accepted, Rejected}
 
 -- the crawler's robot for the file, without sitemaps, or the line of the crawler's first overlong rule
 abbrev pub IsReading : List ℕ → List ℕ → Reading → Type 0

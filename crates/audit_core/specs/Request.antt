@@ -1,7 +1,7 @@
 -- What a run is requested to do.
 use Rattle.std.specs.Prelude.{ℕ, Bool, List, Option, map, option_map}
-use Rattle.audit_core.specs.{declared.request.Request.Request, declared.request.Format.Format}
-use Rattle.safe_output.specs.declared.level.{Level.Level}
+use Rattle.audit_core.specs.declared.request.{Request.Request, Format.Format}
+use Rattle.safe_output.specs.declared.level.Level.{Level}
 
 -- what a report states of a request: the crawler, if the report is about a single one; the crawlers, where an
 -- empty list means `*` and each that the file names; the level of `--strict`; the names of the warnings that

@@ -2,22 +2,22 @@
 use Rattle.std.proofs.Common.{◌≡◌, ◌≢◌, ℕ, ◌==◌, Bool, true, false, List, [], ◌∷◌, Option, Some, None, arith}
 use Rattle.std.proofs.Common.{◌∙◌, ap, length, map, not, refl, subst, sym, take}
 use Rattle.std.specs.{Borrow.Bor, Prelude.filter}
-use Rattle.std.proofs.lemmas.Bool.{false≢true, not-false, or_parts, Decides.nat_tests}
+use Rattle.std.proofs.lemmas.Bool.{false≢true, not-false, or_parts}
+use Rattle.std.proofs.lemmas.Bool.Decides.{nat_tests}
 use Rattle.texting_robots.specs.Callers.{IsRejected, IsRobotWithoutSitemaps, IsVerdict, RobotValue}
-use Rattle.texting_robots.specs.Callers.{bodies_read}
-use Rattle.texting_robots.specs.Callers.{escaped}
-use Rattle.texting_robots.specs.Callers.{file_limit, lines_read, placed_rules, unplaced}
-use Rattle.texting_robots.specs.{Decision.IsDecisionOn, declared.decision.Decision.Decision}
+use Rattle.texting_robots.specs.Callers.{bodies_read, escaped, file_limit, lines_read, placed_rules, unplaced}
+use Rattle.texting_robots.specs.Decision.{IsDecisionOn}
+use Rattle.texting_robots.specs.declared.decision.Decision.{Decision}
 use Rattle.texting_robots.proofs.Shared.{answer_as_placed, read_robot}
-use Rattle.robots_warnings.specs.{Crawlers.Row, Internal.row_value}
 use Rattle.robots_warnings.specs.Targets.{normal_target, written_target}
+use Rattle.robots_warnings.specs.{Crawlers.Row, Internal.row_value}
 use Rattle.audit_core.specs.Target.{asked_target}
-use Rattle.audit_expect.specs.Expect.{ExpectationValue, is_word}
 use Rattle.audit_expect.specs.Expectations.{HoldsFor, HoldsIn, IsAskedAsWritten}
-use Rattle.audit_expect.specs.Internal.Expectations.{IsJudgmentOn, holds, is_unexpected}
 use Rattle.audit_expect.specs.OtherReading.{IsNormalVerdict, IsOtherVerdict}
+use Rattle.audit_expect.specs.{Expect.ExpectationValue, Expect.is_word, Patterns.AreDecidedAs}
+use Rattle.audit_expect.specs.Internal.Expectations.{IsJudgmentOn, holds, is_unexpected}
 use Rattle.audit_expect.specs.declared.checks.Judgment.TheVariants.{Decided, Everywhere}
-use Rattle.audit_expect.specs.{declared.patterns.OnPaths.OnPaths, Patterns.AreDecidedAs}
+use Rattle.audit_expect.specs.declared.patterns.OnPaths.{OnPaths}
 
 pub map_filtered : (words : List (Bor (List ℕ)))
     → map (λ (word : Bor (List ℕ)). word.now) (filter (λ (word : Bor (List ℕ)). is_word word.now) words)

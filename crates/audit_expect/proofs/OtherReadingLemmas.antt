@@ -1,27 +1,26 @@
 -- Other readings: which lines are empty Disallows, and what decides without their rules, also in normal form.
-use Rattle.std.specs.Prelude.{length, not}
-use Rattle.std.proofs.Common.{◌≡◌, ◌≢◌, ℕ, zero, suc, true, false, List, [], ◌∷◌, ◌++◌, Some}
-use Rattle.std.proofs.Common.{Contains, Option, None, ap, arith, inl, inr, map, refl, subst}
-use Rattle.std.proofs.Common.{◌<◌, ◌≤◌, ◌-◌, drop, slice_get, slice_index_or, sym}
-use Rattle.std.specs.{List.All}
-use Rattle.std.proofs.lemmas.Bool.{cases_Bool, Decides.nat_tests}
-use Rattle.std.proofs.lemmas.Option.{same_Some}
+use Rattle.std.specs.{Prelude.length, Prelude.not, List.All}
+use Rattle.std.proofs.Common.{◌≡◌, ◌≢◌, ℕ, zero, suc, true, false, List, [], ◌∷◌, ◌++◌, Some, Contains}
+use Rattle.std.proofs.Common.{Option, None, ap, arith, inl, inr, map, refl, subst, ◌<◌, ◌≤◌, ◌-◌, drop}
+use Rattle.std.proofs.Common.{slice_get, slice_index_or, sym}
+use Rattle.std.proofs.lemmas.{Bool.cases_Bool, Option.same_Some}
+use Rattle.std.proofs.lemmas.Bool.Decides.{nat_tests}
 use Rattle.std.proofs.lemmas.List.Elements.{All-filter, All-map, Contains-append_left, Contains-get_or}
 use Rattle.std.proofs.lemmas.List.Elements.{Contains-push, Contains-push_cases}
-use Rattle.texting_robots.specs.Callers.{IsBetter, IsDecidingRule, IsOverlong, Matches}
-use Rattle.texting_robots.specs.Callers.{IsRejected, LineValue, PlacedRule, Rule, placed_rules}
-use Rattle.texting_robots.specs.Callers.{Label, bodies_in, bodies_read, label_by_value, robots_file}
-use Rattle.texting_robots.specs.declared.labels.{LabeledLine.LabeledLine}
-use Rattle.texting_robots.specs.{Statement.IsStatement, declared.parser.statement.Kind.TheVariants.Disallow}
-use Rattle.texting_robots.specs.{Decision.IsDecisionOn, declared.decision.Decision.Decision}
-use Rattle.texting_robots.specs.{Internal.Line.line_of}
+use Rattle.texting_robots.specs.Callers.{IsBetter, IsDecidingRule, IsOverlong, Matches, IsRejected, LineValue}
+use Rattle.texting_robots.specs.Callers.{PlacedRule, Rule, placed_rules, Label, bodies_in, bodies_read}
+use Rattle.texting_robots.specs.Callers.{label_by_value, robots_file}
+use Rattle.texting_robots.specs.{Statement.IsStatement, Decision.IsDecisionOn}
+use Rattle.texting_robots.specs.declared.labels.LabeledLine.{LabeledLine}
+use Rattle.texting_robots.specs.declared.parser.statement.Kind.TheVariants.{Disallow}
+use Rattle.texting_robots.specs.declared.decision.Decision.{Decision}
+use Rattle.texting_robots.specs.Internal.Line.{line_of}
 use Rattle.texting_robots.proofs.Shared.{any_unplaced, collapsed_within, allowed_if_none, verdict_by_rule}
 use Rattle.texting_robots.proofs.Shared.{rejection_is_computed}
 use Rattle.audit_core.proofs.EmptyLemmas.{empty_stated, stated_empty}
-use Rattle.robots_warnings.specs.Conflicts.{IsEmptyDisallow}
-use Rattle.robots_warnings.specs.{File.lines_of, Read.IsRead, declared.read.FileRead.FileRead}
-use Rattle.audit_expect.specs.OtherReading.{IsNormalVerdict, normal_rule}
-use Rattle.audit_expect.specs.OtherReading.{AreOthers, IsOtherVerdict}
+use Rattle.robots_warnings.specs.{Conflicts.IsEmptyDisallow, File.lines_of, Read.IsRead}
+use Rattle.robots_warnings.specs.declared.read.FileRead.{FileRead}
+use Rattle.audit_expect.specs.OtherReading.{IsNormalVerdict, normal_rule, AreOthers, IsOtherVerdict}
 use Rattle.audit_expect.specs.Internal.Expectations.{IsDecidedBy, IsPreferred, decision_with, is_empty}
 use Rattle.audit_expect.specs.Internal.Expectations.{is_empty_label, is_marked, marks_in, marks_of, others_of}
 

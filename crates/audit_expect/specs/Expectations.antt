@@ -7,8 +7,8 @@ use Rattle.robots_warnings.specs.Crawlers.{Row, crawlers, other_group}
 use Rattle.robots_warnings.specs.Targets.{normal_target, written_target}
 use Rattle.audit_core.specs.{Target.asked_target, Audit.crawlers_in}
 use Rattle.audit_expect.specs.Expect.{AreExpectedIn, ExpectationValue, is_any}
-use Rattle.audit_expect.specs.{OtherReading.IsNormalVerdict, OtherReading.IsOtherVerdict}
-use Rattle.audit_expect.specs.{Patterns.AreDecidedAs}
+use Rattle.audit_expect.specs.OtherReading.{IsNormalVerdict, IsOtherVerdict}
+use Rattle.audit_expect.specs.Patterns.{AreDecidedAs}
 
 -- What is written and what is compared here have the same normal form. They don't if `url` changes what RFC
 -- 9309 compares, such as dot segments, a backslash, or an apostrophe in a query.

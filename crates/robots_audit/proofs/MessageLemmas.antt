@@ -2,19 +2,19 @@
 use Rattle.std.specs.Prelude.{IfOk}
 use Rattle.std.proofs.Common.{◌≡◌, ◌+◌, ◌<◌, ◌||◌, ℕ, Bool, true, List, [], Result, Some, drop, inl, inr}
 use Rattle.std.proofs.Common.{length, refl, slice_index_or, string_bytes, subst, sym}
-use Rattle.std.proofs.{lemmas.List.drop_more, lemmas.Result.IfOk-weaker}
-use Rattle.safe_output.specs.{declared.level.Level.Level}
-use Rattle.safe_output.specs.{Sanitize.IsPrintable}
-use Rattle.safe_output.specs.Text.{IsShownReport, reaches}
+use Rattle.std.proofs.lemmas.{List.drop_more, Result.IfOk-weaker}
+use Rattle.safe_output.specs.declared.level.Level.{Level}
+use Rattle.safe_output.specs.{Sanitize.IsPrintable, Text.IsShownReport, Text.reaches}
 use Rattle.robots_warnings.specs.{Table.level_of, Message.WarningValue}
 use Rattle.robots_audit.specs.Answer.{Answers, IsAudited, IsCompared, IsExpected, IsListed, IsReportIn}
 use Rattle.robots_audit.specs.Answer.{IsSafe, IsSafeAnswer, is_warned}
 use Rattle.safe_output.proofs.ReportLemmas.{report_printable, shown_colored, shown_nil}
 use Rattle.audit_core.specs.{Answer.IsText, Request.RequestValue}
-use Rattle.audit_core.specs.{declared.answer.Answer.Answer, declared.error.Error.Error}
-use Rattle.audit_core.specs.declared.request.Format.{Format, TheVariants.Github, TheVariants.Html}
-use Rattle.audit_core.specs.declared.request.Format.{TheVariants.Text}
-use Rattle.audit_reports.proofs.{GithubLemmas.github_printable}
+use Rattle.audit_core.specs.declared.answer.Answer.{Answer}
+use Rattle.audit_core.specs.declared.error.Error.{Error}
+use Rattle.audit_core.specs.declared.request.Format.{Format}
+use Rattle.audit_core.specs.declared.request.Format.TheVariants.{Github, Html, Text}
+use Rattle.audit_reports.proofs.GithubLemmas.{github_printable}
 
 pub warned_next : (least : Level) (warnings : List WarningValue) (at : ℕ) (warning : WarningValue)
     → at < length warnings → is_warned (Some least) (drop at warnings)

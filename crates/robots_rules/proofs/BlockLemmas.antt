@@ -1,15 +1,14 @@
 -- If each block that has rules keeps one, the lines that are left apply to the same crawlers.
 use Rattle.std.proofs.Common.{◌≡◌, ℕ, ◌+◌, ◌==◌, Bool, true, false, not, ◌||◌, [], List, ◌∷◌, Option, Some}
 use Rattle.std.proofs.Common.{None, ap, sym, refl, ◌∙◌, arith, filter, filter_map, map, if◌then◌else◌}
-use Rattle.std.specs.{List.enumerate_from, List.list_any}
-use Rattle.texting_robots.specs.{declared.groups.GroupTracker.GroupTracker}
-use Rattle.texting_robots.specs.{Line.LineValue, Rules.PlacedRule, Rules.unplaced, Theorems.Same}
-use Rattle.texting_robots.specs.Line.{Raw, is_raw}
-use Rattle.texting_robots.specs.Group.{group_name, is_agent}
+use Rattle.std.specs.List.{enumerate_from, list_any}
+use Rattle.texting_robots.specs.declared.groups.GroupTracker.{GroupTracker}
 use Rattle.texting_robots.specs.Executable.{captured_lines, placed_in, placed_rules, rules_for}
+use Rattle.texting_robots.specs.{Line.LineValue, Line.Raw, Line.is_raw, Rules.PlacedRule, Rules.unplaced}
+use Rattle.texting_robots.specs.{Theorems.Same, Group.group_name, Group.is_agent}
 use Rattle.texting_robots.specs.Internal.Group.{from_captured, start_of, step}
 use Rattle.texting_robots.proofs.Shared.{captured_walked, named_is_agent, raw_changes_nothing}
-use Rattle.robots_rules.specs.{declared.blocks.Block.Block}
+use Rattle.robots_rules.specs.declared.blocks.Block.{Block}
 use Rattle.robots_rules.specs.Blocks.{block_after, is_rule, keep_blocks_from, left_from, no_rule}
 use Rattle.robots_rules.specs.Needless.{lines_without, without}
 

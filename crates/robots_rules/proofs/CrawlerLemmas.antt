@@ -1,15 +1,13 @@
 -- Crawlers with the same rules.
-use Rattle.std.proofs.lemmas.Grind.{common_steps}
+use Rattle.std.proofs.lemmas.{Grind.common_steps, Bool.cases_Bool, Bool.and_parts, Bool.cases_lt}
 use Rattle.std.proofs.Common.{◌≡◌, inl, inr, List, ℕ, ap, codes, false, refl, sym, ◌<◌, ◌≤◌, [], Bool, ◌+◌}
 use Rattle.std.proofs.Common.{◌∙◌, suc, true, ◌∷◌, ◌++◌, Contains, IsAscii, IsUtf8, ap₂, subst, arith, get_or}
 use Rattle.std.proofs.Common.{encode_utf8, encode_utf8_all, filter_map, length, map, append-nil}
-use Rattle.std.specs.List.{filter_map, list_any}
-use Rattle.std.specs.{Str.str_to_ascii_lowercase, Char.to_ascii_lowercase}
-use Rattle.std.proofs.lemmas.Bool.{cases_Bool, and_parts, cases_lt}
-use Rattle.texting_robots.specs.{Group.group_name, Line.LineValue}
+use Rattle.std.specs.{List.filter_map, List.list_any, Str.str_to_ascii_lowercase, Char.to_ascii_lowercase}
 use Rattle.texting_robots.specs.Callers.{IsRejected, delay_for, is_named, placed_rules}
+use Rattle.texting_robots.specs.{Group.group_name, Line.LineValue}
 use Rattle.texting_robots.proofs.Shared.{rejection_is_computed}
-use Rattle.robots_rules.specs.{Blocks.left_from}
+use Rattle.robots_rules.specs.Blocks.{left_from}
 use Rattle.robots_rules.specs.Needless.{AreDeletable, MeanTheSame, lines_without}
 use Rattle.robots_rules.proofs.BlockLemmas.{among, left_are}
 use lib.Utf8.{scalar as is_scalar, scalars}

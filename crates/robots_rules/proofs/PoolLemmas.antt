@@ -2,14 +2,13 @@
 use Rattle.std.proofs.Common.{◌≡◌, ℕ, ◌+◌, ◌<◌, ◌≤◌, Bool, true, false, List, [], ◌∷◌, ◌++◌, add-one, drop}
 use Rattle.std.proofs.Common.{arith, take, get_or, length, refl, ap, ◌∙◌}
 use Rattle.std.specs.Prelude.{if◌then◌else◌}
-use Rattle.std.proofs.Math.{Seq.drop-cons}
-use Rattle.std.proofs.{lemmas.Bool.cases_Bool, lemmas.List.append-nil, lemmas.List.take_all}
-use Rattle.std.proofs.{lemmas.List.take_more}
-use Rattle.texting_robots.specs.{Rules.Rule}
+use Rattle.std.proofs.Math.Seq.{drop-cons}
+use Rattle.std.proofs.lemmas.{Bool.cases_Bool, List.append-nil, List.take_all, List.take_more}
+use Rattle.texting_robots.specs.Rules.{Rule}
 use Rattle.robots_rules.specs.declared.pool.Entry.{Entry}
 use Rattle.robots_rules.specs.declared.compare.Comparison.TheVariants.{Differ, Same, Undecided}
-use Rattle.robots_rules.specs.Internal.{IsAnswer, Leads, LeavesAgree, StartsAgree, chosen, is_in}
-use Rattle.robots_rules.specs.Internal.{is_shared, last_kind}
+use Rattle.robots_rules.specs.Internal.{IsAnswer, Leads, LeavesAgree, StartsAgree, chosen, is_in, is_shared}
+use Rattle.robots_rules.specs.Internal.{last_kind}
 use Rattle.robots_rules.proofs.SideLemmas.{last_kind_append}
 
 pub chosen_append : (all new : Bool) (pool more : List Entry)

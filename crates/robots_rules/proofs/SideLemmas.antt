@@ -1,8 +1,8 @@
 -- What one more item does to a side, and a step by a byte.
 use Rattle.std.proofs.Common.{◌≡◌, ℕ, zero, suc, ◌+◌, ◌<◌, ◌≤◌, cond, Bool, true, false, List, [], ◌∷◌, ◌++◌}
 use Rattle.std.proofs.Common.{Contains, append_assoc, take, get_or, length, refl, sym, ap, ◌∙◌, arith}
-use Rattle.std.proofs.{lemmas.List.take_all, lemmas.List.take_more}
-use Rattle.texting_robots.specs.{Rules.Rule}
+use Rattle.std.proofs.lemmas.List.{take_all, take_more}
+use Rattle.texting_robots.specs.Rules.{Rule}
 use Rattle.texting_robots.proofs.Shared.{matches}
 use Rattle.robots_rules.specs.Internal.{Adds, AreAlike, IsAfter, StateValue, last_kind, verdict}
 

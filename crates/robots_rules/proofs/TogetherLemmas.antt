@@ -1,9 +1,8 @@
 -- Rules that are needless together.
 use Rattle.std.proofs.Common.{rules, [], ◌≡◌, ◌↔◌, ℕ, zero, suc, ◌==◌, Bool, true, List, ◌∷◌, ap}
-use Rattle.std.proofs.lemmas.Grind.{common_steps}
 use Rattle.std.proofs.Common.{IsPermutation, refl, ◌∙◌, arith, map}
+use Rattle.std.proofs.lemmas.{Grind.common_steps, Bool.cond_both, Bool.eqb-true}
 use Rattle.std.specs.List.{Contains, filter, list_any}
-use Rattle.std.proofs.lemmas.Bool.{cond_both, eqb-true}
 use Rattle.std.proofs.lemmas.Bool.Decides.{Decides-eqb}
 use mathlib.Core.Logic.Iff
 use Rattle.std.proofs.lemmas.List.Elements.{All-contains, All-contains_itself, All-filter, filter_passes}

@@ -5,9 +5,9 @@ use Rattle.std.specs.Prelude.{length, map, take}
 use Rattle.std.specs.{BTreeMap.BTreeMap, BTreeMap.get, Option.is_some, Ordering.nat_cmp}
 use Rattle.texting_robots.specs.Callers.{IsRejected, LineValue, Matches, PlacedRule, Rule, file_bodies}
 use Rattle.texting_robots.specs.Callers.{file_lines, robots_file, rules_for, sitemaps_in, unplaced}
-use Rattle.robots_rules.specs.{Internal.rank_of, Same.HaveSameVerdicts, declared.needless.Reason.Reason}
-use Rattle.robots_rules.specs.declared.needless.{NeedlessRule.NeedlessRule, Outcome.Outcome}
-use Rattle.robots_rules.specs.{Blocks.left_from, Needless.MeanTheSame}
+use Rattle.robots_rules.specs.Same.{HaveSameVerdicts}
+use Rattle.robots_rules.specs.{Internal.rank_of, Blocks.left_from, Needless.MeanTheSame}
+use Rattle.robots_rules.specs.declared.needless.{Reason.Reason, NeedlessRule.NeedlessRule, Outcome.Outcome}
 use Rattle.robots_rules.specs.declared.needless.Outcome.TheVariants as outcomes
 
 -- the rules that are left of these have the same verdicts

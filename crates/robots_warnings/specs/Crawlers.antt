@@ -1,12 +1,11 @@
 -- Known crawlers, and names of crawlers.
 use Rattle.std.specs.Prelude.{[], ℕ, ◌-◌, ◌==◌, nat_eq, Bool, not, ◌||◌, ◌&&◌, List, bytes_eq, codes, length}
-use Rattle.std.specs.Prelude.{◌+◌, if◌then◌else◌, take, ◌∷◌, Option, None, Some, find, is_none, is_some}
-use Rattle.std.specs.Prelude.{map, nat_le, nat_lt, option_map, slice_index_or, unwrap_or, false}
-use Rattle.std.specs.Prelude.{◌≡◌, slice_get, true}
+use Rattle.std.specs.Prelude.{◌+◌, if◌then◌else◌, take, ◌∷◌, Option, None, Some, find, is_none, is_some, map}
+use Rattle.std.specs.Prelude.{nat_le, nat_lt, option_map, slice_index_or, unwrap_or, false, ◌≡◌, slice_get}
+use Rattle.std.specs.Prelude.{true}
 use Rattle.std.specs.Str.{byte, str_eq_ignore_ascii_case, is_utf8, str_to_ascii_lowercase}
-use Rattle.std.specs.List.{before_first, position_from}
-use Rattle.std.specs.{Char.is_ascii_alphabetic, Option.option_or}
-use Rattle.strsim.specs.{Edits.damerau}
+use Rattle.std.specs.{List.before_first, List.position_from, Char.is_ascii_alphabetic, Option.option_or}
+use Rattle.strsim.specs.Edits.{damerau}
 use Rattle.texting_robots.specs.Callers.{LineValue, UserAgent, is_named, file_lines}
 use Rattle.robots_warnings.specs.declared.crawlers.TheConstants.{CRAWLERS, WRONG_NAMES}
 

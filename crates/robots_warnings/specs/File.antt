@@ -1,7 +1,6 @@
 -- The lines within the size limit of a file.
 use Rattle.std.specs.Prelude.{ℕ, List, map}
-use Rattle.texting_robots.specs.Callers.{LineValue, Label, bodies_read, group_name, labels_of}
-use Rattle.texting_robots.specs.Callers.{lines_read}
+use Rattle.texting_robots.specs.Callers.{LineValue, Label, bodies_read, group_name, labels_of, lines_read}
 
 abbrev pub hash : ℕ
 hash = 35

@@ -1,11 +1,10 @@
 -- The warnings whose absence says something: none is missing where it is so.
-use Rattle.std.specs.Prelude.{[], ◌≡◌, ℕ, Bool, IsTrue, Any, List, ◌∷◌, Some, None, Option}
-use Rattle.std.specs.Prelude.{MatchOption, ⊤, false, if◌then◌else◌, true}
+use Rattle.std.specs.Prelude.{[], ◌≡◌, ℕ, Bool, IsTrue, Any, List, ◌∷◌, Some, None, Option, MatchOption, ⊤}
+use Rattle.std.specs.Prelude.{false, if◌then◌else◌, true}
 use Rattle.texting_robots.specs.Callers.{LineValue}
-use Rattle.robots_warnings.specs.{declared.table.Cause.Cause, declared.table.Cause.TheVariants as cause}
-use Rattle.robots_warnings.specs.{Closed.line_closing_site, Conflicts.overrules_for_one}
-use Rattle.robots_warnings.specs.{Message.WarningValue}
-use Rattle.robots_warnings.specs.{Targets.has_odd_target}
+use Rattle.robots_warnings.specs.declared.table.Cause.{Cause, TheVariants as cause}
+use Rattle.robots_warnings.specs.Conflicts.{overrules_for_one}
+use Rattle.robots_warnings.specs.{Closed.line_closing_site, Message.WarningValue, Targets.has_odd_target}
 
 -- about a URL that the user passed
 abbrev pub url_warnings : List ℕ → List WarningValue

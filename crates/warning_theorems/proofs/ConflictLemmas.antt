@@ -1,26 +1,23 @@
 -- Warnings about closed sites and about conflicting rules.
-use Rattle.std.specs.Prelude.{is_some}
-use Rattle.std.proofs.{lemmas.Slice.Eq.bytes_eq-Decides, lemmas.List.Elements.All-contains}
+use Rattle.std.specs.{Prelude.is_some, List.list_any, List.starts_with, Str.byte}
+use Rattle.std.proofs.lemmas.Slice.Eq.{bytes_eq-Decides}
+use Rattle.std.proofs.lemmas.List.Elements.{All-contains}
+use Rattle.std.proofs.lemmas.List.Folds.{list_any-from_Any, Any-from_list_any, list_any_at}
 use Rattle.std.proofs.Common.{rules, Some, bytes_eq, if◌then◌else◌, ◌∙◌, ◌≡◌, ℕ, ◌&&◌, ◌||◌, [], Bool, true}
 use Rattle.std.proofs.Common.{false, List, ◌∷◌, Contains, append-nil, ap, arith, inl, inr, length, not, refl}
 use Rattle.std.proofs.Common.{subst, sym, ◌⊎◌, None, Option, ◌≢◌, ◌<◌, ◌++◌, All, nat_eq, nat_le}
 use Rattle.std.proofs.lemmas.Bool.{and_parts, not-true, or_cases, eq-eqb, false≢true}
-use Rattle.std.specs.{List.list_any, Str.byte, List.starts_with}
-use Rattle.std.proofs.lemmas.List.Folds.{list_any-from_Any, Any-from_list_any, list_any_at}
 use Rattle.texting_robots.specs.Callers.{AreRulesFor, LineValue, Matches, PlacedRule, Rule, escaped, IsDenied}
 use Rattle.texting_robots.specs.Callers.{placed_rules, HoldsRule, IsDecidingLine, robots_file, unplaced}
-use Rattle.robots_warnings.specs.Closed.{closes, is_exempt, is_literally, is_star_or_dollar}
-use Rattle.robots_warnings.specs.Closed.{is_whole_site}
+use Rattle.robots_warnings.specs.Closed.{closes, is_exempt, is_literally, is_star_or_dollar, is_whole_site}
 use Rattle.robots_warnings.specs.Closed.{is_rival, line_closing_site, matches_no_path, opened_paths}
-use Rattle.robots_warnings.specs.{Closed.leaves_closed, Closed.opens_little}
-use Rattle.robots_warnings.specs.Conflicts.{IsConflict, compared}
-use Rattle.robots_warnings.specs.Closed.{first_line, first_of, line_if}
-use Rattle.robots_warnings.specs.{Contents.is_cut_to_root}
-use Rattle.robots_warnings.proofs.{ClosedLemmas.whole_site_stays}
+use Rattle.robots_warnings.specs.Closed.{leaves_closed, opens_little, first_line, first_of, line_if}
+use Rattle.robots_warnings.specs.{Conflicts.IsConflict, Conflicts.compared, Contents.is_cut_to_root}
+use Rattle.robots_warnings.proofs.ClosedLemmas.{whole_site_stays}
 use Rattle.texting_robots.proofs.Shared.{placed_are_rules, placed_of, in_front, plain_segment}
 use Rattle.audit_core.proofs.ReachLemmas.{whole_site_matches}
-use Rattle.robots_rules.proofs.{TogetherLemmas.unplaced_of}
-use Rattle.warning_theorems.proofs.{WarningLemmas.without_path}
+use Rattle.robots_rules.proofs.TogetherLemmas.{unplaced_of}
+use Rattle.warning_theorems.proofs.WarningLemmas.{without_path}
 
 -- ---- What `hash-in-rule` and `allowed-and-disallowed` imply.
 

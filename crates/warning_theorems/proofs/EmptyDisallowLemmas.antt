@@ -1,25 +1,25 @@
 -- Which lines are empty Disallows, what `empty-disallow` says of rules, and what it means if no line has it.
-use Rattle.std.specs.Prelude.{option_map}
-use Rattle.std.proofs.lemmas.Bool.{and_parts, cases_lt, false≢true, cases_Bool}
-use Rattle.std.proofs.lemmas.Bool.{eq-eqb, eqb-true, not-true, or_cases}
+use Rattle.std.specs.{Prelude.option_map, Option.IsSomeAnd, List.AllZip, List.list_any}
+use Rattle.std.proofs.lemmas.Bool.{and_parts, cases_lt, false≢true, cases_Bool, eq-eqb, eqb-true, not-true}
+use Rattle.std.proofs.lemmas.Bool.{or_cases}
+use Rattle.std.proofs.lemmas.Option.{same_Some, slice_get-map}
 use Rattle.std.proofs.lemmas.List.Folds.{Any-from_list_any, list_any-from_Any}
-use Rattle.std.proofs.Common.{◌≡◌, ◌↔◌, ◌==◌, ◌&&◌, ℕ, Bool, true, false, List, [], ◌∷◌}
-use Rattle.std.proofs.Common.{Some, ap, arith, codes, inl, inr, refl, slice_get, subst}
-use Rattle.std.proofs.Common.{suc, sym, zero, ◌∙◌, ◌<◌, Contains, Option, length, not}
-use Rattle.std.proofs.lemmas.{Option.same_Some, Option.slice_get-map, Slice.Zip.AllZip-left}
-use Rattle.texting_robots.specs.Callers.{AreLabelsOf, Disallow, IsLineOf, Label, lines_read}
-use Rattle.texting_robots.specs.Callers.{bodies_in, bodies_read, escaped, placed_rules, unplaced, AreRulesFor}
-use Rattle.texting_robots.specs.Callers.{IsDenied, IsVerdict, Matches, PlacedRule, Rule}
-use Rattle.texting_robots.specs.{Internal.Line.line_of, Pattern.MatchesWith}
+use Rattle.std.proofs.Common.{◌≡◌, ◌↔◌, ◌==◌, ◌&&◌, ℕ, Bool, true, false, List, [], ◌∷◌, Some, ap, arith}
+use Rattle.std.proofs.Common.{codes, inl, inr, refl, slice_get, subst, suc, sym, zero, ◌∙◌, ◌<◌, Contains}
+use Rattle.std.proofs.Common.{Option, length, not}
+use Rattle.std.proofs.lemmas.Slice.Zip.{AllZip-left}
+use Rattle.texting_robots.specs.Callers.{AreLabelsOf, Disallow, IsLineOf, Label, lines_read, bodies_in}
+use Rattle.texting_robots.specs.Callers.{bodies_read, escaped, placed_rules, unplaced, AreRulesFor, IsDenied}
+use Rattle.texting_robots.specs.Callers.{IsVerdict, Matches, PlacedRule, Rule}
+use Rattle.texting_robots.specs.Pattern.{MatchesWith}
+use Rattle.texting_robots.specs.Internal.Line.{line_of}
 use Rattle.texting_robots.proofs.Shared.{placed_are_rules, lines_of_file_bodies, placed_of}
-use Rattle.robots_warnings.specs.Conflicts.{IsEmptyDisallow, is_empty_at, is_empty_disallow}
-use Rattle.robots_warnings.specs.Conflicts.{closes_all, is_empty_rule, is_of_all, is_overruling, opens_all}
-use Rattle.robots_warnings.specs.Conflicts.{stated_rules}
+use Rattle.robots_warnings.specs.Conflicts.{IsEmptyDisallow, is_empty_at, is_empty_disallow, closes_all}
+use Rattle.robots_warnings.specs.Conflicts.{is_empty_rule, is_of_all, is_overruling, opens_all, stated_rules}
 use Rattle.audit_core.proofs.EmptyLemmas.{empty_allows, empty_stated, stated_empty}
-use Rattle.robots_rules.proofs.TogetherLemmas.{in_filter, to_filter, unplaced_of}
 use Rattle.audit_core.proofs.ReachLemmas.{whole_site_matches}
+use Rattle.robots_rules.proofs.TogetherLemmas.{in_filter, to_filter, unplaced_of}
 use Rattle.warning_theorems.proofs.ConflictLemmas.{also_listed}
-use Rattle.std.specs.{Option.IsSomeAnd, List.AllZip, List.list_any}
 
 abbrev IsFound : List Label → ℕ → Type 0
 IsFound labels number = (i : ℕ) × (label : Label) × (slice_get labels i ≡ Some label)

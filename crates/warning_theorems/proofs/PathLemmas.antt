@@ -1,23 +1,19 @@
 -- A match target without `url-not-normal` is in normal form, and that of what is written.
 use Rattle.std.proofs.Common.{◌≡◌, ℕ, ◌<◌, ◌&&◌, ◌||◌, Bool, true, false, inl, inr, List, ◌∷◌, not, arith}
 use Rattle.std.proofs.Common.{codes, refl, nat_eq}
-use Rattle.std.specs.Char.{is_ascii_hexdigit, to_ascii_uppercase}
-use Rattle.std.specs.List.{starts_with}
-use Rattle.std.proofs.lemmas.{Slice.Eq.bytes_eq-Decides}
+use Rattle.std.specs.{Char.is_ascii_hexdigit, Char.to_ascii_uppercase, List.starts_with}
+use Rattle.std.proofs.lemmas.Slice.Eq.{bytes_eq-Decides}
 use Rattle.std.proofs.lemmas.Bool.{agree_below_at, and_parts, cases_Bool, cases_lt, le-ltb, not-false}
-use Rattle.std.proofs.lemmas.List.{Concat.flat_map-append}
-use Rattle.percent_encoding.specs.{AsciiSet.should_percent_encode}
+use Rattle.std.proofs.lemmas.List.Concat.{flat_map-append}
+use Rattle.percent_encoding.specs.AsciiSet.{should_percent_encode}
 use Rattle.percent_encoding.specs.Percent.{encode_byte, percent_encode, percent_encode_byte}
-use Rattle.rfc9309.specs.Matching.{is_kept, all_stay, in_uri}
-use Rattle.rfc9309.specs.Matching.{is_unreserved}
-use Rattle.rfc9309.specs.Matching.{normal_escape, normal_from, normal_octet, normal_uri}
-use Rattle.rfc9309.proofs.NormalLemmas.{begins_escape, by_escapes}
-use Rattle.rfc9309.proofs.NormalLemmas.{hex_not, octet_first}
-use Rattle.robots_warnings.specs.Targets.{asked_target, has_odd_target, normal_target}
-use Rattle.robots_warnings.specs.Targets.{written_target}
-use Rattle.robots_warnings.specs.{declared.targets.TheConstants.IN_TARGETS}
+use Rattle.rfc9309.specs.Matching.{is_kept, all_stay, in_uri, is_unreserved, normal_escape, normal_from}
+use Rattle.rfc9309.specs.Matching.{normal_octet, normal_uri}
+use Rattle.rfc9309.proofs.NormalLemmas.{begins_escape, by_escapes, hex_not, octet_first}
+use Rattle.robots_warnings.specs.Targets.{asked_target, has_odd_target, normal_target, written_target}
 use Rattle.robots_warnings.specs.{Urls.begins_as_url, Urls.is_unparsable, Spellings.spelled}
-use Rattle.robots_warnings.specs.declared.spellings.Spelling.{TheVariants.Standard}
+use Rattle.robots_warnings.specs.declared.targets.TheConstants.{IN_TARGETS}
+use Rattle.robots_warnings.specs.declared.spellings.Spelling.TheVariants.{Standard}
 
 octet_spelled : (b : ℕ) (text : List ℕ) → begins_escape (b ∷ text) ≡ false
     → spelled Standard (b ∷ text) ≡ b ∷ spelled Standard text

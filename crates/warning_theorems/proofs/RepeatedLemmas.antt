@@ -1,19 +1,17 @@
 -- A rule with `repeated-rule` decides no verdict, and can be deleted.
 use mathlib.Core.Logic.Iff
 use Rattle.std.proofs.lemmas.Bool.{cases_Bool, false_from_ne_true}
-use Rattle.std.proofs.Common.{◌≡◌, ◌∙◌, ◌+◌, ℕ, suc, zero, Bool, true, false, List, [], ◌∷◌, Contains}
-use Rattle.std.proofs.Common.{Some, arith, if◌then◌else◌, inl, inr, refl, slice_get, subst, sym, ◌<◌}
-use Rattle.std.proofs.Common.{◌≤◌, ◌↔◌, All, length, subst₂, take_all}
-use Rattle.texting_robots.specs.Callers.{LineValue, AreRulesFor, Rule}
-use Rattle.texting_robots.specs.Callers.{IsCaptured, IsDecidingLine, IsDenied, IsVerdict, PlacedRule}
-use Rattle.texting_robots.specs.Callers.{group_name, placed_rules, rules_for, unplaced}
+use Rattle.std.proofs.Common.{◌≡◌, ◌∙◌, ◌+◌, ℕ, suc, zero, Bool, true, false, List, [], ◌∷◌, Contains, Some}
+use Rattle.std.proofs.Common.{arith, if◌then◌else◌, inl, inr, refl, slice_get, subst, sym, ◌<◌, ◌≤◌, ◌↔◌, All}
+use Rattle.std.proofs.Common.{length, subst₂, take_all}
+use Rattle.texting_robots.specs.Callers.{LineValue, AreRulesFor, Rule, IsCaptured, IsDecidingLine, IsDenied}
+use Rattle.texting_robots.specs.Callers.{IsVerdict, PlacedRule, group_name, placed_rules, rules_for, unplaced}
 use Rattle.texting_robots.specs.Callers.{file_bodies, file_limit, file_lines, lines_read}
-use Rattle.texting_robots.specs.{Theorems.Same}
-use Rattle.texting_robots.specs.Group.{is_agent}
+use Rattle.texting_robots.specs.{Theorems.Same, Group.is_agent}
 use Rattle.robots_rules.specs.Blocks.{is_rule, keep_blocks_from, no_rule, with_rule, IsLeftOf}
 use Rattle.robots_rules.specs.Blocks.{begin_with_mark}
-use Rattle.robots_rules.proofs.LeftLemmas.{left_within, same_result}
 use Rattle.robots_rules.specs.Needless.{lines_without, without}
+use Rattle.robots_rules.proofs.LeftLemmas.{left_within, same_result}
 use Rattle.robots_rules.proofs.TogetherLemmas.{in_named, unplaced_of, verdicts, in_filter, to_filter}
 use Rattle.robots_rules.proofs.BlockLemmas.{among, deleted}
 use Rattle.robots_warnings.specs.Repeated.{IsAbove, IsRepeat}

@@ -1,29 +1,24 @@
 -- Needless rules can be deleted together. What a report tells about the syntax of a file and its verdicts is
 -- so.
-use Rattle.std.proofs.{Common.rules}
-use Rattle.std.proofs.Common.{true, ap, ◌≡◌, ◌≢◌, ℕ, ◌≤◌, ◌↔◌, Bool, List, [], ◌∷◌, Contains, IsUtf8, arith}
-use Rattle.std.proofs.Common.{codes, length, ltb-false, subst, subst₂, sym, take, take_all}
+use Rattle.std.proofs.Common.{rules, true, ap, ◌≡◌, ◌≢◌, ℕ, ◌≤◌, ◌↔◌, Bool, List, [], ◌∷◌, IsUtf8}
+use Rattle.std.proofs.Common.{arith, length, ltb-false, subst, subst₂, sym, take, take_all}
 use Rattle.std.proofs.lemmas.Bool.{false_from_ne_true}
-use Rattle.texting_robots.specs.Callers.{IsVerdict, LineValue, PlacedRule, agents_in, placed_rules}
-use Rattle.texting_robots.specs.Callers.{file_limit, file_lines, rules_for}
-use Rattle.texting_robots.specs.Callers.{lines_read, unplaced, IsRobotOfFile, RobotValue}
+use Rattle.texting_robots.specs.Callers.{IsVerdict, LineValue}
+use Rattle.texting_robots.specs.Callers.{file_limit, file_lines, rules_for, lines_read, unplaced}
+use Rattle.texting_robots.specs.Callers.{IsRobotOfFile, RobotValue, IsFileRejected}
 use Rattle.robots_rules.specs.Blocks.{AreFoundIn, CanBeDeleted, HaveSameRobot, IsLeftOf}
-use Rattle.robots_rules.specs.Needless.{AreDeletable, MeanTheSame, NeedlessValue, lines_without}
-use Rattle.robots_rules.specs.Needless.{numbers_of}
-use Rattle.robots_rules.proofs.{SettledLemmas.all_lines}
-use Rattle.robots_rules.proofs.{LeftLemmas.left_within, LeftLemmas.same_robot}
-use Rattle.audit_core.specs.Audit.{AuditValue, IsAuditOf}
-use Rattle.audit_core.specs.{Request.RequestValue}
-use Rattle.robots_rules.specs.{declared.needless.NeedlessRule.NeedlessRule}
+use Rattle.robots_rules.specs.Needless.{AreDeletable, MeanTheSame, NeedlessValue, lines_without, numbers_of}
+use Rattle.robots_rules.proofs.LeftLemmas.{left_within, same_robot}
+use Rattle.robots_rules.proofs.{SettledLemmas.all_lines, CrawlerLemmas.star_or_named}
+use Rattle.audit_core.specs.{Audit.AuditValue, Audit.IsAuditOf, Request.RequestValue}
+use Rattle.robots_rules.specs.declared.needless.NeedlessRule.{NeedlessRule}
 use Rattle.robots_warnings.specs.Facts.{is_too_large}
-use Rattle.rfc9309.specs.{LineForms.AreForms, Matching.all_stay, Matching.normal_uri}
 use Rattle.rfc9309.specs.Conformance.{conformance_of, has_syntax, has_verdicts}
 use Rattle.rfc9309.specs.Rfc9309.{Group, IsFile, IsProductToken}
+use Rattle.rfc9309.specs.{LineForms.AreForms, Matching.all_stay, Matching.normal_uri}
 use Rattle.rfc9309.proofs.DecidedLemmas.{accepted_file, files_decided, verdicts_are}
-use Rattle.rfc9309.proofs.{LineFormLemmas.file_has_forms, RobotLemmas.forms_robot}
 use Rattle.rfc9309.proofs.MemberLemmas.{plain_text, token_plain}
-use Rattle.robots_rules.proofs.{CrawlerLemmas.star_or_named}
-use Rattle.texting_robots.specs.Callers.{IsFileRejected}
+use Rattle.rfc9309.proofs.{LineFormLemmas.file_has_forms, RobotLemmas.forms_robot}
 use Rattle.warning_theorems.specs.{Syntax.IsRobotStated, Verdict.IsStandardVerdict}
 
 abbrev DecidesAlike : List LineValue → List NeedlessRule → List ℕ → Type 0

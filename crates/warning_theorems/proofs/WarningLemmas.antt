@@ -3,15 +3,14 @@ use Rattle.std.proofs.Common.{◌||◌, ◌==◌, arith, if◌then◌else◌, in
 use Rattle.std.proofs.Common.{List, [], ◌∷◌, not, slice_get, Some, subst, sym, ◌+◌, ◌∙◌}
 use Rattle.std.proofs.lemmas.Bool.{cases_Bool, eqb-true, false≢true, not-true}
 use Rattle.std.specs.{List.list_all, List.list_any, Str.byte, Str.is_utf8}
-use Rattle.texting_robots.specs.Callers.{Allow, AreLabelsOf, Disallow, HoldsRule, Label}
-use Rattle.texting_robots.specs.Callers.{LineValue, Matches, Rule, HasMembership, UserAgent}
-use Rattle.texting_robots.specs.Callers.{escaped, file_lines, is_named}
-use Rattle.texting_robots.specs.{Group.is_agent, Group.passes_at}
-use Rattle.texting_robots.specs.{Pattern.MatchesWith, Pattern.dollar, Pattern.star}
-use Rattle.texting_robots.specs.{declared.labels.Membership.Membership, Internal.Segments.is_wildcard}
+use Rattle.texting_robots.specs.Callers.{Allow, AreLabelsOf, Disallow, HoldsRule, Label, LineValue, Matches}
+use Rattle.texting_robots.specs.Callers.{Rule, HasMembership, UserAgent, escaped, file_lines, is_named}
+use Rattle.texting_robots.specs.Group.{is_agent, passes_at}
+use Rattle.texting_robots.specs.Pattern.{MatchesWith, dollar, star}
+use Rattle.texting_robots.specs.declared.labels.Membership.{Membership}
+use Rattle.texting_robots.specs.Internal.Segments.{is_wildcard}
 use Rattle.robots_warnings.specs.{Closed.matches_no_path, Rules.begins_oddly, Rules.has_dollar_inside}
-use Rattle.robots_warnings.specs.Crawlers.{IsPastLimit}
-use Rattle.robots_warnings.specs.Positions.{is_above_agents, is_outside}
+use Rattle.robots_warnings.specs.{Crawlers.IsPastLimit, Positions.is_above_agents, Positions.is_outside}
 use Rattle.texting_robots.proofs.Shared.{some_passes, only_wildcards_match}
 use Rattle.rfc9309.proofs.HasFormLemmas.{next_place}
 

@@ -1,8 +1,8 @@
 -- Worked examples. They are theorems, proved as contracts in `src/theorems.rt`.
 use Rattle.std.specs.Prelude.{◌≡◌, ℕ, List, [], ◌∷◌, ◌++◌, codes, flat_map}
-use Rattle.rfc9309.specs.{Conformance.conformance_of, declared.conformance.Conformance.Conformance}
-use Rattle.rfc9309.specs.declared.conformance.Conformance.TheVariants.{OtherFile, OtherLine, Syntax}
-use Rattle.rfc9309.specs.declared.conformance.Conformance.TheVariants.{Verdicts}
+use Rattle.rfc9309.specs.Conformance.{conformance_of}
+use Rattle.rfc9309.specs.declared.conformance.Conformance.{Conformance}
+use Rattle.rfc9309.specs.declared.conformance.Conformance.TheVariants.{OtherFile, OtherLine, Syntax, Verdicts}
 
 -- the file with these lines
 abbrev pub Has : List (List ℕ) → Conformance → Type 0

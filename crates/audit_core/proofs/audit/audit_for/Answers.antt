@@ -1,5 +1,5 @@
 use Rattle.std.proofs.Common.{◌≡◌, ap, length, map, refl, rules, sym, vec_len, ◌∙◌}
-use Rattle.texting_robots.specs.Callers.{file_lines, label_by_value, placed_rules}
+use Rattle.texting_robots.specs.Callers.{file_lines, label_by_value}
 use Rattle.audit_core.specs.Audit.{group_of, naming_line}
 use Rattle.robots_warnings.specs.{File.lines_of}
 use Rattle.audit_core.proofs.AuditLemmas.{delay_read}

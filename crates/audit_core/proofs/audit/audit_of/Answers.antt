@@ -1,6 +1,5 @@
 use Rattle.std.proofs.Common.{ap, sym, ◌∙◌}
-use Rattle.audit_core.specs.Audit.{labels_requested}
-use Rattle.audit_core.specs.Request.{requested_by}
+use Rattle.audit_core.specs.{Audit.labels_requested, Request.requested_by}
 use Rattle.robots_warnings.specs.File.{labels_for}
 use Rattle.audit_core.proofs.audit.audit_of.Goals as goal
 

@@ -1,6 +1,6 @@
 use Rattle.std.proofs.Common.{◌≡◌, flat_map, map, take}
 use Rattle.texting_robots.specs.Callers.{lines_read}
-use Rattle.audit_expect.specs.{Expectations.about_each, Expectations.all_crawlers}
+use Rattle.audit_expect.specs.Expectations.{about_each, all_crawlers}
 use Rattle.audit_expect.specs.Internal.Expectations.{expectation_value}
 use Rattle.audit_expect.proofs.any.about_each.Given as goal
 

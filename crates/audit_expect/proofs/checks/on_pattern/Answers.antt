@@ -1,6 +1,5 @@
 use Rattle.audit_expect.specs.Internal.Expectations.{expectation_value}
-use Rattle.audit_expect.proofs.ExpectationsLemmas.{decided_all}
-use Rattle.audit_expect.proofs.OtherReadingLemmas.{all_accepted}
+use Rattle.audit_expect.proofs.{ExpectationsLemmas.decided_all, OtherReadingLemmas.all_accepted}
 use Rattle.audit_expect.proofs.checks.on_pattern.Goals as goal
 
 pub on_paths-requires-clause-rules : goal.on_paths-requires-clause-rules

@@ -1,6 +1,7 @@
 use Rattle.std.proofs.Common.{◌∙◌, ap, rules}
-use Rattle.std.specs.{Borrow.Bor, Prelude.List, Prelude.ℕ, Prelude.filter, Prelude.map}
-use Rattle.std.proofs.{lemmas.Fn.filter_same}
+use Rattle.std.specs.Borrow.{Bor}
+use Rattle.std.specs.Prelude.{List, ℕ, filter, map}
+use Rattle.std.proofs.lemmas.Fn.{filter_same}
 use Rattle.audit_expect.specs.Expect.{is_word}
 use Rattle.audit_expect.proofs.ExpectationsLemmas.{map_filtered}
 use Rattle.audit_expect.proofs.expect.words.Goals as goal

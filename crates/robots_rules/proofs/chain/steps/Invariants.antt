@@ -1,4 +1,3 @@
-use Rattle.std.proofs.Common.{}
 use Rattle.robots_rules.specs.Internal.{Leads}
 use Rattle.robots_rules.proofs.chain.steps.Given as goal
 

@@ -4,8 +4,7 @@ use Rattle.std.specs.Str.{chars, is_utf8}
 use lib.Utf8.{encode}
 use Rattle.texting_robots.specs.Callers.{IsVerdict, LineValue, placed_rules, rules_for}
 use Rattle.texting_robots.proofs.Shared.{rule_answers, verdict_unique}
-use Rattle.robots_rules.specs.Examples.{three, twice}
-use Rattle.robots_rules.specs.Needless.{AreDeletable, lines_without}
+use Rattle.robots_rules.specs.{Examples.three, Examples.twice, Needless.AreDeletable, Needless.lines_without}
 use Rattle.robots_rules.proofs.theorems.examples.Goals as goal
 
 -- a text that is denied with the lines and allowed without them

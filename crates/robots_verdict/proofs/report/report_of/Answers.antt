@@ -2,8 +2,7 @@ use Rattle.std.proofs.Common.{arith, ◌≡◌, ◌++◌, ◌∷◌, [], inr, ma
 use Rattle.texting_robots.specs.Robot.{file_limit}
 use Rattle.texting_robots.proofs.Shared.{not_rejected, read_robot}
 use Rattle.safe_output.specs.Lines.{ended}
-use Rattle.robots_verdict.specs.Report.{delay_line, sitemap_line}
-use Rattle.robots_verdict.specs.Internal.{value_of}
+use Rattle.robots_verdict.specs.{Report.delay_line, Report.sitemap_line, Internal.value_of}
 use Rattle.robots_verdict.proofs.{InputLemmas.some_input, ReportLemmas.text_made}
 use Rattle.robots_verdict.proofs.report.report_of.Goals as goal
 

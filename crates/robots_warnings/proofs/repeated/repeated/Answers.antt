@@ -3,8 +3,8 @@ use Rattle.std.proofs.Common.{slice_index_or, true}
 use Rattle.std.proofs.lemmas.Option.{slice_get-get_or, slice_get-map}
 use Rattle.texting_robots.specs.declared.labels.LabeledLine.{LabeledLine}
 use Rattle.texting_robots.specs.Callers.{Label, LineValue, by_value, label_by_value}
-use Rattle.robots_warnings.{specs.File.lines_of, specs.Facts.is_rule, proofs.SeenLemmas.all_pushed}
-use Rattle.robots_warnings.specs.Repeated.{IsAbove, IsRepeat}
+use Rattle.robots_warnings.specs.{File.lines_of, Facts.is_rule, Repeated.IsAbove, Repeated.IsRepeat}
+use Rattle.robots_warnings.proofs.SeenLemmas.{all_pushed}
 use Rattle.robots_warnings.proofs.repeated.repeated.Goals as goal
 
 line_at : (labels : List LabeledLine) (at : ℕ) (labeled : LabeledLine) → at < length labels

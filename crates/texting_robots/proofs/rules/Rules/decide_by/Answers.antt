@@ -1,6 +1,7 @@
-use Rattle.std.proofs.{Common.arith, Common.rules, Common.inr, lemmas.Bool.iff_false, lemmas.List.length-map}
-use Rattle.texting_robots.proofs.{FirstLemmas.first_looks, FirstLemmas.none_occurs}
-use Rattle.texting_robots.proofs.{BestLemmas.allowed_if_none}
+use Rattle.std.proofs.Common.{arith, rules, inr}
+use Rattle.std.proofs.lemmas.{Bool.iff_false, List.length-map}
+use Rattle.texting_robots.proofs.FirstLemmas.{first_looks, none_occurs}
+use Rattle.texting_robots.proofs.BestLemmas.{allowed_if_none}
 use Rattle.texting_robots.proofs.rules.Rules.decide_by.Goals as goal
 
 pub returns-in-Some : goal.returns-in-Some
