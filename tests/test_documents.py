@@ -175,7 +175,7 @@ def test_documents_name_warnings_and_options_that_exist(name):
 def test_documents_are_short():
     limits = {"README.md": 7_000, "bindings/python/README.md": 6_000, "bindings/rust/README.md": 5_000}
     assert all(len(PAGES[name].encode()) <= limit for name, limit in limits.items())
-    assert sum(len(text.encode()) for name, text in PAGES.items() if name != "CHANGELOG.md") <= 99_100
+    assert sum(len(text.encode()) for name, text in PAGES.items() if name != "CHANGELOG.md") <= 102_000
 
 
 @pytest.mark.parametrize("name", PAGES)
