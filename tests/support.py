@@ -147,7 +147,7 @@ for row in ALL_WARNINGS:
 
 FORMATS = re.findall(r'"(\w+)"', re.search(r"const NAMES: [^=]*= &\[(.*?)\];", (CRATES / "audit_core/src/request.rt").read_text(), re.S)[1])
 OF_A_URL = {"url-not-normal"}
-OF_A_CRAWLER = {"vendor-group", "ignored-star"}
+OF_A_CRAWLER = {"vendor-group", "star-ignoring-crawler"}
 OF_GROUP = {"vendor-group"}
 FIELDS = ("User-agent", "Allow", "Disallow", "Sitemap", "Crawl-delay")
 OF_RULES = {"group-without-star-rules"}

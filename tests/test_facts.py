@@ -55,7 +55,7 @@ def test_names_are_spelled_as_their_owners_spell_them():
 @pytest.mark.parametrize("name", [name for name, group in CRAWLERS.items() if group != "*"])
 def test_crawler_with_another_group_has_its_note(name):
     """The specification takes the names from the source, so no proof sees a wrong one."""
-    note, group = ("vendor-group", CRAWLERS[name]) if CRAWLERS[name] else ("ignored-star", "*")
+    note, group = ("vendor-group", CRAWLERS[name]) if CRAWLERS[name] else ("star-ignoring-crawler", "*")
     result = run("robots_audit", ["-q", "--agent", name, "-"], f"User-agent: {group}\nDisallow: /a\n".encode())
     assert f" [{note}]\n" in result.err and (group == "*" or f" (see the group of {group})" in result.err)
     result = run("robots_audit", ["-q", "--agent", name, "-"], f"User-agent: {group}\nUser-agent: {name}\nDisallow: /a\n".encode())

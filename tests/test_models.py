@@ -150,7 +150,7 @@ def of_groups(text, args):
         group, is_other = at_vendor(agent, named) or ("", False)
         if is_other:
             name = f" '{KNOWN[agent.lower()][0]}'" * (len(agents) > 1)
-            yield f"vendor-group{name} {KNOWN[agent.lower()][1]}" if group else f"ignored-star{name}"
+            yield f"vendor-group{name} {KNOWN[agent.lower()][1]}" if group else f"star-ignoring-crawler{name}"
 
 
 def octets(text):

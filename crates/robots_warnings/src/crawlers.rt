@@ -381,7 +381,7 @@ fn warn_of_vendor(
 ) -> Result<(), AllocError> {
     let (name, group) = *crawler;
     let (cause, detail) = if group.is_empty() {
-        (Cause::IgnoredStar, None)
+        (Cause::StarIgnoringCrawler, None)
     } else {
         (Cause::VendorGroup, Some(Detail::Group(number)))
     };

@@ -421,7 +421,7 @@ macro_rules! every_row { ($column:ident) => { $column![
         "# robots_audit robots.txt --agent Googlebot-News\nUser-agent: Googlebot\nDisallow: /a"
         "# robots_audit robots.txt --agent Googlebot-News\nUser-agent: Googlebot\nUser-agent: Googlebot-News\nDisallow: /a"
         "a crawler of the report is known to get the group of another one from its vendor, if it has none of its own, and the file names that one, but not this one; a line names a crawler if the letters, _ and - that its value begins with are the name; only the first such line is looked at, and none if a line has exactly the crawler's name",
-    IgnoredStar Note "ignored-star"
+    StarIgnoringCrawler Note "star-ignoring-crawler"
         "the crawler has no group of its own, and its vendor doesn't apply the group of * to it, so it may fetch everything; add a group for it"
         "# robots_audit robots.txt --agent AdsBot-Google\nUser-agent: *\nDisallow: /a"
         "# robots_audit robots.txt --agent AdsBot-Google\nUser-agent: *\nUser-agent: AdsBot-Google\nDisallow: /a"

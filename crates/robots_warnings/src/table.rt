@@ -119,7 +119,7 @@ pub enum Cause {
     WrongName,
     MisspelledName,
     VendorGroup,
-    IgnoredStar,
+    StarIgnoringCrawler,
     // a rule that can be deleted
     NeverDecides,
     MatchesNothing,

@@ -65,7 +65,7 @@ impl<'a> Warning<'a> {
             | Cause::ClosedHomePage
             | Cause::ClosedHomePageToOthers
             | Cause::VendorGroup
-            | Cause::IgnoredStar
+            | Cause::StarIgnoringCrawler
             | Cause::WrongName
             | Cause::MisspelledName => "crawler",
             _ => "URL",
