@@ -172,10 +172,14 @@ def test_documents_name_warnings_and_options_that_exist(name):
     assert options <= set(re.findall(r"`(--[a-z-]+)", "".join(row[0] for row in tables(PROGRAMS))))
 
 
-def test_documents_are_short():
-    limits = {"README.md": 7_000, "bindings/python/README.md": 6_000, "bindings/rust/README.md": 5_000}
-    assert all(len(PAGES[name].encode()) <= limit for name, limit in limits.items())
-    assert sum(len(text.encode()) for name, text in PAGES.items() if name != "CHANGELOG.md") <= 99_100
+def test_readme_is_short():
+    """The other pages are as long as their readers need."""
+    assert len(README.encode()) <= 7_000
+
+
+def test_readme_shows_the_file_that_it_audits():
+    lines = (ROOT / "examples/robots.txt").read_text().splitlines()
+    assert code(README, "")[0].splitlines() == [f"{number:2}  {line}".rstrip() for number, line in enumerate(lines, 1)]
 
 
 @pytest.mark.parametrize("name", PAGES)
