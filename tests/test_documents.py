@@ -6,10 +6,14 @@ import re
 import shlex
 import shutil
 import subprocess
+import sys
 from pathlib import Path
 
 import pytest
 from support import CRATES, DOCUMENTS, PAGES, ROOT, WARNINGS, cases_of, program, run, shown, spelled, tables
+
+sys.path.insert(0, str(ROOT / "tools"))
+import warnings_page  # noqa: E402
 
 LIBRARY = CRATES / "texting_robots"
 # of comparisons and expectations, by golden cases
@@ -258,10 +262,10 @@ SEARCH = group("*", "Disallow: /search")
 # The other files of the command are below.
 ANSWERS = {
     "Is the site closed?": [(HIDDEN, 1, ["deny 2 * /"]), (SEARCH, 0, ["allow - * /"])],
-    "Is it to Google?": [(HIDDEN, 1, ["deny 2 /"]), (HIDDEN + group("Googlebot", "Allow: /"), 0, ["allow 4 /"])],
-    "Is it to AI, and open to search?": [(group("GPTBot", "Disallow: /"), 1, ["deny 2 GPTBot /", "allow - ClaudeBot /", "allow - Googlebot /"])],
+    "Is it closed to Google?": [(HIDDEN, 1, ["deny 2 /"]), (HIDDEN + group("Googlebot", "Allow: /"), 0, ["allow 4 /"])],
+    "Is it closed to AI crawlers and open to search engines?": [(group("GPTBot", "Disallow: /"), 1, ["deny 2 GPTBot /", "allow - ClaudeBot /", "allow - Googlebot /"])],
     "Which known crawlers may fetch a page?": [(group("Bingbot", "Disallow: /search"), 1, ["deny 2 Bingbot /search", "allow - Googlebot /search"])],
-    "Why may Bing not?": [(SEARCH, 1, ["group: * (Bingbot has no group of its own)", "deny 2 /search"])],
+    "Why may Bing not fetch a page?": [(SEARCH, 1, ["group: * (Bingbot has no group of its own)", "deny 2 /search"])],
     "Did an edit change a verdict?": [(group("*", "Disallow: /b", "Disallow: /a"), 0, ["so the same verdicts"]), (SEARCH, 1, ["verdicts change"])],
     "Which URLs of a list are denied?": [(SEARCH, 1, ["deny 2 * /search/tea", "1 allowed, 1 denied"])],
     "Is a folder closed?": [
@@ -289,12 +293,12 @@ def test_questions_are_those_of_the_document():
     assert list(QUESTIONS) == list(ANSWERS)
 
 
-# ---- docs/PROGRAMS.md
+# ---- docs/PROGRAMS.md and docs/WARNINGS.md
 
-def test_documented_warnings_are_those_of_the_table():
-    rows = [(row[0].strip("`"), row[1]) for row in tables(section(PROGRAMS, "Warnings")) if row[0].strip("`") in WARNINGS]
-    levels = {name: list(dict.fromkeys(level for level, _ in its)) for name, its in WARNINGS.items()}
-    assert rows == [(name, ", ".join(sorted(its, key=["error", "warning", "note"].index))) for name, its in levels.items()]
+
+def test_page_of_warnings_is_what_the_program_prints():
+    """tools/warnings_page.py writes it anew."""
+    assert DOCUMENTS["docs/WARNINGS.md"] == warnings_page.page(lambda *words: run("robots_audit", words).out)
 
 
 def test_documented_messages_of_robots_verdict_have_their_status():
