@@ -7,7 +7,7 @@ from pathlib import Path
 import pytest
 from support import DOCUMENTS, program, run
 
-PARTS = re.compile(r"[Ss]ave this[^`]*`(?P<name>[\w.]+)`:\n\n```\n(?P<file>(?:.*\n)*?)```$|(?P<between>prints:\n\n)?(?P<block>(?:^ {4}.*\n)+)", re.M)
+PARTS = re.compile(r"[Ss]ave\s+this[^`]*`(?P<name>[\w.]+)`:\n\n```\n(?P<file>(?:.*\n)*?)```$|(?P<between>prints:\n\n)?(?P<block>(?:^ {4}.*\n)+)", re.M)
 
 
 def steps(page):
@@ -19,7 +19,7 @@ def steps(page):
             yield "printed" if it["between"] else "commands", re.sub("^    ", "", it["block"], flags=re.M)
 
 
-@pytest.mark.parametrize("name", ["docs/TUTORIAL.md"])
+@pytest.mark.parametrize("name", ["docs/TUTORIAL.md", "docs/FAQ.md"])
 def test_page_shows_what_its_commands_print(name, tmp_path):
     (tmp_path / "bin").mkdir()
     (tmp_path / "bin/robots_audit").symlink_to(program("robots_audit"))
