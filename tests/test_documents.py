@@ -191,6 +191,13 @@ def test_prose_has_at_most_100_columns(name):
     assert not [line for line in prose(PAGES[name]) if len(line) > 100]
 
 
+@pytest.mark.parametrize("name", PAGES)
+def test_words_of_the_papers_stay_in_the_main_theorem(name):
+    text = PAGES[name].replace(section(PROOFS, "The main theorem"), "") if name == "docs/PROOFS.md" else PAGES[name]
+    text = re.sub(r"`[^`]*`", "", re.sub(r"^```.*?^```$|^ {4}.*$", "", text, flags=re.M | re.S))
+    assert not re.findall(r"(?i)\b(want of memory|captured|overlong|lent|handed)\b", text)
+
+
 # ---- code, commands and their output
 
 
