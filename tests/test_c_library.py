@@ -456,8 +456,8 @@ def test_guide_shows_how_to_build_the_programs_in_c_and_python(shared_object, tm
     """The commands but `rt lib`, which has built the archive."""
     for name in ("bindings", "crates", "examples"):
         (tmp_path / name).symlink_to(ROOT / name)
-    guide = (ROOT / "docs/GUIDE.md").read_text()
-    commands = [line for line in shown(guide[guide.index("To build and install it") :]).splitlines() if "rt lib" not in line]
+    guide = (ROOT / "docs/GUIDE.md").read_text().split("\n## From C\n")[1].split("\n## ")[0]
+    commands = [line for line in shown(guide).splitlines() if "rt lib" not in line]
     ended = subprocess.run(["bash", "-euc", "\n".join(commands)], cwd=tmp_path, capture_output=True, env=os.environ | {"PYTHONDONTWRITEBYTECODE": "1"})
     report = "robots https://example.com/robots.txt\ndelay 2500000\nsitemap /sitemap.xml\nallow - https://example.com/\n"
     assert Result(ended.returncode, ended.stdout, ended.stderr) == Result(0, report * 2, "")

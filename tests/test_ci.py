@@ -151,3 +151,10 @@ def test_scan_writes_a_log_whatever_its_status_is(folder, robots, status):
     log = json.loads((folder / re.search(r"sarif_file: (.*)", workflow)[1]).read_text())
     assert log["version"] == "2.1.0" and (status == 0) == all(it["level"] != "error" for it in log["runs"][0]["results"])
     assert re.search(r"upload-sarif@v\d+\n +if: always\(\)", workflow)
+
+
+def test_workflows_are_yaml():
+    """Each step of each job runs a command or uses an action."""
+    yaml = pytest.importorskip("yaml")
+    jobs = [job for block in blocks("yaml") for job in yaml.safe_load(block)["jobs"].values()]
+    assert len(jobs) == 2 and all({"run", "uses"} & step.keys() for job in jobs for step in job["steps"])

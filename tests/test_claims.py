@@ -1,10 +1,12 @@
-"""What documents call proved names a theorem, contract or specification that says it, or `rt check`; what they call tested names tests."""
+"""What the pages for reviewers call proved names a theorem, contract or specification that says it, or `rt check`; what they call tested
+names tests. Any other page that calls something proved leads to PROOFS."""
 
 import re
 
 import pytest
 from support import CRATES, PAGES, ROOT
 
+FOR_REVIEWERS = ("docs/PROOFS.md", "docs/SPECIFICATION.md", "docs/COMPATIBILITY.md")
 CLAIM = re.compile(r"\b(proved|tested)\b", re.I)
 STATED = {name for path in CRATES.glob("*/src/**/*.rt") for name in re.findall(r"\bfn (\w+)[^{]*?\bensures\b", path.read_text())}
 FORMAL = [path.read_text() for folder in ("specs", "proofs") for path in CRATES.glob(f"*/{folder}/**/*.antt")]
@@ -39,9 +41,14 @@ def claims(text):
             yield " ".join(part.split()), claim, [span for span in re.findall(r"`([^`]+)`", part) if shows(claim, span)]
 
 
-@pytest.mark.parametrize("name", PAGES)
+@pytest.mark.parametrize("name", FOR_REVIEWERS)
 def test_claims_name_what_shows_them(name):
     assert [(claim, text) for text, claim, names in claims(PAGES[name]) if not names] == []
+
+
+@pytest.mark.parametrize("name", [name for name in PAGES if name not in (*FOR_REVIEWERS, "CHANGELOG.md")])
+def test_page_with_a_claim_leads_to_proofs(name):
+    assert "PROOFS.md" in PAGES[name] or not [text for text, claim, _ in claims(PAGES[name]) if claim == "proved"]
 
 
 def test_claims_are_seen():

@@ -6,10 +6,14 @@ import re
 import shlex
 import shutil
 import subprocess
+import sys
 from pathlib import Path
 
 import pytest
 from support import CRATES, DOCUMENTS, PAGES, ROOT, WARNINGS, cases_of, program, run, shown, spelled, tables
+
+sys.path.insert(0, str(ROOT / "tools"))
+import warnings_page  # noqa: E402
 
 LIBRARY = CRATES / "texting_robots"
 # of comparisons and expectations, by golden cases
@@ -158,7 +162,7 @@ def test_documents_name_what_exists(name):
 def test_documents_name_functions_and_lemmas_that_exist(name):
     """Names with an underscore: functions, lemmas, clauses, members of JSON, and crates, also those of the toolchain."""
     spans = set(re.findall(r"`([a-z0-9]+(?:_[a-z0-9]+)+)(?:\(\))?`", DOCUMENTS[name]))
-    crates = set(re.findall(r"\w+", (ROOT / "crates.txt").read_text() + section(PROOFS, "What is assumed")))
+    crates = set(re.findall(r"\w+", (ROOT / "crates.txt").read_text() + (ROOT / "bindings/rust/Cargo.toml").read_text() + section(PROOFS, "What is assumed")))
     text = "".join(path.read_text() for kind in ("src/**/*.rt", "specs/**/*.antt", "proofs/**/*.antt", "robots.h") for path in CRATES.glob(f"*/{kind}"))
     assert not [span for span in spans - crates if not re.search(rf'\b(?:fn|mod|ensures|int32_t|uint64_t|size_t|char) \*?{span}\b|\b{span} :|"{span}"', text)]
 
@@ -172,15 +176,26 @@ def test_documents_name_warnings_and_options_that_exist(name):
     assert options <= set(re.findall(r"`(--[a-z-]+)", "".join(row[0] for row in tables(PROGRAMS))))
 
 
-def test_documents_are_short():
-    limits = {"README.md": 7_000, "bindings/python/README.md": 6_000, "bindings/rust/README.md": 5_000}
-    assert all(len(PAGES[name].encode()) <= limit for name, limit in limits.items())
-    assert sum(len(text.encode()) for name, text in PAGES.items() if name != "CHANGELOG.md") <= 102_000
+def test_readme_is_short():
+    """The other pages are as long as their readers need."""
+    assert len(README.encode()) <= 7_000
+
+
+def test_readme_shows_the_file_that_it_audits():
+    lines = (ROOT / "examples/robots.txt").read_text().splitlines()
+    assert code(README, "")[0].splitlines() == [f"{number:2}  {line}".rstrip() for number, line in enumerate(lines, 1)]
 
 
 @pytest.mark.parametrize("name", PAGES)
 def test_prose_has_at_most_100_columns(name):
     assert not [line for line in prose(PAGES[name]) if len(line) > 100]
+
+
+@pytest.mark.parametrize("name", PAGES)
+def test_words_of_the_papers_stay_in_the_main_theorem(name):
+    text = PAGES[name].replace(section(PROOFS, "The main theorem"), "") if name == "docs/PROOFS.md" else PAGES[name]
+    text = re.sub(r"`[^`]*`", "", re.sub(r"^```.*?^```$|^ {4}.*$", "", text, flags=re.M | re.S))
+    assert not re.findall(r"(?i)\b(want of memory|captured|overlong|lent|handed)\b", text)
 
 
 # ---- code, commands and their output
@@ -226,6 +241,16 @@ def test_readme_shows_what_its_commands_print(clone, commands, printed):
     assert printed is None or "".join(it.stdout for it in ended) == printed
 
 
+def test_moving_shows_how_node_calls_robots_verdict(tmp_path):
+    if not shutil.which("node"):
+        pytest.skip("node is missing")
+    block = code(DOCUMENTS["docs/MOVING.md"], "js")[1]
+    given = 'const url = "/search/tea", body = Buffer.from("User-agent: *\\nDisallow: /search\\n");\n'
+    (tmp_path / "after.js").write_text(f"{given}{block}console.log(allowed);\n")
+    environment = os.environ | {"PATH": f"{program('robots_verdict').parent}:{os.environ['PATH']}"}
+    assert run(Path(shutil.which("node")), ["after.js"], cwd=tmp_path, env=environment).out == "false\n"
+
+
 COMMANDS = [line for line in shown(PROGRAMS).splitlines() if re.match("(robots_audit|curl) ", line)]
 COMMANDS += [re.match(r"`(.*?)`", row[1])[1] for row in tables(PROGRAMS) if row[1].startswith("`robots_audit ")]
 
@@ -254,10 +279,10 @@ SEARCH = group("*", "Disallow: /search")
 # The other files of the command are below.
 ANSWERS = {
     "Is the site closed?": [(HIDDEN, 1, ["deny 2 * /"]), (SEARCH, 0, ["allow - * /"])],
-    "Is it to Google?": [(HIDDEN, 1, ["deny 2 /"]), (HIDDEN + group("Googlebot", "Allow: /"), 0, ["allow 4 /"])],
-    "Is it to AI, and open to search?": [(group("GPTBot", "Disallow: /"), 1, ["deny 2 GPTBot /", "allow - ClaudeBot /", "allow - Googlebot /"])],
+    "Is it closed to Google?": [(HIDDEN, 1, ["deny 2 /"]), (HIDDEN + group("Googlebot", "Allow: /"), 0, ["allow 4 /"])],
+    "Is it closed to AI crawlers and open to search engines?": [(group("GPTBot", "Disallow: /"), 1, ["deny 2 GPTBot /", "allow - ClaudeBot /", "allow - Googlebot /"])],
     "Which known crawlers may fetch a page?": [(group("Bingbot", "Disallow: /search"), 1, ["deny 2 Bingbot /search", "allow - Googlebot /search"])],
-    "Why may Bing not?": [(SEARCH, 1, ["group: * (Bingbot has no group of its own)", "deny 2 /search"])],
+    "Why may Bing not fetch a page?": [(SEARCH, 1, ["group: * (Bingbot has no group of its own)", "deny 2 /search"])],
     "Did an edit change a verdict?": [(group("*", "Disallow: /b", "Disallow: /a"), 0, ["so the same verdicts"]), (SEARCH, 1, ["verdicts change"])],
     "Which URLs of a list are denied?": [(SEARCH, 1, ["deny 2 * /search/tea", "1 allowed, 1 denied"])],
     "Is a folder closed?": [
@@ -285,12 +310,12 @@ def test_questions_are_those_of_the_document():
     assert list(QUESTIONS) == list(ANSWERS)
 
 
-# ---- docs/PROGRAMS.md
+# ---- docs/PROGRAMS.md and docs/WARNINGS.md
 
-def test_documented_warnings_are_those_of_the_table():
-    rows = [(row[0].strip("`"), row[1]) for row in tables(section(PROGRAMS, "Warnings")) if row[0].strip("`") in WARNINGS]
-    levels = {name: list(dict.fromkeys(level for level, _ in its)) for name, its in WARNINGS.items()}
-    assert rows == [(name, ", ".join(sorted(its, key=["error", "warning", "note"].index))) for name, its in levels.items()]
+
+def test_page_of_warnings_is_what_the_program_prints():
+    """tools/warnings_page.py writes it anew."""
+    assert DOCUMENTS["docs/WARNINGS.md"] == warnings_page.page(lambda *words: run("robots_audit", words).out)
 
 
 def test_documented_messages_of_robots_verdict_have_their_status():

@@ -62,9 +62,10 @@ import pytest
 from support import ROOT, WARNINGS, Result, cases_of, files_beside, input_of, parts_of, program, repeated, run, spelled, wanted_of, warning_lines, warnings_of, with_standard
 
 def golden():
-    """The arguments of test_golden for each case, that of this module's comment too."""
+    """The arguments of test_golden for each case, those of this module's comment and of CONTRIBUTING too."""
     files = {f"{path.parent.name} {path.stem}": path.read_text() for path in sorted(Path(ROOT, "tests/golden").glob("*/*.toml"))}
-    files["robots_audit example"] = re.search(r"^```toml\n(.*?)^```$", __doc__, re.M | re.S)[1]
+    for name, text in {"example": __doc__, "contributing": (ROOT / "CONTRIBUTING.md").read_text()}.items():
+        files[f"robots_audit {name}"] = re.search(r"^```toml\n(.*?)^```$", text, re.M | re.S)[1]
     for file, text in files.items():
         for name, case in cases_of(text).items():
             yield pytest.param(file.split()[0], case, False, id=f"{file}: {name}")

@@ -369,8 +369,7 @@ def test_lines_of_the_readme_in_rust(releases, bare, tmp_path, way):
     depends = way([*releases[0].glob("*.crate")], tmp_path, bare)
     (tmp_path / "Cargo.toml").write_text(f'[package]\nname = "caller"\nversion = "0.1.0"\nedition = "2021"\n{depends}')
     (tmp_path / "src").mkdir()
-    lines = code(PACKAGES["rust"], "rust")[0].replace("# Ok", "Ok")
-    (tmp_path / "src/main.rs").write_text(f"fn main() -> Result<(), texting_robots_verified::Error> {{\n{lines}}}\n")
+    (tmp_path / "src/main.rs").write_text(code(PACKAGES["rust"], "rust")[0])
     ran(["cargo", "build", "--offline"], tmp_path, bare | {"CARGO_TARGET_DIR": str(tmp_path / "target")})
     ran([tmp_path / "target/debug/caller"], tmp_path, bare)
 

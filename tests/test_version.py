@@ -16,6 +16,7 @@ PLACES = [
     ("README.md", r"\bversion (\d\S*\d)\b"),
     ("bindings/python/README.md", r"\bversion (\d\S*\d)\b"),
     ("bindings/rust/README.md", r"(?:\bversion |^texting_robots_verified(?:-sys)? = .*?[-\"])(\d+\.\d+\.\d+)"),
+    ("docs/MOVING.md", rf"\bversion = {QUOTED}"),
     ("bindings/c/exports", r"^ROBOTS_C_(\d+)", MAJOR),
     ("bindings/python/pyproject.toml", rf"^version = {QUOTED}"),
     ("bindings/python/src/texting_robots/__init__.py", rf"^__version__ = {QUOTED}"),

@@ -8,7 +8,7 @@ from pathlib import Path
 
 import pytest
 from library import HEADER, archive
-from support import ROOT, cases_of, compiled, input_of, run, spelled, wanted_of
+from support import DOCUMENTS, ROOT, cases_of, compiled, input_of, run, spelled, wanted_of
 from test_documents import code
 
 CRATE = Path(__file__).resolve().parent.parent
@@ -91,13 +91,18 @@ def test_each_allocation_fails_in_turn(ask, tmp_path):
 
 
 def test_the_lines_of_the_readme_in_another_crate(installed, tmp_path):
-    """Over the installed library, and under the former name of the crate, as when migrating."""
-    (tmp_path / "src").mkdir()
-    lines = code(README, "rust")[0].replace("texting_robots_verified", "texting_robots").replace("# Ok", "Ok")
-    (tmp_path / "src/main.rs").write_text(f"fn main() -> Result<(), texting_robots::Error> {{\n{lines}}}\n")
-    named = re.search(r"`texting_robots = (\{ package.*?\})`", README)[1].replace('version = "1.0.0"', f'path = "{CRATE}"')
-    (tmp_path / "Cargo.toml").write_text(f'[package]\nname = "caller"\nversion = "0.1.0"\nedition = "2021"\n[dependencies]\ntexting_robots = {named}\n')
-    cargo("run", cwd=tmp_path, env=os.environ | {"ROBOTS_C": str(installed), "CARGO_TARGET_DIR": str(tmp_path / "target")})
+    """Over the installed library, and under the former name of the crate, as when migrating; then the code after migrating."""
+    moving = DOCUMENTS["docs/MOVING.md"].split("\n## The Rust crate `texting_robots`\n")[1]
+    (named,) = code(moving, "toml")
+    (tmp_path / "src/bin").mkdir(parents=True)
+    (tmp_path / "src/main.rs").write_text(code(README, "rust")[0].replace("texting_robots_verified", "texting_robots"))
+    after = code(moving, "rust")[1].replace("\n\n", '\n\nfn main() {\n    let (body, url) = (b"User-agent: *\\nDisallow: /a", "/a");\n', 1)
+    used = 'assert!(!allowed && delay.is_none() && get_robots_url("https://h/a").unwrap() == "https://h/robots.txt");'
+    (tmp_path / "src/bin/after.rs").write_text(f"{after}    {used}\n}}\n")
+    package = '[package]\nname = "caller"\nversion = "0.1.0"\nedition = "2021"\ndefault-run = "caller"\n[dependencies]\n'
+    (tmp_path / "Cargo.toml").write_text(package + named.replace('version = "1.0.0"', f'path = "{CRATE}"'))
+    for name in ("caller", "after"):
+        cargo("run", "--bin", name, cwd=tmp_path, env=os.environ | {"ROBOTS_C": str(installed), "CARGO_TARGET_DIR": str(tmp_path / "target")})
 
 
 @pytest.fixture(scope="module")

@@ -110,7 +110,7 @@ class RobotsMiddleware:
 
     A site is a scheme with a host and a port. Its robots.txt file is fetched before anything else, by one request for all that wait for
     it. What the answer means follows RFC 9309: without a file (400 to 499 but 429, or a sixth redirect) everything is allowed; if the server
-    fails (429, 500 to 599, half a file, no answer) the file that it gave before counts, or without one nothing may be fetched. Scrapy's own
+    fails (429, 500 to 599, a truncated body, no answer) the file that it gave before counts, or without one nothing may be fetched. Scrapy's own
     middleware then fetches everything.
 
     So in an outage requests to the site wait, and go on when its file can be fetched: in memory, or where they have no place on disk, and then
@@ -128,32 +128,32 @@ class RobotsMiddleware:
     ``ROBOTSTXT_PARSER`` isn't used. The first failure of a site is a warning, and later ones are for debugging. Settings of its own, with
     their defaults:
 
-    - ``TEXTING_ROBOTS_PARKED = 1000``: so many requests wait in memory for sites whose files can't be fetched, and others on disk. With 0 all
-      are on disk, and a crash loses none of them.
-    - ``TEXTING_ROBOTS_PARKED_SECONDS = 86400``: each waits for at most so many seconds, in a JOBDIR from each start on. 0 lets none wait.
-    - ``TEXTING_ROBOTS_DEAD_PARKED = 10``: so many in memory for a host to which there never was a connection, as its name is unknown or it
-      refuses them.
-    - ``TEXTING_ROBOTS_DEAD_TRIES = 3``: so often the file of such a host is asked for, until its requests end in `Unreachable`.
-    - ``TEXTING_ROBOTS_IDLE_SECONDS = 120``: so many seconds an otherwise idle spider stays open while requests wait, but never for such a host.
-    - ``TEXTING_ROBOTS_RETRY = 300``: at most so many seconds after the server failed, the file is asked for again, unless it says when
-      (Retry-After): after 5, 10, 20 and so on, up to a tenth longer by chance. Scrapy's own retries, ``RETRY_TIMES``, come with the first
+    - ``TEXTING_ROBOTS_PARKED = 1000``: the number of requests that may wait in memory for robots.txt files that can't be fetched. Others
+      wait on disk. With 0 all are on disk, and a crash loses none of them.
+    - ``TEXTING_ROBOTS_PARKED_SECONDS = 86400``: how many seconds each may wait, in a JOBDIR from each start on. With 0 none waits.
+    - ``TEXTING_ROBOTS_DEAD_PARKED = 10``: the number that may wait in memory for a host to which there never was a connection, because its
+      name is unknown or it refuses them.
+    - ``TEXTING_ROBOTS_DEAD_TRIES = 3``: how often the file of such a host is requested before the requests for the host end in `Unreachable`.
+    - ``TEXTING_ROBOTS_IDLE_SECONDS = 120``: how many seconds an otherwise idle spider stays open while requests wait, but never for such a host.
+    - ``TEXTING_ROBOTS_RETRY = 300``: the longest time, in seconds, until the file is requested again after the server failed, unless the
+      server says when (Retry-After): after 5, 10, 20 and so on, up to a tenth longer by chance. Scrapy's own retries, ``RETRY_TIMES``, come with the first
       request alone.
-    - ``TEXTING_ROBOTS_ANSWER_WITHIN = 1260``: after so many seconds a request for a file counts as failed whatever comes, as that of another
-      process with the same database. It is 300 and the longest time that a request waits in a slot: the longest delay for each of the
+    - ``TEXTING_ROBOTS_ANSWER_WITHIN = 1260``: after how many seconds a request for a file counts as failed in any case, for example that of
+      another process with the same database. It is 300 and the longest time that a request waits in a slot: the longest delay for each of the
       ``CONCURRENT_REQUESTS``.
     - ``TEXTING_ROBOTS_AFTER_30_DAYS = "last file"``: what counts when a server has failed for 30 days: the file before, if there was one;
       ``"no file"``, so everything may be fetched; or ``"closed"``.
-    - ``TEXTING_ROBOTS_TIMEOUT = 30``: for so many seconds an answer is waited for, or as long as ``DOWNLOAD_TIMEOUT`` says if that is shorter.
-    - ``TEXTING_ROBOTS_LIFETIME = 86400``: for so many seconds a file counts, or as Cache-Control says if that is shorter, but at least 300.
-      In the last hour of them it is fetched again while it still counts. The HTTP cache of Scrapy never has it.
-    - ``TEXTING_ROBOTS_BUDGET = 100_000_000``: so much memory in bytes is taken for files, which are kept compressed (some 1,000 bytes for a
-      usual file), and a quarter of it for those that are parsed. A file for which there is no room is fetched again.
+    - ``TEXTING_ROBOTS_TIMEOUT = 30``: how many seconds to wait for an answer. ``DOWNLOAD_TIMEOUT`` counts if it is shorter.
+    - ``TEXTING_ROBOTS_LIFETIME = 86400``: how many seconds a file is used. Cache-Control counts if it is shorter, but at least 300. In the last
+      hour the file is fetched again, and is used until then. The HTTP cache of Scrapy never has it.
+    - ``TEXTING_ROBOTS_BUDGET = 100_000_000``: the memory for files, in bytes. Files are kept compressed, which takes some 1,000 bytes for a usual
+      one; a quarter of the memory is for those that are parsed. A file for which there is no room is fetched again.
     - ``TEXTING_ROBOTS_DATABASE``: the path of a sqlite3 file, in which all files are kept, also for the next start. Processes of one machine
       can share it. With a JOBDIR it is ``robots.sqlite3`` there, unless this setting is ``""``.
     - ``TEXTING_ROBOTS_EXEMPT = []``: hosts, such as your own, of which no file is fetched, and everything may be.
-    - ``TEXTING_ROBOTS_COST = 20_000_000``: so many comparisons may be taken for a verdict. A URL that might need more is denied, with a
+    - ``TEXTING_ROBOTS_COST = 20_000_000``: how many comparisons a verdict may take. A URL that might need more is denied, with a
       warning.
-    - ``TEXTING_ROBOTS_MAX_DELAY = 60``: a longer delay is cut to so many seconds. 0 keeps no delays.
+    - ``TEXTING_ROBOTS_MAX_DELAY = 60``: a longer delay is cut to this number of seconds. With 0 delays are ignored.
 
     The delay holds in the downloader's slots, whatever ``DOWNLOAD_DELAY``, ``download_slot`` and AutoThrottle say, which may only make it
     longer. A site with a delay gets a slot of its own where its slot is a spider's, or that of an IP address. In the slot of a host, the
