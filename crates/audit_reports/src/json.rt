@@ -240,7 +240,10 @@ fn findings_json(
     findings: &[Finding],
 ) -> Result<Value, AllocError> {
     let object = Object::new(alloc)
-        .with("expectations_file", optional_json(alloc, names.expectations))?
+        .with(
+            "expectations_file",
+            optional_json(alloc, names.expectations),
+        )?
         .with("file", sanitized_json(alloc, names.file.as_bytes()))?
         .with("findings", list_json(alloc, findings))?
         .with("old", optional_json(alloc, names.old))?;

@@ -1,4 +1,4 @@
-use Rattle.c_calls.proofs.Borrowing.{◌≡◌, ℕ, [], ◌∷◌, refl, ‵, ◌⊛◌, ◌$◌, ◌∵◌, !}
+use Rattle.c_calls.proofs.Borrowing.{◌≡◌, ℕ, [], ◌∷◌, refl, ‵, ◌⊛◌, ◌$◌, ◌∵◌, ! }
 use Rattle.c_calls.proofs.Borrowing as m
 use Rattle.c_calls.proofs.Keeping.{id⊢, ℤ, ◌≢◌}
 use Rattle.c_calls.proofs.Keeping as d

@@ -1,4 +1,4 @@
-use Rattle.c_calls.proofs.Borrowing.{ℕ, refl, [], ◌∷◌, ◌$◌, ◌∵◌, !}
+use Rattle.c_calls.proofs.Borrowing.{ℕ, refl, [], ◌∷◌, ◌$◌, ◌∵◌, ! }
 use Rattle.c_calls.proofs.Borrowing as m
 use Rattle.c_calls.{proofs.urls.write_verdict.Met.met, specs.Kept.Robots, specs.File.IsRobotOfSomeFile}
 use Rattle.robots_c.proofs.robots_verdict.Statement.{statement}

@@ -1,4 +1,4 @@
-use Rattle.c_calls.proofs.Borrowing.{ℕ, [], ◌∷◌, refl, ◌$◌, ◌∵◌, !}
+use Rattle.c_calls.proofs.Borrowing.{ℕ, [], ◌∷◌, refl, ◌$◌, ◌∵◌, ! }
 use Rattle.c_calls.proofs.Borrowing as m
 use Rattle.c_calls.specs.{Kept.Robots, File.IsRobotOfSomeFile}
 use Rattle.c_calls.specs.contracts.batch.write_verdicts as callee

@@ -1,4 +1,4 @@
-use Rattle.c_calls.proofs.Borrowing.{ℕ, [], ◌∷◌, refl, ◌$◌, ◌∵◌, !}
+use Rattle.c_calls.proofs.Borrowing.{ℕ, [], ◌∷◌, refl, ◌$◌, ◌∵◌, ! }
 use Rattle.c_calls.proofs.Borrowing as m
 use Rattle.c_calls.specs.{Kept.Sites, File.IsSiteOfSomeFile}
 use Rattle.c_calls.specs.contracts.matrix.matrix_by as callee
