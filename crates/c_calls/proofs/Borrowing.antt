@@ -15,7 +15,8 @@ use base.Share
 use base.Fml.{Fml, Lft, Share, ftrue, fat, fsep, feq, Incl, Incl-refl}
 use base.Logic.{SProp, emp, ent, ex, fst∗, snd∗, guard, id⊢, never, sep, via, never_e, wand}
 use contract.Monad.{fact_use}
-use mir.Syntax.{Callee, Fn, Place, Opd as Operand, Body, Ty, call, named, seq, ty_bool, ty_int, ty_ptr, w32, w64}
+use mir.Syntax.{Callee, Fn, Place, Opd as Operand, Body, Ty, call, named, seq, ty_bool, ty_int, ty_ptr}
+use mir.Syntax.{w32, w64}
 use mir.Syntax.{addr_of, copy, deref, place as local_place, rv_opd}
 use mir.Val.{Val, WT, has_ty, vbool, vint, vptr}
 use mir.ValLaws.{of_z_fits}

@@ -1,5 +1,6 @@
 -- URLs in one text, each with the place where it ends.
-use Rattle.std.specs.Prelude.{ℕ, ◌-◌, ◌<◌, ◌≤◌, ℤ, Bool, true, false, IsUtf8, List, [], ◌∷◌, drop, length, take}
+use Rattle.std.specs.Prelude.{ℕ, ◌-◌, ◌<◌, ◌≤◌, ℤ, Bool, true, false, IsUtf8, List, [], ◌∷◌, drop}
+use Rattle.std.specs.Prelude.{length, take}
 use Rattle.std.specs.List.{All, AllZip}
 use Rattle.texting_robots.specs.{Callers.PlacedRule}
 use Rattle.c_calls.specs.{Verdicts.HasVerdict, Verdicts.HasVerdicts, Status.IsWhyNoVerdicts}

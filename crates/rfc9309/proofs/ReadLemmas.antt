@@ -38,8 +38,8 @@ bare_no_nul = grind (arith, each_weaker)
 pub end_bytes : (nl : List ℕ) → IsNl nl → Each (λ byte. byte ≢ 0) nl × BeginsLow nl
 end_bytes nl h = grind arith
 
--- `bodies` are `body` and then the others. If these begin with an empty content, it may be missing: a line feed
--- ends a line of its own where a text begins with it, but none right after a carriage return.
+-- `bodies` are `body` and then the others. If these begin with an empty content, it may be missing: a line
+-- feed ends a line of its own where a text begins with it, but none right after a carriage return.
 pub record IsBefore (body : List ℕ) (bodies others : List (List ℕ)) : Type 0 where
   pub later : List (List ℕ)
   pub whole : bodies ≡ body ∷ later

@@ -54,7 +54,8 @@ value_in body = trim_blanks (before_byte hash (after_byte colon body))
 abbrev pub lower : List ℕ → List ℕ
 lower text = map to_ascii_lowercase text
 
--- a colon after this field name, with ASCII letters in any case, and only what is allowed in a comment, if there is one
+-- a colon after this field name, with ASCII letters in any case, and only what is allowed in a comment, if
+-- there is one
 abbrev pub is_keyed : List ℕ → List ℕ → Bool
 is_keyed word body =
     (has colon body && bytes_eq (lower (name_in body)) word)

@@ -137,14 +137,16 @@ of_file file P is =
     lines_satisfy file P is (file_lines file) ((each_text_has_its_lines (map nul_as_lf file) _).1 refl)
 
 pub same_delay : (agent file other : List ℕ) (one two : Option ℕ)
-    → HasLines file (λ lines. IsDelayFor agent lines one) → HasLines other (λ lines. IsDelayFor agent lines two)
+    → HasLines file (λ lines. IsDelayFor agent lines one)
+    → HasLines other (λ lines. IsDelayFor agent lines two)
     → ◌≡◌ {A = Option ℕ} one two → delay_for agent (file_lines other) ≡ delay_for agent (file_lines file)
 same_delay agent file other one two first second same =
     sym ((delay_is_computed agent _ two).0 (of_file other (λ ls. IsDelayFor agent ls two) second)) ∙ sym same
     ∙ (delay_is_computed agent _ one).0 (of_file file (λ ls. IsDelayFor agent ls one) first)
 
 pub same_sitemaps : (file other : List ℕ) (texts others : List (List ℕ))
-    → HasLines file (λ lines. AreSitemapsOf lines texts) → HasLines other (λ lines. AreSitemapsOf lines others)
+    → HasLines file (λ lines. AreSitemapsOf lines texts)
+    → HasLines other (λ lines. AreSitemapsOf lines others)
     → texts ≡ others → sitemaps_in (file_lines file) ≡ sitemaps_in (file_lines other)
 same_sitemaps file other texts others first second same =
     sym ((sitemaps_are_computed _ texts).0 (of_file file (λ ls. AreSitemapsOf ls texts) first)) ∙ same
@@ -185,7 +187,8 @@ module _ (file left : List ℕ) (numbers : List ℕ) (are : CanBeDeleted numbers
     rejection = (
       λ rejected. absurd (alike.accepted (of_file file (IsRejected agent) rejected)),
       λ rejected.
-          absurd (alike.left_accepted (same_as_less.0.rejection.0 (of_file left (IsRejected agent) rejected))),
+          absurd
+          (alike.left_accepted (same_as_less.0.rejection.0 (of_file left (IsRejected agent) rejected))),
     );
     robots = λ one two is_one is_two.
         robots_alike one two (of_file file (λ ls. IsRobotOf agent ls one) is_one)

@@ -1,5 +1,5 @@
--- Rules that pass a computed test (`is_usual`) and have plain paths are comparable, so the computed verdict is
--- the standard's (`agreed`). Then the three examples.
+-- Rules that pass a computed test (`is_usual`) and have plain paths are comparable, so the computed verdict
+-- is the standard's (`agreed`). Then the three examples.
 use Rattle.std.proofs.Common.{◌≡◌, ◌≢◌, ◌<◌, ◌∷◌, ◌&&◌, Bool, true, false, inl, inr, List, [], ℕ, codes}
 use Rattle.std.proofs.Common.{get_or, length, map, nat_lt, refl, ap, arith, subst}
 use Rattle.std.specs.List.{AllByRecursion as Each, AllZip, Contains, list_all}
