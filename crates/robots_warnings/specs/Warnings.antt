@@ -2,7 +2,8 @@
 use Rattle.std.specs.Prelude.{[], ◌≡◌, ℕ, Bool, IsTrue, Any, List, ◌∷◌, Some, None, Option, MatchOption, ⊤}
 use Rattle.std.specs.Prelude.{false, if◌then◌else◌, true}
 use Rattle.texting_robots.specs.Callers.{LineValue}
-use Rattle.robots_warnings.specs.declared.table.Cause.{Cause, TheVariants as cause}
+use Rattle.robots_warnings.specs.declared.table.Cause.{Cause}
+use Rattle.robots_warnings.specs.declared.table.Cause.TheVariants as cause
 use Rattle.robots_warnings.specs.Conflicts.{overrules_for_one}
 use Rattle.robots_warnings.specs.{Closed.line_closing_site, Message.WarningValue, Targets.has_odd_target}
 
