@@ -160,11 +160,12 @@ def test_documents_name_what_exists(name):
 
 @pytest.mark.parametrize("name", DOCUMENTS)
 def test_documents_name_functions_and_lemmas_that_exist(name):
-    """Names with an underscore: functions, lemmas, clauses, members of JSON, and crates, also those of the toolchain."""
+    """Names with an underscore: functions, lemmas, clauses, members of JSON, and crates, also those of the toolchain; and methods in Python."""
     spans = set(re.findall(r"`([a-z0-9]+(?:_[a-z0-9]+)+)(?:\(\))?`", DOCUMENTS[name]))
     crates = set(re.findall(r"\w+", (ROOT / "crates.txt").read_text() + (ROOT / "bindings/rust/Cargo.toml").read_text() + section(PROOFS, "What is assumed")))
     text = "".join(path.read_text() for kind in ("src/**/*.rt", "specs/**/*.antt", "proofs/**/*.antt", "robots.h") for path in CRATES.glob(f"*/{kind}"))
-    assert not [span for span in spans - crates if not re.search(rf'\b(?:fn|mod|ensures|int32_t|uint64_t|size_t|char) \*?{span}\b|\b{span} :|"{span}"', text)]
+    text += "".join(path.read_text() for path in ROOT.glob("bindings/python/src/texting_robots/*.py"))
+    assert not [span for span in spans - crates if not re.search(rf'\b(?:fn|mod|def|ensures|int32_t|uint64_t|size_t|char) \*?{span}\b|\b{span} :|"{span}"', text)]
 
 
 @pytest.mark.parametrize("name", DOCUMENTS)
