@@ -199,6 +199,18 @@ def test_words_of_the_papers_stay_in_the_main_theorem(name):
     assert not re.findall(r"(?i)\b(want of memory|captured|overlong|lent|handed)\b", text)
 
 
+def test_architecture_names_every_crate_and_module():
+    named = {name for row in tables(DOCUMENTS["docs/ARCHITECTURE.md"]) for name in re.findall(r"`(\w+)`", row[0])}
+    crates = re.findall(r"^(\w+).*:", (ROOT / "crates.txt").read_text(), re.M)
+    assert set(crates) == {path.name for path in CRATES.iterdir() if path.is_dir()}
+    assert {*crates, *(path.stem for path in (LIBRARY / "src").glob("*.rt"))} - {"lib"} <= named
+
+
+def test_contributing_shows_a_row_of_the_warnings():
+    (row,) = code(DOCUMENTS["CONTRIBUTING.md"], "rust")
+    assert row in (CRATES / "robots_warnings/src/rows.rt").read_text()
+
+
 # ---- code, commands and their output
 
 
