@@ -339,14 +339,46 @@ def test_documented_messages_of_robots_verdict_have_their_status():
     assert {*rows} == found | {(4, "robots_verdict: out of memory")}
 
 
-def test_documented_options_are_those_of_help():
-    """And those of the manual page."""
-    option = r"(?<![\w-])(?:--[a-z-]+|-[a-zA-Z])(?![\w-])"
-    documented = [name for row in tables(PROGRAMS) if row[0].startswith("`-") for name in re.findall(option, row[0])]
+OPTION = r"(?<![\w-])(?:--[a-z-]+|-[a-zA-Z])(?![\w-])"
+
+
+@pytest.fixture(scope="module")
+def options():
+    """The lines on options that help has."""
+    return run("robots_audit", ["--help"]).out.split("\nOptions:")[1].split("\n\n")[0]
+
+
+def values(text):
+    """What the value of each option is called, if it has one, and in which brackets."""
+    return {name: "".join(value.split()) for name, value in re.findall(r"(--[a-z-]+) *(\[?=? *[A-Z]{3,} *\]?)", text)}
+
+
+def test_documented_options_are_those_of_help(options):
+    """And those of the manual page; and their values have equal names."""
+    documented = "\n".join(row[0] for row in tables(PROGRAMS) if row[0].startswith("`-"))
     page = (ROOT / "man/robots_audit.1").read_text().split(".SH OPTIONS")[1].split("\n.SH ")[0]
     headings = re.sub(r"\\f[BIR]", " ", "\n".join(re.findall(r"^\.TP\n(.*)$", page, re.M)).replace("\\-", "-"))
-    usage = run("robots_audit", ["--help"]).out
-    assert sorted(documented) == sorted(re.findall(option, headings)) == sorted(set(re.findall(option, usage.split("\nOptions:")[1].split("\n\n")[0])))
+    assert sorted(re.findall(OPTION, documented)) == sorted(re.findall(OPTION, headings)) == sorted(set(re.findall(OPTION, options)))
+    helped = values(re.sub("[<>]", "", options))
+    for found in map(values, (documented, headings)):
+        assert {**found, "--user-agent": "NAME"} == {**helped, "--user-agent": "NAME"}
+
+
+def test_documented_words_are_those_of_help(options):
+    """The formats, the levels and when colors are used."""
+    offered = dict(re.findall(r"^ +(--[a-z-]+)\b.*\[possible values: (.*)\]$", options, re.M))
+    rows = {re.findall(OPTION, row[0])[0]: row[1] for row in tables(PROGRAMS) if row[0].startswith("`--")}
+    page = (ROOT / "man/robots_audit.1").read_text().replace("\\-", "-").replace("\\fB", "").replace("\\fR", "")
+    for name, words in offered.items():
+        of_the_page = page.split(f"{name}", 1)[1].split("\n.TP\n")[0]
+        for word in words.split(", "):
+            assert f"`{word}`" in rows[name] and re.search(rf"\b{word}\b", of_the_page), (name, word)
+    assert {"--format", "--strict", "--color"} <= set(offered)
+
+
+def test_the_web_page_gives_options_of_the_program(options):
+    given = set(re.findall(r"--[a-z]+", (ROOT / "web/page.js").read_text()))
+    assert {"--html", "--compare", "--expect"} <= given <= set(re.findall(OPTION, options))
 
 
 def test_documented_json_is_that_of_the_program():
