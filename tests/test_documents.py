@@ -177,6 +177,11 @@ def test_documents_name_warnings_and_options_that_exist(name):
     assert options <= set(re.findall(r"`(--[a-z-]+)", "".join(row[0] for row in tables(PROGRAMS))))
 
 
+@pytest.mark.parametrize("name", [name for name in PAGES if name != "README.md"])
+def test_page_begins_with_whom_it_is_for(name):
+    assert re.match(r"# .*\n\nThis page is for ", PAGES[name])
+
+
 def test_readme_is_short():
     """The other pages are as long as their readers need."""
     assert len(README.encode()) <= 7_000
