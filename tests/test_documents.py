@@ -398,6 +398,13 @@ def test_robots_verdict_prints_the_documented_report():
     assert (result.status, result.out) == (0, re.sub("^    ", "", out, flags=re.M))
 
 
+def test_documented_settings_are_those_of_the_middleware():
+    """With their defaults, as its docstring has them."""
+    rows = [[cell.strip("`") for cell in row] for row in tables(PAGES["bindings/python/README.md"]) if row[0].startswith("`TEXTING_ROBOTS_")]
+    docstring = (ROOT / "bindings/python/src/texting_robots/middleware.py").read_text()
+    assert rows and all(f"- ``{name}{'' if default == 'none' else f' = {default}'}``:" in docstring for name, default, _ in rows)
+
+
 # ---- examples in docs/SPECIFICATION.md and docs/COMPATIBILITY.md
 
 
