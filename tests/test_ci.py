@@ -117,7 +117,7 @@ def test_commands_of_the_page_guard_a_file(folder):
     """The third one leaves out a warning."""
     expectations, audit, ignoring, *_ = shown(DOCUMENTS["docs/CI.md"]).splitlines()
     assert [ran(folder, it) for it in (expectations, audit, ignoring)] == [0, 0, 0]
-    (folder / "robots.txt").write_text(f"{GOOD}Host: shop.example\n")
+    (folder / "robots.txt").write_text(f"{GOOD}Noindex: /old/\n")
     assert [ran(folder, it) for it in (expectations, audit, ignoring)] == [0, 3, 0]
 
 

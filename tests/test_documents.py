@@ -296,8 +296,8 @@ SEARCH = group("*", "Disallow: /search")
 # For each question that docs/PROGRAMS.md answers by a command: files with different answers, with the exit status and what is printed.
 # The other files of the command are below.
 ANSWERS = {
-    "Is the site closed?": [(HIDDEN, 1, ["deny 2 * /"]), (SEARCH, 0, ["allow - * /"])],
-    "Is it closed to Google?": [(HIDDEN, 1, ["deny 2 /"]), (HIDDEN + group("Googlebot", "Allow: /"), 0, ["allow 4 /"])],
+    "Is the site closed?": [(HIDDEN, 1, ["1 rule, may fetch nothing", "deny 2 * /"]), (SEARCH, 0, ["allow - * /"])],
+    "Is it closed to Google?": [(HIDDEN, 1, ["may fetch: nothing", "deny 2 /"]), (HIDDEN + group("Googlebot", "Allow: /"), 0, ["allow 4 /"])],
     "Is it closed to AI crawlers and open to search engines?": [(group("GPTBot", "Disallow: /"), 1, ["deny 2 GPTBot /", "allow - ClaudeBot /", "allow - Googlebot /"])],
     "Which known crawlers may fetch a page?": [(group("Bingbot", "Disallow: /search"), 1, ["deny 2 Bingbot /search", "allow - Googlebot /search"])],
     "Why may Bing not fetch a page?": [(SEARCH, 1, ["group: * (Bingbot has no group of its own)", "deny 2 /search"])],
