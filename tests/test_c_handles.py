@@ -121,21 +121,21 @@ BYTES = r"""
 static size_t held;
 static char nothing;
 static bool fails;
-struct tried { _Bool worked; void *block; };
-struct tried rattle_alloc(size_t length, size_t alignment) {
+struct rattle_allocation { _Bool worked; void *block; };
+struct rattle_allocation rattle_alloc(size_t length, size_t alignment) {
     size_t *block = alignment <= 16 && !fails ? malloc(16 + length) : NULL;
     if (block == NULL)
-        return (struct tried){0, &nothing};
+        return (struct rattle_allocation){0, &nothing};
     held += *block = length;
-    return (struct tried){1, (char *)block + 16};
+    return (struct rattle_allocation){1, (char *)block + 16};
 }
 void rattle_dealloc(void *block) {
     size_t *start = (void *)((char *)block - 16);
     held -= *start;
     free(start);
 }
-struct tried rattle_realloc(void *block, size_t used, size_t length, size_t alignment) {
-    struct tried tried = rattle_alloc(length, alignment);
+struct rattle_allocation rattle_realloc(void *block, size_t used, size_t length, size_t alignment) {
+    struct rattle_allocation tried = rattle_alloc(length, alignment);
     if (tried.worked) {
         memcpy(tried.block, block, used);
         rattle_dealloc(block);

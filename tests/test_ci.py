@@ -113,6 +113,14 @@ def test_empty_file_is_stopped_by_its_audit(folder):
     assert ran(folder, audit.replace("--strict", "--strict=error")) == 0 and makefile(folder) != 0
 
 
+def test_commands_of_the_page_guard_a_file(folder):
+    """The third one leaves out a warning."""
+    expectations, audit, ignoring, *_ = shown(DOCUMENTS["docs/CI.md"]).splitlines()
+    assert [ran(folder, it) for it in (expectations, audit, ignoring)] == [0, 0, 0]
+    (folder / "robots.txt").write_text(f"{GOOD}Noindex: /old/\n")
+    assert [ran(folder, it) for it in (expectations, audit, ignoring)] == [0, 3, 0]
+
+
 def test_workflow_reports_what_changes(folder):
     *_, (command, _) = commands(blocks("yaml")[0])
     ran(folder, "git commit -qm one")

@@ -160,11 +160,12 @@ def test_documents_name_what_exists(name):
 
 @pytest.mark.parametrize("name", DOCUMENTS)
 def test_documents_name_functions_and_lemmas_that_exist(name):
-    """Names with an underscore: functions, lemmas, clauses, members of JSON, and crates, also those of the toolchain."""
+    """Names with an underscore: functions, lemmas, clauses, members of JSON, and crates, also those of the toolchain; and methods in Python."""
     spans = set(re.findall(r"`([a-z0-9]+(?:_[a-z0-9]+)+)(?:\(\))?`", DOCUMENTS[name]))
     crates = set(re.findall(r"\w+", (ROOT / "crates.txt").read_text() + (ROOT / "bindings/rust/Cargo.toml").read_text() + section(PROOFS, "What is assumed")))
     text = "".join(path.read_text() for kind in ("src/**/*.rt", "specs/**/*.antt", "proofs/**/*.antt", "robots.h") for path in CRATES.glob(f"*/{kind}"))
-    assert not [span for span in spans - crates if not re.search(rf'\b(?:fn|mod|ensures|int32_t|uint64_t|size_t|char) \*?{span}\b|\b{span} :|"{span}"', text)]
+    text += "".join(path.read_text() for path in ROOT.glob("bindings/python/src/texting_robots/*.py"))
+    assert not [span for span in spans - crates if not re.search(rf'\b(?:fn|mod|def|ensures|int32_t|uint64_t|size_t|char) \*?{span}\b|\b{span} :|"{span}"', text)]
 
 
 @pytest.mark.parametrize("name", DOCUMENTS)
@@ -172,8 +173,13 @@ def test_documents_name_warnings_and_options_that_exist(name):
     """Others are field names, Debian's packages, and options of pytest and bench/compare.py."""
     names = set(re.findall(r"`(?!python3-)([a-z0-9]+(?:-[a-z0-9]+)+)`", DOCUMENTS[name]))
     assert names <= {*WARNINGS, *FINDINGS, "allow-all", "crawl-delay", "deny-all", "depends-on-rules", "only-what-lines-allow", "site-map", "user-agent"}
-    options = set(re.findall(r"`(?:robots_audit )?(--[a-z-]+)", DOCUMENTS[name])) - {"--lf", "--google", "--results"}
+    options = set(re.findall(r"`(?:robots_audit )?(--[a-z-]+)", DOCUMENTS[name])) - {"--lf", "--google", "--page", "--results"}
     assert options <= set(re.findall(r"`(--[a-z-]+)", "".join(row[0] for row in tables(PROGRAMS))))
+
+
+@pytest.mark.parametrize("name", [name for name in PAGES if name != "README.md"])
+def test_page_begins_with_whom_it_is_for(name):
+    assert re.match(r"# .*\n\nThis page is for ", PAGES[name])
 
 
 def test_readme_is_short():
@@ -196,6 +202,18 @@ def test_words_of_the_papers_stay_in_the_main_theorem(name):
     text = PAGES[name].replace(section(PROOFS, "The main theorem"), "") if name == "docs/PROOFS.md" else PAGES[name]
     text = re.sub(r"`[^`]*`", "", re.sub(r"^```.*?^```$|^ {4}.*$", "", text, flags=re.M | re.S))
     assert not re.findall(r"(?i)\b(want of memory|captured|overlong|lent|handed)\b", text)
+
+
+def test_architecture_names_every_crate_and_module():
+    named = {name for row in tables(DOCUMENTS["docs/ARCHITECTURE.md"]) for name in re.findall(r"`(\w+)`", row[0])}
+    crates = re.findall(r"^(\w+).*:", (ROOT / "crates.txt").read_text(), re.M)
+    assert set(crates) == {path.name for path in CRATES.iterdir() if path.is_dir()}
+    assert {*crates, *(path.stem for path in (LIBRARY / "src").glob("*.rt"))} - {"lib"} <= named
+
+
+def test_contributing_shows_a_row_of_the_warnings():
+    (row,) = code(DOCUMENTS["CONTRIBUTING.md"], "rust")
+    assert row in (CRATES / "robots_warnings/src/rows.rt").read_text()
 
 
 # ---- code, commands and their output
@@ -278,8 +296,8 @@ SEARCH = group("*", "Disallow: /search")
 # For each question that docs/PROGRAMS.md answers by a command: files with different answers, with the exit status and what is printed.
 # The other files of the command are below.
 ANSWERS = {
-    "Is the site closed?": [(HIDDEN, 1, ["deny 2 * /"]), (SEARCH, 0, ["allow - * /"])],
-    "Is it closed to Google?": [(HIDDEN, 1, ["deny 2 /"]), (HIDDEN + group("Googlebot", "Allow: /"), 0, ["allow 4 /"])],
+    "Is the site closed?": [(HIDDEN, 1, ["1 rule, may fetch nothing", "deny 2 * /"]), (SEARCH, 0, ["allow - * /"])],
+    "Is it closed to Google?": [(HIDDEN, 1, ["may fetch: nothing", "deny 2 /"]), (HIDDEN + group("Googlebot", "Allow: /"), 0, ["allow 4 /"])],
     "Is it closed to AI crawlers and open to search engines?": [(group("GPTBot", "Disallow: /"), 1, ["deny 2 GPTBot /", "allow - ClaudeBot /", "allow - Googlebot /"])],
     "Which known crawlers may fetch a page?": [(group("Bingbot", "Disallow: /search"), 1, ["deny 2 Bingbot /search", "allow - Googlebot /search"])],
     "Why may Bing not fetch a page?": [(SEARCH, 1, ["group: * (Bingbot has no group of its own)", "deny 2 /search"])],
@@ -326,14 +344,46 @@ def test_documented_messages_of_robots_verdict_have_their_status():
     assert {*rows} == found | {(4, "robots_verdict: out of memory")}
 
 
-def test_documented_options_are_those_of_help():
-    """And those of the manual page."""
-    option = r"(?<![\w-])(?:--[a-z-]+|-[a-zA-Z])(?![\w-])"
-    documented = [name for row in tables(PROGRAMS) if row[0].startswith("`-") for name in re.findall(option, row[0])]
+OPTION = r"(?<![\w-])(?:--[a-z-]+|-[a-zA-Z])(?![\w-])"
+
+
+@pytest.fixture(scope="module")
+def options():
+    """The lines on options that help has."""
+    return run("robots_audit", ["--help"]).out.split("\nOptions:")[1].split("\n\n")[0]
+
+
+def values(text):
+    """What the value of each option is called, if it has one, and in which brackets."""
+    return {name: "".join(value.split()) for name, value in re.findall(r"(--[a-z-]+) *(\[?=? *[A-Z]{3,} *\]?)", text)}
+
+
+def test_documented_options_are_those_of_help(options):
+    """And those of the manual page; and their values have equal names."""
+    documented = "\n".join(row[0] for row in tables(PROGRAMS) if row[0].startswith("`-"))
     page = (ROOT / "man/robots_audit.1").read_text().split(".SH OPTIONS")[1].split("\n.SH ")[0]
     headings = re.sub(r"\\f[BIR]", " ", "\n".join(re.findall(r"^\.TP\n(.*)$", page, re.M)).replace("\\-", "-"))
-    usage = run("robots_audit", ["--help"]).out
-    assert sorted(documented) == sorted(re.findall(option, headings)) == sorted(set(re.findall(option, usage.split("\nOptions:")[1].split("\n\n")[0])))
+    assert sorted(re.findall(OPTION, documented)) == sorted(re.findall(OPTION, headings)) == sorted(set(re.findall(OPTION, options)))
+    helped = values(re.sub("[<>]", "", options))
+    for found in map(values, (documented, headings)):
+        assert {**found, "--user-agent": "NAME"} == {**helped, "--user-agent": "NAME"}
+
+
+def test_documented_words_are_those_of_help(options):
+    """The formats, the levels and when colors are used."""
+    offered = dict(re.findall(r"^ +(--[a-z-]+)\b.*\[possible values: (.*)\]$", options, re.M))
+    rows = {re.findall(OPTION, row[0])[0]: row[1] for row in tables(PROGRAMS) if row[0].startswith("`--")}
+    page = (ROOT / "man/robots_audit.1").read_text().replace("\\-", "-").replace("\\fB", "").replace("\\fR", "")
+    for name, words in offered.items():
+        of_the_page = page.split(f"{name}", 1)[1].split("\n.TP\n")[0]
+        for word in words.split(", "):
+            assert f"`{word}`" in rows[name] and re.search(rf"\b{word}\b", of_the_page), (name, word)
+    assert {"--format", "--strict", "--color"} <= set(offered)
+
+
+def test_the_web_page_gives_options_of_the_program(options):
+    given = set(re.findall(r"--[a-z]+", (ROOT / "web/page.js").read_text()))
+    assert {"--html", "--compare", "--expect"} <= given <= set(re.findall(OPTION, options))
 
 
 def test_documented_json_is_that_of_the_program():
@@ -346,6 +396,13 @@ def test_robots_verdict_prints_the_documented_report():
     stdin, out = (part.group(0) for part in re.finditer(r"(?:^    .*\n(?:\n(?=    ))?)+", text, re.M))
     result = run("robots_verdict", (), re.sub("^    ", "", stdin, flags=re.M).encode())
     assert (result.status, result.out) == (0, re.sub("^    ", "", out, flags=re.M))
+
+
+def test_documented_settings_are_those_of_the_middleware():
+    """With their defaults, as its docstring has them."""
+    rows = [[cell.strip("`") for cell in row] for row in tables(PAGES["bindings/python/README.md"]) if row[0].startswith("`TEXTING_ROBOTS_")]
+    docstring = (ROOT / "bindings/python/src/texting_robots/middleware.py").read_text()
+    assert rows and all(f"- ``{name}{'' if default == 'none' else f' = {default}'}``:" in docstring for name, default, _ in rows)
 
 
 # ---- examples in docs/SPECIFICATION.md and docs/COMPATIBILITY.md

@@ -281,7 +281,7 @@ def served(pages):
 def test_scrapy_project_obeys_a_damaged_file(python, bare, tmp_path):
     """Made by `scrapy startproject`, with the lines of settings that the README of the package has."""
     pytest.importorskip("scrapy")
-    settings = re.findall(r"`(ROBOTSTXT_\w+ = .*?)`", section(PACKAGES["python"], "Scrapy"))
+    settings = sorted(set(re.findall(r"(?:^ {4}|`)(ROBOTSTXT_\w+ = [^`\n]+)", section(PACKAGES["python"], "Scrapy"), re.M)))
     assert len(settings) == 3
     with served(PAGES) as (address, fetched):
         ran([python, "-m", "scrapy", "startproject", "small", "."], tmp_path, bare)

@@ -14,17 +14,21 @@ TOP = """\
 # Warnings
 
 This page is for owners whose robots.txt file has a warning. It explains each one: the message, an
-example, the example without the mistake, and when exactly the program gives it. After it you know
-whether to change your file, and how. `robots_audit --explain NAME` prints the same, and
-[PROGRAMS](PROGRAMS.md#warnings) says how warnings are printed, chosen and left out.
-`tools/warnings_page.py` writes this page from the program.
+example, for most of them an example without the mistake, and when exactly the program gives it.
+Once you have read about yours, you know whether to change your file, and how.
 
 - An **error** is very likely not what you intended: fix it first.
-- A **warning** means that crawlers disagree about a line, or ignore it.
+- A **warning** is probably not what you intended, or crawlers don't agree about the line, or much
+  depends on it, such as whether the site is closed.
 - A **note** is worth a look.
 
+`robots_audit --explain NAME` prints what is below a heading. [PROGRAMS](PROGRAMS.md#warnings) says
+how warnings are printed, chosen and left out. `tools/warnings_page.py` writes this page from the
+program.
+
 In the examples `\\xFF` is a byte, and `\\{3 x}` is three times `x`. An example that needs options
-begins with the command as a comment. Where the page says "proved", a machine-checked theorem with
+begins with the command as a comment. A change that is shown as "Write instead" can change what the
+file means, so look at it with `--compare`. Where the page says "proved", a machine-checked theorem with
 that name shows it ([PROOFS](PROOFS.md)).
 
 """

@@ -51,8 +51,11 @@ def test_another_result_that_is_not_listed_is_rejected(tmp_path):
     assert ended.returncode == 1 and "Not timed, as it has other results for blog: https://www.example.com/wp-admin/" in ended.stdout
 
 
+RUN = tables(section(DOCUMENTS["docs/BENCHMARKS.md"], "One run"))
+
+
 def rows_of_the_run():
-    return [row for row in tables(section(DOCUMENTS["docs/BENCHMARKS.md"], "One run")) if row[0] not in ("File", "**median**")]
+    return [row for row in RUN if row[0] not in ("File", "**median**")]
 
 
 def test_the_document_has_the_files_of_the_corpus():
@@ -61,14 +64,32 @@ def test_the_document_has_the_files_of_the_corpus():
 
 def test_the_document_has_only_listed_differences():
     listed = {it.values[0] for it in rows_under("docs/COMPATIBILITY.md", *COLUMNS)}
-    named = {name for row in rows_of_the_run() for why in row[6].split("; ") if why for name in why.split(": ")[1].split(", ")}
+    named = {name for row in rows_of_the_run() for why in row[-1].split("; ") if why for name in why.split(": ")[1].split(", ")}
     assert named and named <= listed
 
 
 def test_the_document_and_the_readme_have_the_medians():
-    medians = [round(statistics.median(float(row[column].replace(",", "")) for row in rows_of_the_run())) for column in (2, 3, 4, 5)]
-    (documented,) = [row for row in tables(DOCUMENTS["docs/BENCHMARKS.md"]) if row[0] == "**median**"]
-    assert documented[2:6] == [*map(str, medians)]
+    """The README has a bar for each parser, and the first lines of the document have those for Python. Medians may be rounded."""
+    (documented,) = [row for row in RUN if row[0] == "**median**"]
+    first = {}
+    for heading, shown, *numbers in zip(RUN[0], documented, *rows_of_the_run()):
+        if heading.endswith(("×", "µs")):
+            median, written = statistics.median(float(it.replace(",", "")) for it in numbers), float(shown.strip("*").replace(",", ""))
+            assert abs(median - written) <= (0.1 if written < 9.95 else 0.5), heading
+            if heading.endswith("first URL, ×"):
+                first[re.search(r"Protego|urllib|crate|Google", heading)[0].replace("crate", "Rust")] = written
     bars = re.findall(r"^ +(\w+).* (\S+) +(=+)$", DOCUMENTS["README.md"], re.M)
-    first, _, urllib_first, _ = medians
-    assert [(name, int(number), len(bar)) for name, number, bar in bars] == [("this", 1, 1), ("urllib", urllib_first, urllib_first), ("Protego", first, first)]
+    assert {name: float(number) for name, number, _ in bars} == {"this": 1, **first}
+    assert [len(bar) for _, _, bar in bars] == sorted(round(float(number)) for _, number, _ in bars)
+    text = " ".join(DOCUMENTS["docs/BENCHMARKS.md"].split("\n## ")[0].split())
+    assert f"Protego takes {first['Protego']:g} times as long as this library, and `urllib.robotparser` {first['urllib']:g} times" in text
+
+
+def test_a_run_as_the_document_has_it():
+    """The times of this library in microseconds, and how many times as long the others take."""
+    import compare
+
+    rows = [compare.Row(case, [], compare.Times(1000, 100), compare.Times(44_000, 1800)) for case in corpus.cases()]
+    heading, first, *_, last = tables(compare.page({"Protego": rows, "texting_robots": rows}))
+    assert heading[2:5] == ["here: first URL, µs", "here: a later URL, µs", "Protego: first URL, ×"] and heading[6] == "crate `texting_robots`: first URL, ×"
+    assert first == ["empty", "0", "1.0", "0.1", "44", "18", "44", "18", ""] and last[4] == "**44**"
