@@ -134,7 +134,11 @@ fn audit(rt: &HostRuntime, matches: &ArgMatches<'_>, has_colors: bool) -> Result
 
 /// Checks the expectations in the file `expected` against the file that the arguments name.
 #[tactic(auto, using(crate::proofs::MessageLemmas::expectations_answer))]
-fn checked(rt: &HostRuntime, matches: &ArgMatches<'_>, expected: &str) -> Result<Answer, Error>
+fn checked<'m>(
+    rt: &HostRuntime,
+    matches: &'m ArgMatches<'_>,
+    expected: &'m str,
+) -> Result<Answer, Error>
     ensures { IfOk result Answers }
 {
     check_files(matches)?;

@@ -53,9 +53,10 @@ rule_above {agent} {lines} are placed has is =
         refl,
         record {
           value = holds.value;
-          line =
-              (above.is ∙ sym line ∙ holds.line.0,
-              captured_above (group_name agent lines) above holds.line.1);
+          line = (
+            above.is ∙ sym line ∙ holds.line.0,
+            captured_above (group_name agent lines) above holds.line.1,
+          );
           utf8 = holds.utf8;
           pattern = holds.pattern;
         },
