@@ -170,10 +170,10 @@ def test_documents_name_functions_and_lemmas_that_exist(name):
 
 @pytest.mark.parametrize("name", DOCUMENTS)
 def test_documents_name_warnings_and_options_that_exist(name):
-    """Others are field names, Debian's packages, and options of pytest and bench/compare.py."""
+    """Others are field names, Debian's packages, and options of pytest, `rt check` and bench/compare.py."""
     names = set(re.findall(r"`(?!python3-)([a-z0-9]+(?:-[a-z0-9]+)+)`", DOCUMENTS[name]))
     assert names <= {*WARNINGS, *FINDINGS, "allow-all", "crawl-delay", "deny-all", "depends-on-rules", "only-what-lines-allow", "site-map", "user-agent"}
-    options = set(re.findall(r"`(?:robots_audit )?(--[a-z-]+)", DOCUMENTS[name])) - {"--lf", "--google", "--page", "--results"}
+    options = set(re.findall(r"`(?:robots_audit )?(--[a-z-]+)", DOCUMENTS[name])) - {"--allow-holes", "--google", "--lf", "--page", "--results"}
     assert options <= set(re.findall(r"`(--[a-z-]+)", "".join(row[0] for row in tables(PROGRAMS))))
 
 
