@@ -28,8 +28,8 @@ program.
 
 In the examples `\\xFF` is a byte, and `\\{3 x}` is three times `x`. An example that needs options
 begins with the command as a comment. A change that is shown as "Write instead" can change what the
-file means, so look at it with `--compare`. Where the page says "proved", a machine-checked theorem with
-that name shows it ([PROOFS](PROOFS.md)).
+file means, so look at it with `--compare`. Where the page says "proved", a machine-checked theorem
+with that name shows it ([PROOFS](PROOFS.md)).
 
 """
 MESSAGE = re.compile(r"(?P<level>\w+) (?P<name>[a-z0-9-]+): (?P<text>.*)")
