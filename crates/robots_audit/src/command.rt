@@ -31,7 +31,7 @@ else. With --denied, give URLs or --urls-from.
 
 Exit status, the first that applies; without --strict, warnings change nothing, even of level error:
   2  if the program couldn't do its work, or the file is rejected for a crawler (with --expect: 1)
-  3  if a warning at the level of --strict is reported: mend the file before you trust verdicts
+  3  if a warning at the level of --strict is reported: correct the file before you trust verdicts
   1  if a URL is denied, an expectation fails or something differs
   0  otherwise, also for an HTML page or an empty file; --strict makes both 3
 

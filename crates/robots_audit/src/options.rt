@@ -105,25 +105,25 @@ const PARAMETERS: &[Parameter] = &[
     Parameter {
         id: "json",
         value: Value::Absent,
-        help: "The same as --format json",
+        help: "Means --format json",
         excludes: &[&["format"]],
     },
     Parameter {
         id: "html",
         value: Value::Absent,
-        help: "The same as --format html",
+        help: "Means --format html",
         excludes: &[&["format", "json"]],
     },
     Parameter {
         id: "github",
         value: Value::Absent,
-        help: "The same as --format github",
+        help: "Means --format github",
         excludes: &[&["format", "json", "html"]],
     },
     Parameter {
         id: "sarif",
         value: Value::Absent,
-        help: "The same as --format sarif",
+        help: "Means --format sarif",
         excludes: &[&["format", "json", "html", "github"]],
     },
     Parameter {
@@ -135,8 +135,8 @@ const PARAMETERS: &[Parameter] = &[
     Parameter {
         id: "color",
         value: Value::OneOf("WHEN", &["auto", "always", "never"]),
-        help: "Color the levels of warnings; auto (default): on a terminal, unless NO_COLOR isn't empty or \
-            TERM is dumb",
+        help: "Color the levels of warnings; auto (default): on a terminal, unless NO_COLOR is set or TERM \
+            is dumb",
         excludes: &[],
     },
     Parameter {
@@ -149,7 +149,7 @@ const PARAMETERS: &[Parameter] = &[
     Parameter {
         id: "needless",
         value: Value::Absent,
-        help: "Warn also of rules that aren't needed, as --only needless-rule does",
+        help: "Also look for rules that can be deleted, as --only needless-rule does",
         excludes: &[],
     },
     Parameter {
@@ -161,7 +161,8 @@ const PARAMETERS: &[Parameter] = &[
     Parameter {
         id: "ignore",
         value: Value::Repeated("NAME"),
-        help: "Leave out all warnings with this name, also errors; none that --only has; may be repeated",
+        help: "Leave out all warnings with this name, even errors; may be repeated, but not with a \
+            name of --only",
         excludes: &[],
     },
     Parameter {
