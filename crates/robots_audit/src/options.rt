@@ -135,8 +135,8 @@ const PARAMETERS: &[Parameter] = &[
     Parameter {
         id: "color",
         value: Value::OneOf("WHEN", &["auto", "always", "never"]),
-        help: "Color the levels of warnings; auto (default): on a terminal, unless NO_COLOR is set or TERM \
-            is dumb",
+        help: "Color the levels of warnings; auto (default): on a terminal, unless NO_COLOR has a value or \
+            TERM is dumb",
         excludes: &[],
     },
     Parameter {
