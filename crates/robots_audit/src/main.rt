@@ -143,7 +143,8 @@ fn checked<'m>(
 {
     check_files(matches)?;
     let text = read(rt, Some(expected))?;
-    let name = file_read(matches.get_str("file"));
+    let named = matches.get_str("file");
+    let name = file_read(named);
     let file = read_robots(rt, name.unwrap_or("-"))?;
     let names = Names {
         file: name.unwrap_or("robots.txt"),
