@@ -134,14 +134,14 @@ def test_golden(name, case, indented, tmp_path):
 
 
 def test_all_golden_cases_are_run():
-    """Each table of each file, each row of `[[rows]]`, and the case in this module's comment."""
+    """Each table of each file, each row of `[[rows]]`, and the cases in this module's comment and in CONTRIBUTING."""
     texts = [path.read_text() for path in Path(ROOT, "tests/golden").glob("*/*.toml")]
     count = sum(len(re.findall(r"""^\[["'].*["']\]$""", text, re.M)) for text in texts)
     tables = [it for text in texts for it in re.findall(r"^(?:each = '([^\n]*)'\ncolumns[^\n]*\n)?cases = '''\n(.*?)\n?'''$", text, re.M | re.S)]
     count += sum((rows.count("\n") + 1) * max(len(words.split()), 1) for words, rows in tables)
     folders = {path.name for path in Path(ROOT, "tests/golden").iterdir() if path.is_dir()}
     values = [it.values for it in golden()]
-    assert len([indented for _, _, indented in values if not indented]) == count + 1
+    assert len([indented for _, _, indented in values if not indented]) == count + 2
     assert {name for name, _, _ in values} == folders == {"robots_audit", "robots_verdict"}
 
 

@@ -131,5 +131,5 @@ tr:target { background: var(--hit) }
 
 /// The page's security policy permits its own style only, by the SHA-256 hash that a test computes again.
 pub(crate) const POLICY: &str = "default-src 'none'; \
-    style-src 'sha256-k+T9wyW/JdgYDq7kgifXVlKrGvj0qpMgVZW2ay3I7pc='; \
+    style-src 'sha256-k/EBM0bpC+vjQlD8hNkM/aSa+3f4nmx2VANQova65PY='; \
     base-uri 'none'; form-action 'none'";
