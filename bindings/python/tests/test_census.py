@@ -468,7 +468,7 @@ def test_memory_does_not_grow_with_the_sites(tmp_path, monkeypatch):
     monkeypatch.setattr(census, "MOST", 20_000)
     monkeypatch.setattr(census, "AT_ONCE", 4)
     peaks = []
-    for number in (200, 1000):
+    for number in (200, 200, 1000, 1000):  # each twice, as what other tests left may be collected in between
         with open(tmp_path / "a.warc", "wb") as archive:
             archive.writelines(response(f"site{site}.example", b"User-agent: GPTBot\nDisallow: /\n" * 9) for site in range(number))
         with tempfile.TemporaryDirectory() as scratch:
@@ -479,4 +479,4 @@ def test_memory_does_not_grow_with_the_sites(tmp_path, monkeypatch):
             peaks.append(tracemalloc.get_traced_memory()[1])
             tracemalloc.stop()
         assert tally["sites"] == number
-    assert peaks[1] < 1.3 * peaks[0], peaks
+    assert min(peaks[2:]) < 1.3 * min(peaks[:2]), peaks
