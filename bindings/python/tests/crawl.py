@@ -1,6 +1,7 @@
 """Crawls sites by Scrapy in one process: python crawl.py < CRAWLS, a JSON list of [URL, SETTINGS]."""
 
 import contextlib
+import ctypes
 import itertools
 import json
 import resource
@@ -15,14 +16,29 @@ from texting_robots.middleware import sitemaps_found
 from texting_robots.scrapy import RobotParser
 
 
+LARGE = 1 << 16
+LIBC = ctypes.PyDLL(None)
+malloc, free = LIBC.malloc, LIBC.free
+malloc.argtypes, malloc.restype = [ctypes.c_size_t], ctypes.c_void_p
+free.argtypes, free.restype = [ctypes.c_void_p], None
+
+
 @contextlib.contextmanager
 def no_more_memory():
-    """The process gets no more than it has."""
+    """The process gets no more memory than it has, and what it has free is taken in blocks, down to those of 64 kB."""
     before = resource.getrlimit(resource.RLIMIT_AS)
     resource.setrlimit(resource.RLIMIT_AS, (0, before[1]))
+    taken, length = [], LARGE << 12
+    while length >= LARGE:
+        if block := malloc(length):
+            taken.append(block)
+        else:
+            length //= 2
     try:
         yield
     finally:
+        for block in taken:
+            free(block)
         resource.setrlimit(resource.RLIMIT_AS, before)
 
 
