@@ -28,6 +28,7 @@ for name, arguments in {
     "robots_verdicts": [c_void_p] + TEXT + NUMBERS,
     "robots_delay": [c_void_p, POINTER(c_uint64)],
     "robots_site_open": TEXT + [POINTER(c_void_p)],
+    "robots_site_open_rfc9309": TEXT + [POINTER(c_void_p)],
     "robots_site_robot": [c_void_p] + TEXT + [POINTER(c_void_p)] + LINE,
     "robots_site_matrix": [c_void_p] + TEXT * 2 + NUMBERS,
     "robots_site_delay": [c_void_p] + TEXT + [POINTER(c_uint64)],
@@ -196,11 +197,13 @@ class Robot(Opened):
 
 
 class Site(Opened):
-    """What a file says to every crawler: it is read once. A Robot takes a Site in place of a file."""
+    """What a file says to every crawler: it is read once. A Robot takes a Site in place of a file. With `by_rfc9309` the verdicts are those
+    of RFC 9309."""
 
-    def __init__(self, file):
+    def __init__(self, file, by_rfc9309=False):
         handle = c_void_p()
-        check(library.robots_site_open(*text(file), byref(handle)))
+        opens = library.robots_site_open_rfc9309 if by_rfc9309 else library.robots_site_open
+        check(opens(*text(file), byref(handle)))
         super().__init__(handle, library.robots_site_close)
 
     def matrix(self, agents, urls):

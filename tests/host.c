@@ -309,10 +309,10 @@ static struct outcome keep_robot_of(robots_site *site) {
 }
 
 /* Opens a site and makes each call on it. What needs no memory is never reported as out of memory. */
-static struct outcome keep_site(void) {
+static struct outcome keep_site_of(int32_t (*opens)(const void *, size_t, robots_site **)) {
     robots_site *site = NULL;
     uint64_t wait = 77;
-    int32_t status = robots_site_open(FILE_OF(file), &site);
+    int32_t status = opens(FILE_OF(file), &site);
     if (status != ROBOTS_OK)
         return (struct outcome){status, false, site == NULL};
     bool known = robots_site_delay(site, "Bot", 3, &wait) == ROBOTS_OK && wait == 2500000;
@@ -327,6 +327,11 @@ static struct outcome keep_site(void) {
     }
     return all;
 }
+
+static struct outcome keep_site(void) { return keep_site_of(robots_site_open); }
+
+/* RFC 9309 reads this file alike. */
+static struct outcome keep_standard_site(void) { return keep_site_of(robots_site_open_rfc9309); }
 
 /* The errors of each call on a site. A rule for the crawler Long is too long. */
 static void try_site(void) {
@@ -378,6 +383,9 @@ static void try_null(void) {
     robots_close(robot);
     tell("verdicts of empty texts", robots_verdicts_of_file(NULL, 0, NULL, 0, NULL, 0, &out, 1, NULL) == ROBOTS_OK && out == 0);
     tell("no address of the empty text", robots_url(NULL, 0, NULL, 0, &length) == ROBOTS_NO_ROBOTS_URL && length == 7);
+    tell("a site of the empty text as RFC 9309 reads it", robots_site_open_rfc9309(NULL, 0, &site) == ROBOTS_OK && site != NULL);
+    robots_site_close(site);
+    site = NULL;
     opened = robots_site_open(NULL, 0, &site) == ROBOTS_OK && site != NULL;
     tell("a site of the empty text", opened);
     robot = NULL;
@@ -435,6 +443,7 @@ static void try_examples(void) {
     robots_close(robot);
     robots_close(NULL);
     tell("a site", is(keep_site(), ROBOTS_OK));
+    tell("a site as RFC 9309 reads it", is(keep_standard_site(), ROBOTS_OK));
     try_site();
     try_small_buffers();
     try_batch();
@@ -471,6 +480,7 @@ int main(void) {
         fail_each("an address", whole_address, all_later);
         fail_each("a robot", keep, all_later);
         fail_each("a site", keep_site, all_later);
+        fail_each("a site as RFC 9309 reads it", keep_standard_site, all_later);
     }
     printf("%d passed, %d failed\n", passed, failed);
     return failed != 0;

@@ -1,5 +1,6 @@
 """The C library crates/robots_c for tests: built, installed, and as a module for Python."""
 
+import ctypes
 import fcntl
 import importlib
 import os
@@ -101,6 +102,16 @@ def robots(shared_object):
     os.environ["ROBOTS_SO"] = str(shared_object)
     sys.path.insert(0, str(ROOT / "examples"))
     return importlib.import_module("robots")
+
+
+def batch(library, robot, urls):
+    texts = [url.encode() for url in urls]
+    ends, out = (ctypes.c_size_t * len(urls))(), (ctypes.c_int64 * len(urls))()
+    for number in range(len(urls)):
+        ends[number] = sum(map(len, texts[: number + 1]))
+    joined = b"".join(texts)
+    status = library.robots_verdicts_batch(robot.handle, joined, ctypes.c_size_t(len(joined)), ends, ctypes.c_size_t(len(urls)), out)
+    return status, [*out]
 
 
 PIECES = [*"/ab*$%?#:.-_~ \t", "%41", "\u00e9", "\udcff"]

@@ -91,7 +91,10 @@ PHRASES = {
     "ignores": "; but it ignores the group *, and obeys only one with its own name, so it may fetch all: the verdicts are the file's, not the crawler's",
     "vendor": "; but its vendor applies another group, whose verdicts may differ",
     "same": "same group, delay and rules as read here, so the same verdicts",
-    "empty": "but where an empty Disallow is no rule, as for RFC 9309 and Google,",
+    "one allows": "but only one reading allows it:",
+    "one denies": "but only one reading denies it:",
+    "rfc": "(by RFC 9309:",
+    "google": "(by RFC 9309 and Google:",
     "long": "a pattern with $ longer than 4,096 bytes isn't supported; shorten it",
     "token": "a crawler's name is a product token without a version, such as Googlebot",
     "url": "this is neither a path that starts with / nor a valid http:// or https:// URL",
@@ -101,8 +104,9 @@ PHRASES = {
     "usage": "usage: robots_audit [OPTIONS] FILE [URL]..",
     "1": "expect.txt:1:",
     "applies": "but its vendor applies the group Googlebot to it, and",
-    "not applied": "but its vendor doesn't apply the group * to it",
-    "normal": "but in the normal forms of RFC 9309,",
+    "not applied": "but its vendor doesn't apply the group * to it; add a group with User-agent:",
+    "ignoring": f"{', '.join(IGNORING)} ignore *: add a group that names them, or write",
+    "near": "no known crawler and no group of the file has this name; did you mean",
     "other path": "but crawlers may ask for another path or query:",
     "form": 'write "allow AGENT URL" or "deny AGENT URL", or for a pattern allow-all or deny-all',
     "pattern": "a pattern starts with / or *, has no #, a $ only at its end (a rule with text after it matches nothing), and with a $ at most 4,096 bytes",
@@ -129,6 +133,25 @@ def tables(document):
     """The rows of a document's tables, each the list of its cells."""
     rows = [line[1:-1].split("|") for line in document.splitlines() if line.startswith("| ")]
     return [[cell.strip() for cell in row] for row in rows]
+
+
+def bytes_in(cell):
+    """The bytes that a cell shows in its first code span."""
+    return spelled(re.search(r"`([^`]*)`", cell)[1].replace("⏎", "\n"))
+
+
+def rows_under(name, *columns):
+    """The rows of a document's tables that begin with these columns."""
+    blocks = re.findall(r"(?:^\|.*\n)+", DOCUMENTS[name], re.M)
+    found = [row for rows in map(tables, blocks) if rows[0][: len(columns)] == [*columns] for row in rows[1:] if row[0][0] != "-"]
+    assert found, f"{name} has no table that begins with {columns}"  # pytest would skip a test without rows
+    return [pytest.param(*row, id=" ".join(row[:2])) for row in found]
+
+
+def crawler_and_file(cell):
+    """The crawler and the file that a cell of COMPATIBILITY means."""
+    crawler = (re.search(r"crawler `(.*)`", cell) or [0, "a"])[1]
+    return crawler, bytes_in(cell) if "ser-agent" in cell else b"User-agent: a\n" + bytes_in(cell)
 
 
 def shown(document):
@@ -167,9 +190,10 @@ def level_and_text(name, detail=""):
     if name in OF_SIZE:
         return WARNINGS[name][detail == "large"]
     if name in OF_CLOSED:
-        level, crawler, others = re.fullmatch(r"(\w+) ('.*')(?: (\d+))?", detail).groups()
+        level, standard, crawler, others = re.fullmatch(r"(\w+)( rfc)? ('.*')(?: (\d+))?", detail).groups()
         more = f" (and {others} other crawler{'' if others == '1' else 's'})" if others else ""
-        return level, f"crawler {crawler}: {dict(WARNINGS[name])[level]}{more}"
+        texts = [text for its, text in WARNINGS[name] if its == level]
+        return level, f"crawler {crawler}: {texts[-1 if standard else 0]}{more}"
     for level, text in WARNINGS[name]:
         if detail == level or detail in WORDS and f" {detail} " in text or detail in FIELDS and f'"{detail}:"' in text:
             return level, text
@@ -278,8 +302,8 @@ def warning_lines(warnings, file="robots.txt", agent=None, seeks_needless=False)
     return "".join(shown + more + total)
 
 
-VERDICTS = "RFC 9309 syntax, and verdicts for paths and queries in normal form (%20 for a space, not %41 for A)"
-KEYS = set("like args agent robots file expect old from pieces room out json more rfc warn err status indented".split())
+ALIKE = "RFC 9309 reads this file alike"
+KEYS = set("like args agent robots file expect old from pieces room out json more rfc reads warn err status indented".split())
 
 
 def files_beside(case):
@@ -339,6 +363,11 @@ def input_of(case, indented=False):
     return b"".join(spelled(line) + b"\n" for line in [case["agent"], *urls, ""]) + robots
 
 
+def decision_of(kind, line):
+    """The members of a verdict in JSON."""
+    return {"allowed": kind == "allow", "line": None if line == "-" else int(line)}
+
+
 def json_of(case):
     """The report of `json` in one line: crawlers with their verdicts, rows and sitemaps."""
     agents, rows, sitemaps = [], [], []
@@ -346,16 +375,24 @@ def json_of(case):
         kind, first, *rest = [*line.split(" ", 2), ""]
         value = rest[0] or None if rest else None
         if kind == "crawler":
+            line, _, standard = line.partition("; RFC 9309: ")
             name, group, place, fetch, rules, more = re.fullmatch(r"crawler (.*): (\w+)(?: (\d+))?, (\S+), (\d+)(.*)", line).groups()
             ignored_by = IGNORING if ", ignored" in more else []
             own = {key: int(number) for key, number in re.findall(r", (delay|rejected) (\d+)", more)}
+            fetch_there, rules_there, rejected = re.fullmatch(r"(\S+), (\d+)(?:, rejected (\d+))?", standard or f"{fetch}, {rules}").groups()
+            there = {
+                "group_line": place and int(place), "may_fetch": None if fetch_there == "null" else fetch_there,
+                "rejected_line": int(rejected) if rejected else None if standard else own.get("rejected"), "rules": int(rules_there),
+            }  # fmt: skip
             agents.append({
                 "agent": name, "delay_microseconds": own.get("delay"), "group": {"ignored_by": ignored_by, "kind": group, "line": place and int(place)},
-                "may_fetch": None if fetch == "null" else fetch, "rejected_line": own.get("rejected"), "rules": int(rules),
+                "may_fetch": None if fetch == "null" else fetch, "rejected_line": own.get("rejected"), "rfc_9309": there, "rules": int(rules),
                 "vendor_group": (re.search(r", vendor (\w+)", more) or ["", "same"])[1], "verdicts": [],
             })  # fmt: skip
         elif kind in ("allow", "deny"):
-            agents[-1]["verdicts"].append({"allowed": kind == "allow", "line": None if first == "-" else int(first), "url": value})
+            value, _, standard = (value or "").partition("; RFC 9309: ")
+            decisions = [decision_of(*words.split()) for words in (f"{kind} {first}", standard or f"{kind} {first}")]
+            agents[-1]["verdicts"].append(decisions[0] | {"rfc_9309": None if standard == "none -" else decisions[1], "url": value})
         elif kind == "sitemap":
             sitemaps.append(line.removeprefix("sitemap "))
         elif line != "no rows":
@@ -376,24 +413,23 @@ def json_of(case):
     return json.dumps(report, ensure_ascii=False, separators=(",", ":")).encode() + b"\n"
 
 
-def standard_lines(words):
-    """What a text report says of a file by RFC 9309; `words` are those of the key `rfc`."""
+def standard_lines(words, reads=None):
+    """What a text report says of a file by RFC 9309; `words` and `reads` are those of the keys `rfc` and `reads`."""
     kind, _, line = words.partition(" ")
-    if kind.isdecimal():
-        return f"not RFC 9309 syntax, first at line {kind}"
-    return f"RFC 9309 syntax; verdicts may differ from RFC 9309's: line {line}" if kind == "syntax" else VERDICTS
+    syntax = f"not RFC 9309 syntax, first at line {kind}\n" if kind.isdecimal() else ""
+    return syntax + (f"RFC 9309 {reads}" if reads else ALIKE)
 
 
-def with_standard(out, words):
+def with_standard(out, words, reads=None):
     """The lines, with these before the numbers of allowed and denied URLs."""
     numbers = re.search(r"^\d+ allowed, \d+ denied\Z", out, re.M)
     at = numbers.start() if numbers else len(out) + 1
-    return "\n".join(part for part in (out[: at - 1], standard_lines(words), out[at:]) if part)
+    return "\n".join(part for part in (out[: at - 1], standard_lines(words, reads), out[at:]) if part)
 
 
 def wanted_of(case):
     out = case.get("out", "")
-    out = lines(with_standard(out, case["rfc"]) if case.get("rfc") else out)
+    out = lines(with_standard(out, case["rfc"], case.get("reads")) if case.get("rfc") else out)
     if "json" in case:
         return Result(case.get("status", 0), json_of(case), lines(case.get("err", "")))
     if "room" in case:

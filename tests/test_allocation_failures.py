@@ -262,22 +262,23 @@ def test_robots_audit_reads_at_most_1048576_times(failing_heap, size):
 
 
 # By what has a size: the crawler, the URLs and the file of a run, and the verdicts that both programs print.
+ALL = "User-agent: *\n"
 AT_EACH_SIZE = {
     "the crawler's name": lambda size: ("a" * size, ["/b"], f"User-agent: {'a' * size}\nDisallow: /", "deny 2 /b\n"),
-    "a path": lambda size: ("a", ["/" + "b" * size], "Disallow: /", f"deny 1 /{'b' * size}\n"),
-    "a path that is escaped": lambda size: ("a", [f"/{'é' * (size // 2)}"], "Disallow: /", f"deny 1 /{'é' * (size // 2)}\n"),
-    "a URL": lambda size: ("a", [f"https://h/é{'b' * size}#c"], "Disallow: /", f"deny 1 https://h/é{'b' * size}#c\n"),
-    "the number of URLs": lambda size: ("a", ["/b"] * size, "Disallow: /", "deny 1 /b\n" * size),
-    "a rule": lambda size: ("a", ["/b"], f"Disallow: /{'c' * size}\nDisallow: /", "deny 2 /b\n"),
-    "a rule with $": lambda size: ("a", ["/b"], f"Disallow: /{'c' * min(size, 4094)}$\nDisallow: /", "deny 2 /b\n"),
-    "the number of stars in a row": lambda size: ("a", ["/b"], f"Disallow: /{'*' * size}", "deny 1 /b\n"),
-    "the number of stars": lambda size: ("a", ["/b"], f"Disallow: /{'c*' * size}\nDisallow: /", "deny 2 /b\n"),
-    "the number of rules": lambda size: ("a", ["/b"], "Disallow: /\n" * size, "deny 1 /b\n"),
-    "the number of lines": lambda size: ("a", ["/b"], "\n" * size + "Disallow: /", f"deny {size + 1} /b\n"),
-    "a sitemap": lambda size: ("a", ["/b"], f"Disallow: /\nSitemap: {'s' * size}", "deny 1 /b\n"),
-    "the number of sitemaps": lambda size: ("a", ["/b"], "Disallow: /\n" + "Sitemap: s\n" * min(size, 46_000), "deny 1 /b\n"),
-    "the number of agents": lambda size: ("a", ["/b"], "User-agent: *\nDisallow: /\n" + "User-agent: b\n" * min(size, 36_000), "deny 2 /b\n"),
-    "a delay": lambda size: ("a", ["/b"], f"Disallow: /\nCrawl-delay: {size}", "deny 1 /b\n"),
+    "a path": lambda size: ("a", ["/" + "b" * size], ALL + "Disallow: /", f"deny 2 /{'b' * size}\n"),
+    "a path that is escaped": lambda size: ("a", [f"/{'é' * (size // 2)}"], ALL + "Disallow: /", f"deny 2 /{'é' * (size // 2)}\n"),
+    "a URL": lambda size: ("a", [f"https://h/é{'b' * size}#c"], ALL + "Disallow: /", f"deny 2 https://h/é{'b' * size}#c\n"),
+    "the number of URLs": lambda size: ("a", ["/b"] * size, ALL + "Disallow: /", "deny 2 /b\n" * size),
+    "a rule": lambda size: ("a", ["/b"], f"{ALL}Disallow: /{'c' * size}\nDisallow: /", "deny 3 /b\n"),
+    "a rule with $": lambda size: ("a", ["/b"], f"{ALL}Disallow: /{'c' * min(size, 4094)}$\nDisallow: /", "deny 3 /b\n"),
+    "the number of stars in a row": lambda size: ("a", ["/b"], f"{ALL}Disallow: /{'*' * size}", "deny 2 /b\n"),
+    "the number of stars": lambda size: ("a", ["/b"], f"{ALL}Disallow: /{'c*' * size}\nDisallow: /", "deny 3 /b\n"),
+    "the number of rules": lambda size: ("a", ["/b"], ALL + "Disallow: /\n" * size, "deny 2 /b\n"),
+    "the number of lines": lambda size: ("a", ["/b"], "\n" * size + ALL + "Disallow: /", f"deny {size + 2} /b\n"),
+    "a sitemap": lambda size: ("a", ["/b"], f"{ALL}Disallow: /\nSitemap: {'s' * size}", "deny 2 /b\n"),
+    "the number of sitemaps": lambda size: ("a", ["/b"], ALL + "Disallow: /\n" + "Sitemap: s\n" * min(size, 46_000), "deny 2 /b\n"),
+    "the number of agents": lambda size: ("a", ["/b"], ALL + "Disallow: /\n" + "User-agent: b\n" * min(size, 36_000), "deny 2 /b\n"),
+    "a delay": lambda size: ("a", ["/b"], f"{ALL}Disallow: /\nCrawl-delay: {size}", "deny 2 /b\n"),
 }
 
 
@@ -293,8 +294,14 @@ def test_no_size_is_out_of_memory(what):
         assert (as_json.status, len(json.loads(as_json.out)["agents"][0]["verdicts"])) == (1, len(urls)), (size, as_json.err)
 
 
-DENIED = PHRASES["everyone"] + "\ndelay: none\ndeny 1 /b\n"
-OTHER = "not RFC 9309 syntax, first at line 1\n"
+BY_STANDARD = "(by RFC 9309 and Google: "
+DENIED = PHRASES["everyone"] + f"\ndelay: none\ndeny 1 /b   {BY_STANDARD}allow -)\n"
+
+
+def standard(*names):
+    """What a report on these crawlers says of a rule without a user-agent line by RFC 9309."""
+    named = ", ".join(f"{name} (line 1)" for name in names[:3]) + f" and {len(names) - 3} more" * (len(names) > 3)
+    return f"not RFC 9309 syntax, first at line 1\nRFC 9309 reads this file otherwise for {named}\n"
 
 
 def crawlers(size):
@@ -311,8 +318,8 @@ def of_each(names, *lines):
 def denied_to(size):
     """The report on this many crawlers."""
     names, _ = crawlers(size)
-    each = of_each(names, "crawler NAME: all rules (no User-agent line is read), 1 rule, may fetch nothing\n")
-    return (DENIED if size == 1 else each + of_each(names, "deny 1 NAME /b\n")) + OTHER
+    each = of_each(names, f"crawler NAME: all rules (no User-agent line is read), 1 rule, may fetch nothing {BY_STANDARD}everything)\n")
+    return (DENIED if size == 1 else each + of_each(names, f"deny 1 NAME /b   {BY_STANDARD}allow -)\n")) + standard(*names)
 
 
 def error(message):
@@ -377,12 +384,13 @@ def test_many_listed_warnings(form):
 
 # Of a file of 64 MB, its role, the arguments and its beginning, and the end of the report.
 LARGE = b"#" * 2**26
+OF_A = standard("a").partition("\n")[2]
 OF_LARGE_FILES = {
-    "robots.txt": (["-q", "--agent=a", "LARGE", "/b"], b"Disallow: /\n", DENIED),
-    "standard input": (["-q", "--agent=a", "-", "/b"], b"Disallow: /\n", DENIED),
-    "URLs": (["-q", "SMALL", "--agent=a", "--urls-from", "LARGE"], b"/b\n", DENIED + OTHER + "0 allowed, 1 denied\n"),
-    "expectations": (["SMALL", "--expect", "LARGE"], b"allow a /b\n", "LARGE:1: a must be allowed /b, but line 1 denies it\n"),
-    "an older version": (["SMALL", "--compare", "LARGE", "--agent=a", "/b"], b"Allow: /\n", "crawler a /b: allow 1 -> deny 1, closed\n"),
+    "robots.txt": (["-q", "--agent=a", "LARGE", "/b"], b"Disallow: /\n", DENIED + OF_A),
+    "standard input": (["-q", "--agent=a", "-", "/b"], b"Disallow: /\n", DENIED + OF_A),
+    "URLs": (["-q", "SMALL", "--agent=a", "--urls-from", "LARGE"], b"/b\n", DENIED + standard("a") + "0 allowed, 1 denied\n"),
+    "expectations": (["NAMED", "--expect", "LARGE"], b"allow a /b\n", "LARGE:1: a must be allowed /b, but line 2 denies it\n"),
+    "an older version": (["NAMED", "--compare", "LARGE", "--agent=a", "/b"], b"User-agent: *\nAllow: /\n", "crawler a /b: allow 2 -> deny 2, closed\n"),
 }
 
 
@@ -390,6 +398,7 @@ OF_LARGE_FILES = {
 def test_a_large_file_is_read(what, tmp_path):
     args, beginning, end = OF_LARGE_FILES[what]
     (tmp_path / "SMALL").write_bytes(b"Disallow: /\n")
+    (tmp_path / "NAMED").write_bytes(b"User-agent: *\nDisallow: /\n")
     (tmp_path / "LARGE").write_bytes(beginning + LARGE)
     with (tmp_path / "LARGE").open("rb") as stdin:
         result = run("robots_audit", args, stdin, cwd=tmp_path, timeout=300)
@@ -402,4 +411,4 @@ def test_a_file_with_a_long_path_is_read(length, tmp_path):
     (tmp_path / "a").write_bytes(b"Disallow: /\n")
     path = "./" * (length // 2) + "a" if length % 2 else ".//" + "./" * (length // 2 - 2) + "a"
     result = run("robots_audit", ["-q", "--agent=a", path, "/b"], cwd=tmp_path)
-    assert (len(path), result.status, result.out) == (length, 1, DENIED + OTHER), result.err
+    assert (len(path), result.status, result.out) == (length, 1, DENIED + standard("a")), result.err

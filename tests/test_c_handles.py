@@ -9,7 +9,7 @@ import subprocess
 from pathlib import Path
 
 import pytest
-from library import HEADER, random_case
+from library import HEADER, batch, random_case
 from support import CC, Result, compiled, run
 from test_c_library import STRICT, needs, sanitized
 
@@ -99,12 +99,13 @@ int main(void) {
 """
 
 
-def test_bytes_are_those_that_were_allocated(installed, tmp_path):
+@pytest.mark.parametrize("site_open", ["robots_site_open", "robots_site_open_rfc9309"])
+def test_bytes_are_those_that_were_allocated(installed, tmp_path, site_open):
     """Robots have no sitemaps, so all without rules take as much."""
     (tmp_path / "bytes.c").write_text(BYTES)
-    counted = compiled(tmp_path / "bytes", *STRICT, tmp_path / "bytes.c", installed / "lib/librobots_c.a")
+    counted = compiled(tmp_path / "bytes", *STRICT, f"-DSITE_OPEN={site_open}", tmp_path / "bytes.c", installed / "lib/librobots_c.a")
     robots = []
-    for file in [b"", b"Sitemap: /s\n" * 2000, b"User-agent: a\n" * 9, b"Disallow: /a*bcd\n", b"Disallow: /a\n" * 60]:
+    for file in [b"", b"Sitemap: /s\n" * 2000, b"User-agent: a\n" * 9, b"User-agent: *\nDisallow: /a*bcd\n", b"User-agent: *\n" + b"Disallow: /a\n" * 60]:
         result = run(counted, [], file)
         robot, robot_bytes, own, own_bytes, site, site_bytes = map(int, result.out.split())
         assert (result.status, result.err) == (0, "") and (robot, own, site) == (robot_bytes, own_bytes, site_bytes)
@@ -157,7 +158,7 @@ int main(void) {
         return 7;
     fails = false;
     robots_close(robot);
-    if (held != 0 || robots_site_open(file, length, &site) != ROBOTS_OK)
+    if (held != 0 || SITE_OPEN(file, length, &site) != ROBOTS_OK)
         return 4;
     before = held;
     if (robots_site_robot(site, "Bot", 3, &own, NULL) != ROBOTS_OK)
@@ -168,7 +169,7 @@ int main(void) {
     fails = true;
     before = held;
     robots_site *whole = same = site;
-    if (robots_site_open(file, length, &same) != ROBOTS_OUT_OF_MEMORY || robots_site_robot(site, "Bot", 3, &other, NULL) != ROBOTS_OUT_OF_MEMORY
+    if (SITE_OPEN(file, length, &same) != ROBOTS_OUT_OF_MEMORY || robots_site_robot(site, "Bot", 3, &other, NULL) != ROBOTS_OUT_OF_MEMORY
         || same != whole || other != kept || held != before)
         return 8;
     robots_site_close(site);
@@ -187,16 +188,6 @@ def test_batches_of_random_files(robots, shared_object):
             assert batch(library, robot, urls) == (robots.OK, wanted)
             joined = ["\n".join(urls), *urls]
             assert batch(library, robot, joined) == (robots.OK, [robot.verdict(joined[0]), *wanted])
-
-
-def batch(library, robot, urls):
-    texts = [url.encode() for url in urls]
-    ends, out = (ctypes.c_size_t * len(urls))(), (ctypes.c_int64 * len(urls))()
-    for number in range(len(urls)):
-        ends[number] = sum(map(len, texts[: number + 1]))
-    joined = b"".join(texts)
-    status = library.robots_verdicts_batch(robot.handle, joined, ctypes.c_size_t(len(joined)), ends, ctypes.c_size_t(len(urls)), out)
-    return status, [*out]
 
 
 def test_null_is_reported_where_it_is_forbidden(tmp_path):

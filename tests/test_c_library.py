@@ -13,7 +13,8 @@ from decimal import Decimal
 from pathlib import Path
 
 import pytest
-from library import HEADER, LIBRARY, archive, make, random_case
+import readings
+from library import HEADER, LIBRARY, archive, batch, make, random_case
 from support import CC, CRATES, ROOT, SIZES, Result, cases_of, compiled, input_of, program, run, shown, spelled, wanted_of
 
 STRICT = ["-Wpedantic", "-Werror", f"-I{LIBRARY}"]
@@ -293,6 +294,23 @@ def test_python_site(robots):
         assert status_of(robots, robots.Robot, "Bot", site) == (robots.OVERLONG_RULE, 2)
 
 
+def test_the_reading_of_rfc9309(robots):
+    for case in readings.CASES.values():
+        for by_rfc9309, number in [(False, case.crate), (True, case.rfc9309)]:
+            with robots.Site(case.file, by_rfc9309) as site, robots.Robot(case.agent, site) as robot:
+                assert [robot.verdict(case.url)] == robot.verdicts([case.url]) == site.matrix([case.agent], [case.url])[0] == [number], case
+                assert batch(robots.library, robot, [case.url, "/"])[1][0] == number
+                assert robot.delay() == site.delay(case.agent) == robots.delay(case.agent, case.file)
+                assert (site.sitemaps(), site.agents()) == (robots.sitemaps(case.file), robots.agents(case.file))
+    with robots.Site(readings.REJECTED) as site, robots.Robot("Bot", site) as robot:
+        assert robot.verdict("/") == 2
+    with robots.Site(readings.REJECTED, True) as site:
+        assert site.matrix(["Bot"], ["/"]) == [[robots.NO_VERDICT]]
+        assert status_of(robots, robots.Robot, "Bot", site) == (robots.OVERLONG_RULE, 3)
+    with robots.Site(readings.FULL, True) as site, robots.Robot("Bot", site) as robot:
+        assert robot.verdict("/last") == -readings.LAST_LINE
+
+
 def test_one_file_denies_everything():
     """The proved one is also in the header and in the Rust crate for it."""
     file = re.search(r"Site::new\(alloc, b(\"[^\"]+\")\)", (CRATES / "robots_responses/src/site.rt").read_text())[1]
@@ -382,10 +400,10 @@ EXAMPLES = cases_of((ROOT / "tests/golden/ask.toml").read_text())
 
 
 def verdict_lines(report):
-    """The lines on the delay and on URLs. robots_audit shows a delay in seconds."""
+    """The lines on the delay and on URLs. robots_audit shows a delay in seconds, and RFC 9309's verdict beside another one."""
     report = re.sub(r"^delay: (\S+) s$", lambda it: f"delay {int(Decimal(it[1]) * 1_000_000)}", report, flags=re.M)
     report = report.replace("delay: none", "delay none")
-    return re.findall(r"^(?:delay|allow|deny) .*$", report, re.M)
+    return re.findall(r"^((?:delay|allow|deny) .*?)(?:   \(by RFC 9309.*)?$", report, re.M)
 
 
 @pytest.fixture(scope="session")

@@ -488,3 +488,72 @@ PLANS = [
 @pytest.mark.parametrize("file, page, plan", PLANS)
 def test_a_crawler_plans_its_visit(printed, file, page, plan):
     assert printed("visit", page, file=file) == [plan]
+
+
+# ---- RFC 9309's reading of a file
+
+# Here the delay ends the list of names, so that Googlebot may fetch everything.
+ONLY = "# only these\nUser-agent: Googlebot\nUser-agent: Bingbot\nCrawl-delay: 5\n\nUser-agent: *\nDisallow: /\n"
+ONLY_TEXT = "\nUser-agent: Googlebot\nUser-agent: Bingbot\n\n\nUser-agent: *\nDisallow: /\n"
+MIXED = (
+    b"\xef\xbb\xbfDisallow: /\nUser-agent: Bot\nCrawl-delay: 1\nUseragent: Other/1 # c\nDisallow:\n"
+    b"Disalow: /%62{$a\xff\r\nAllow: /*\xc3\xa9$\0Disallow: /%%341"
+)
+MIXED_TEXT = (
+    "\nUser-agent: Bot\n\nUser-agent: Other/1\nDisallow: $/\nDisallow: /b%7B%24a%FF\nAllow: /*%C3%A9$\nDisallow: /%41\n"
+)
+ABOVE = "Disallow: /a\nAllow: /b"
+
+# A file, and the text that stands for it.
+READ = [
+    (ONLY.encode(), ONLY_TEXT),
+    (MIXED, MIXED_TEXT),
+    (b"", ""),
+    (ABOVE.encode(), "\n\n"),
+    (b"User-agent: \xff\xe9\nAllow:\nSitemap: s\nNoindex: /", b"User-agent: \xff\xe9\nAllow: $/\n\n\n"),
+]
+
+
+@pytest.mark.parametrize("file, text", READ)
+def test_a_text_stands_for_a_file(printed, file, text):
+    assert printed("standard text", "", file=file, number=512_000) == [
+        shown(text if isinstance(text, bytes) else text.encode())
+    ]
+
+
+# A file, a crawler, a URL, the verdict, and the line that decides.
+STANDARD = [
+    (ONLY, "Googlebot", "https://example.com/", False, 7),
+    (ONLY, "googlebot", "https://example.com/robots.txt?", False, 7),
+    (ONLY, "Googlebot", "https://example.com/robots.txt#a", True, None),
+    (MIXED, "BOT", "/%62%7b$a%ff", False, 6),
+    (MIXED, "other/1", "HTTPS://example.com/b{$a%FF#b", False, 6),
+    (MIXED, "Bot", "/é", True, 7),
+    # each of them is put in normal form once
+    (MIXED, "Bot", "/%%341", False, 8),
+    (MIXED, "Bot", "/A", True, None),
+    (ABOVE, "Bot", "/a", True, None),
+    ("User-agent: *\nDisallow: /?a", "Bot", "https://example.com?a", False, 2),
+    ("User-agent: *\nDisallow:\nDisallow: /", "Bot", "https://example.com", False, 3),
+    # an identifier, since pytest hands it to the program in an environment variable
+    pytest.param(
+        "User-agent: *\nDisallow: /{\n" + "Allow: /{\n" * 51_196 + "Disallow: /b", "Bot", "/b", False, 51_199, id="long"
+    ),
+]
+
+
+@pytest.mark.parametrize("file, crawler, url, allowed, line", STANDARD)
+def test_files_are_read_as_by_the_standard(printed, file, crawler, url, allowed, line):
+    assert printed("standard", url, file=file, number=512_000, word=crawler) == [
+        "true",
+        f"{shown(allowed)} Decision {{ allowed: {shown(allowed)}, line: {some(line)} }}",
+    ]
+
+
+def test_long_rules_with_a_dollar_are_rejected(printed):
+    """In normal form the first rule for the crawler has 4,202 bytes, the last one 4,096."""
+    file = "User-agent: a\nDisallow: /$\nUser-agent: b\nDisallow: /" + "{" * 1400 + "$"
+    assert printed("standard", "/", file=file, number=512_000, word="B") == ["true", "Overlong(4)"]
+    assert printed("standard", "/", file=file, number=512_000, word="a")[1].startswith("false")
+    file = "User-agent: a\nDisallow: /" + "$" * 1364 + "aa$"
+    assert printed("standard", "/", file=file, number=512_000, word="a")[1].startswith("true")

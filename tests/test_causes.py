@@ -61,6 +61,13 @@ def pairs():
     return {number: it[1:] for number, it in found.items()}
 
 
+def test_no_deletion_is_advised_where_a_delay_parts_two_groups():
+    """For RFC 9309, Googlebot has the rule of the other group; if the delay were deleted, it would have it here, too."""
+    path = ROOT / "tests/golden/robots_audit/standard.toml"
+    found = list(warnings_of(cases_of(path.read_text())["a delay below Googlebot's name, and --strict"]))
+    assert len(found) == 4 and "delete" not in "\n".join(found)
+
+
 @pytest.mark.parametrize("number", range(len(ALL_WARNINGS)), ids=lambda it: f"{it} {ALL_WARNINGS[it]['name']} {ALL_WARNINGS[it]['level']}")
 def test_each_warning_has_a_case_and_a_near_miss(number):
     assert number in pairs()

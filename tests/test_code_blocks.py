@@ -121,7 +121,7 @@ def test_contributing_shows_a_golden_case():
     result = run("robots_audit", case["args"].split(), case["file"].encode())
     assert result.status == case["status"] and case["rfc"] == "verdicts"
     group, *lines, line = result.out.splitlines()
-    assert group.split(" (")[0] == case["out"].splitlines()[0] and lines == case["out"].splitlines()[1:] and line.startswith("RFC 9309 syntax, and verdicts")
+    assert group.split(" (")[0] == case["out"].splitlines()[0] and lines == case["out"].splitlines()[1:] and line == "RFC 9309 reads this file alike"
 
 
 def test_code_in_c_compiles(tmp_path):

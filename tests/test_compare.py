@@ -154,16 +154,18 @@ def test_sitemaps_are_compared_as_sets(tmp_path):
     assert reported(for_ferris(tmp_path, old, OLD + sitemaps[2] * 3)) == (1, NOTHING + lines, "")
 
 
-# two versions of a file, the line about all URLs, and its level
+ALL_CRAWLERS = b"User-agent: *\n"
+
+# two versions of a file but for its first line, the line about all URLs, and its level
 EVERY_URL = {
-    "everything is lost": (b"", b"Disallow: /", "may fetch everything -> nothing, for example /: allow -> deny 1", "error"),
-    "the rest is lost, by a longer rule than one that allows": (b"Disallow: /b", b"Allow: /a\nDisallow: /a*\nDisallow: /", "may fetch some -> nothing, for example /: allow -> deny 3", "error"),
-    "the rest but the home page is lost": (b"Disallow: /$\nAllow: /a", b"Disallow: /", "may fetch some -> nothing, for example /a: allow 2 -> deny 1", "error"),
-    "all is lost but what an Allow names": (b"", b"Disallow: /\nAllow: /a", "may fetch everything -> only what line 2 allows, for example /: allow -> deny 1", "warning"),
-    "the home page is lost": (b"", b"Disallow: /$", "may fetch everything -> some, for example /: allow -> deny 1", "warning"),
-    "the home page is opened, and another page is lost": (b"Disallow: /$", b"Disallow: /a", "verdicts change, for example /: deny 1 -> allow", "note"),
-    "a page is lost": (b"Disallow: /b", b"Disallow: /b\nDisallow: /a$", "verdicts change, for example /a: allow -> deny 2", "note"),
-    "all is opened": (b"Disallow: /*", b"Allow: /*\nDisallow: /", "may fetch nothing -> everything, for example /: deny 1 -> allow 1", "note"),
+    "everything is lost": (b"", b"Disallow: /", "may fetch everything -> nothing, for example /: allow -> deny 2", "error"),
+    "the rest is lost, by a longer rule than one that allows": (b"Disallow: /b", b"Allow: /a\nDisallow: /a*\nDisallow: /", "may fetch some -> nothing, for example /: allow -> deny 4", "error"),
+    "the rest but the home page is lost": (b"Disallow: /$\nAllow: /a", b"Disallow: /", "may fetch some -> nothing, for example /a: allow 3 -> deny 2", "error"),
+    "all is lost but what an Allow names": (b"", b"Disallow: /\nAllow: /a", "may fetch everything -> only what line 3 allows, for example /: allow -> deny 2", "warning"),
+    "the home page is lost": (b"", b"Disallow: /$", "may fetch everything -> some, for example /: allow -> deny 2", "warning"),
+    "the home page is opened, and another page is lost": (b"Disallow: /$", b"Disallow: /a", "verdicts change, for example /: deny 2 -> allow", "note"),
+    "a page is lost": (b"Disallow: /b", b"Disallow: /b\nDisallow: /a$", "verdicts change, for example /a: allow -> deny 3", "note"),
+    "all is opened": (b"Disallow: /*", b"Allow: /*\nDisallow: /", "may fetch nothing -> everything, for example /: deny 2 -> allow 2", "note"),
     "an Allow goes that a longer Disallow overrules": (b"Allow: /a\nDisallow: /a*", b"Disallow: /a", "no URL's verdict changes", "note"),
     "a rule that matches no path": (b"Disallow: a", b"\n", "no URL's verdict changes", "note"),
     "a rule about robots.txt": (b"Disallow: /robots.txt$", b"\n", "no URL's verdict changes", "note"),
@@ -172,7 +174,7 @@ EVERY_URL = {
 
 @pytest.mark.parametrize("old, new, text, level", EVERY_URL.values(), ids=EVERY_URL)
 def test_every_url(tmp_path, old, new, text, level):
-    line = f"crawler Ferris: {text}"
+    old, new, line = ALL_CRAWLERS + old, ALL_CRAWLERS + new, f"crawler Ferris: {text}"
     result = for_ferris(tmp_path, old, new)
     assert (result.status, result.out.splitlines()[-1]) == (1, line)
     (found,) = [it for it in json.loads(for_ferris(tmp_path, old, new, "--json").out)["findings"] if it["text"] == line]
@@ -182,7 +184,8 @@ def test_every_url(tmp_path, old, new, text, level):
 
 def test_verdicts_alone_decide_the_status(tmp_path):
     for old, new, text, _ in EVERY_URL.values():
-        assert for_ferris(tmp_path, old, new, "--only-verdicts").status == (not text.startswith("no"))
+        result = for_ferris(tmp_path, ALL_CRAWLERS + old, ALL_CRAWLERS + new, "--only-verdicts")
+        assert result.status == (not text.startswith("no"))
     assert for_ferris(tmp_path, OLD, OLD + b"Sitemap: /s\nUser-agent: Ferris\nAllow: /search/tea\nDisallow: /search\n", "--only-verdicts").status == 0
     assert compare(tmp_path, OLD, NEW, "--only-verdicts").status == 1
     assert for_ferris(tmp_path, OLD, TOO_LONG, "--only-verdicts").status == 2
@@ -193,7 +196,7 @@ def test_verdicts_alone_decide_the_status(tmp_path):
 @pytest.mark.parametrize("stars, status, said", [(700, 0, "no URL's verdict changes"), (4000, 1, "it isn't decided whether a URL's verdict changes")])
 def test_a_rule_of_many_stars(tmp_path, stars, status, said):
     """A star at its end changes nothing. Of hundreds of stars that is found, of thousands it isn't."""
-    rule = b"Disallow: /" + stars * b"a*" + b"b"
+    rule = ALL_CRAWLERS + b"Disallow: /" + stars * b"a*" + b"b"
     result = for_ferris(tmp_path, rule, rule + b"*", "--only-verdicts")
     assert (result.status, result.out.splitlines()[-1]) == (status, f"crawler Ferris: {said}")
 
@@ -245,17 +248,16 @@ def test_other_crawlers_than_one_for_which_a_file_is_rejected(tmp_path):
 
 
 def test_untrusted_text(tmp_path):
-    lines = "crawler Ferris: + Disallow: /%07 (line 1)\ncrawler Ferris: may fetch everything -> some, for example /%07: allow -> deny 1\ncrawler Ferris /%07: allow -> deny 1, closed\n"
-    assert reported(for_ferris(tmp_path, b"", b"Disallow: /\x07", "/\x07"), "old.txt (empty)") == (1, lines, "")
+    lines = "crawler Ferris: + Disallow: /%07 (line 2)\ncrawler Ferris: may fetch everything -> some, for example /%07: allow -> deny 2\ncrawler Ferris /%07: allow -> deny 2, closed\n"
+    assert reported(for_ferris(tmp_path, ALL_CRAWLERS, ALL_CRAWLERS + b"Disallow: /\x07", "/\x07")) == (1, lines, "")
     new = b"User-agent: *\nDisallow: /a\nUser-agent: a\x1bb\nDisallow: /bc"
-    lines = "crawler a%1Bb: group * -> a%1Bb\ncrawler a%1Bb: - Disallow: /a (line 2)\ncrawler a%1Bb: + Disallow: /bc (line 4)\ncrawler a%1Bb: verdicts change, for example /a: deny 2 -> allow\n"
-    assert reported(compare(tmp_path, b"User-agent: *\nDisallow: /a", new)) == (1, lines + f"crawler *: {SAME_TEXT}", "")
+    assert reported(compare(tmp_path, b"User-agent: *\nDisallow: /a", new)) == (0, f"crawler *: {SAME_TEXT}", ""), "no crawler has this name"
 
 
 def test_no_command_of_a_workflow(tmp_path):
     """GitHub takes `##[` for a command, anywhere in a line."""
-    lines = "crawler Ferris: + Disallow: / (line 1)\ncrawler Ferris: may fetch everything -> nothing, for example /: allow -> deny 1\ncrawler Ferris /%23%23[error]x: allow -> deny 1, closed\ncrawler Ferris /#[: allow -> deny 1, closed\n"
-    assert reported(for_ferris(tmp_path, b"", b"Disallow: /", "/##[error]x", "/#["), "old.txt (empty)") == (1, lines, "")
+    lines = "crawler Ferris: + Disallow: / (line 2)\ncrawler Ferris: may fetch everything -> nothing, for example /: allow -> deny 2\ncrawler Ferris /%23%23[error]x: allow -> deny 2, closed\ncrawler Ferris /#[: allow -> deny 2, closed\n"
+    assert reported(for_ferris(tmp_path, ALL_CRAWLERS, ALL_CRAWLERS + b"Disallow: /", "/##[error]x", "/#[")) == (1, lines, "")
 
 
 @pytest.mark.parametrize("name, shown", [("", '""'), ("Googlebot/2.1\x1b", "Googlebot/2.1%1B")])

@@ -10,7 +10,8 @@ import sys
 from pathlib import Path
 
 import pytest
-from support import CRATES, DOCUMENTS, PAGES, ROOT, WARNINGS, cases_of, program, run, shown, spelled, tables
+import standard_model
+from support import CRATES, DOCUMENTS, PAGES, ROOT, WARNINGS, bytes_in, cases_of, crawler_and_file, program, rows_under, run, shown, spelled, tables
 
 sys.path.insert(0, str(ROOT / "tools"))
 import warnings_page  # noqa: E402
@@ -304,10 +305,10 @@ ANSWERS = {
     "Did an edit change a verdict?": [(group("*", "Disallow: /b", "Disallow: /a"), 0, ["so the same verdicts"]), (SEARCH, 1, ["verdicts change"])],
     "Which URLs of a list are denied?": [(SEARCH, 1, ["deny 2 * /search/tea", "1 allowed, 1 denied"])],
     "Is a folder closed?": [
-        ("Disallow: /private/\n", 0, ["1 expectation holds"]),
-        ("Disallow: /private/\nAllow: /private/press\n", 1, ["* must be denied all of /private/, but line 2 allows /private/press"]),
+        (group("*", "Disallow: /private/"), 0, ["1 expectation holds"]),
+        (group("*", "Disallow: /private/", "Allow: /private/press"), 1, ["* must be denied all of /private/, but line 3 allows /private/press"]),
     ],
-    "Which rules can go?": [(group("*", "Disallow: /a", "Disallow: /ab"), 0, ["robots.txt:3: note: ", "[needless-rule]"]), (SEARCH, 0, ["RFC 9309 syntax, and verdicts"])],
+    "Which rules can go?": [(group("*", "Disallow: /a", "Disallow: /ab"), 0, ["robots.txt:3: note: ", "[needless-rule]"]), (SEARCH, 0, ["RFC 9309 reads this file alike"])],
     "Which lines are mistakes?": [(group("*", "Disalow: /a"), 3, ["robots.txt:2: warning: "]), (SEARCH, 0, [])],
 }  # fmt: skip
 QUESTIONS = {row[0]: re.match(r"`(.*?)`(?:.*`(.*)`)?", row[1]).groups() for row in tables(PROGRAMS) if row[1].startswith("`robots_audit ")}
@@ -408,19 +409,6 @@ def test_documented_settings_are_those_of_the_middleware():
 # ---- examples in docs/SPECIFICATION.md and docs/COMPATIBILITY.md
 
 
-def bytes_in(cell):
-    """The bytes that a cell shows in its first code span."""
-    return spelled(re.search(r"`([^`]*)`", cell)[1].replace("⏎", "\n"))
-
-
-def rows_under(name, *columns):
-    """The rows of a document's tables that begin with these columns."""
-    blocks = re.findall(r"(?:^\|.*\n)+", DOCUMENTS[name], re.M)
-    found = [row for rows in map(tables, blocks) if rows[0][: len(columns)] == [*columns] for row in rows[1:] if row[0][0] != "-"]
-    assert found, f"{name} has no table that begins with {columns}"  # pytest would skip a test without rows
-    return [pytest.param(*row, id=" ".join(row[:2])) for row in found]
-
-
 @pytest.mark.parametrize("line, read", rows_under("docs/SPECIFICATION.md", "Line", "Read as"))
 def test_line_is_read_as_documented(line, read):
     """The row of an empty Disallow, which is the Allow of `/` that the document names, shows what is written."""
@@ -448,13 +436,14 @@ def test_url_has_the_documented_match_target(url, target):
     assert verdict(b"FerrisBot", b"Disallow: " + bytes_in(target) + b"$", bytes_in(url)) == "denied"
 
 
-@pytest.mark.parametrize("file, url, standard, google, crate, here, warning", rows_under("docs/COMPATIBILITY.md", "File", "URL"))
-def test_file_is_read_as_documented(file, url, standard, google, crate, here, warning):
-    crawler = (re.search(r"crawler `(.*)`", file) or [0, "a"])[1]
-    text = bytes_in(file) if "ser-agent" in file else b"User-agent: a\n" + bytes_in(file)
+@pytest.mark.parametrize("file, url, standard, google, crate, here, reading, warning", rows_under("docs/COMPATIBILITY.md", "File", "URL"))
+def test_file_is_read_as_documented(file, url, standard, google, crate, here, reading, warning):
+    """tests/test_standard_reading.py has what the library makes of the column for RFC 9309's reading."""
+    crawler, text = crawler_and_file(file)
     urls = re.findall(rb"^(?:/|https?:).*$", bytes_in(url))  # robots_audit takes no others
     result = run("robots_audit", ["-q", "--agent", crawler, "-", *urls], text)
     assert here.split(":")[0] == verdict(crawler.encode(), text, bytes_in(url))
+    assert (here if reading == "same" else reading).split(":")[0] == standard_model.word(text, crawler.encode(), bytes_in(url))
     warned, documented = set(re.findall(r" \[([a-z0-9-]+)\]$", result.err, re.M)), set(re.findall(r"`(.*)`", warning))
     assert documented <= warned and bool(documented) == bool(warned)
 

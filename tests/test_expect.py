@@ -9,13 +9,13 @@ from support import IGNORING, PHRASES, run
 NAMED = "".join(f"User-agent: {name}\n" for name in ["*", *IGNORING]).encode()
 
 # A file, an expectation about any crawler, the crawlers for which it fails, in this order, and why for the first of them. With the group
-# `*`, those fail that ignore it; with one of Googlebot, those too that get this one from their vendor.
+# of Googlebot, those fail too that get this one from their vendor.
 ANY = {
-    "no group": (b"Disallow: /a", b"deny any /a", [], None),
-    "denied to *": (b"User-agent: *\nDisallow: /a", b"allow any /a", ["*", *IGNORING], "line 2 denies it"),
+    "no group": (b"Disallow: /a", b"deny any /a", ["*"], "only one reading denies it: deny 1 (by RFC 9309 and Google: allow)"),
+    "denied to *": (b"User-agent: *\nDisallow: /a", b"allow any /a", ["*"], "line 2 denies it"),
     "which are named": (NAMED + b"Disallow: /a", b"deny-all Any /a", [], None),
     "a crawler of the file": (NAMED + b"Disallow: /a\nUser-agent: Ferris\nDisallow: /b", b"deny-all any /a", ["Ferris"], "no rule denies /a"),
-    "a name with a version": (b"User-agent: A/2\nDisallow: /a", b"allow ANY /a", ["A/2"], "line 2 denies it"),
+    "a name with a version": (b"User-agent: A/2\nDisallow: /a", b"allow ANY /a", [], None),
     "those that get the group of Googlebot": (
         b"User-agent: Googlebot\nDisallow: /a",
         b"allow any /a",
@@ -50,8 +50,6 @@ def test_any_crawler(tmp_path, robots, text, names, why):
     """A text has a line for each of the first five crawlers, and one with ten more names; JSON has a finding for each."""
     result, found = (check(tmp_path, b"\n" + text, *more, robots=robots) for more in ([], ["--json"]))
     more = f" and {len(names) - 15} more" if len(names) > 15 else ""
-    if IGNORING[-1] in names:
-        more = " (those that ignore *: only if they obey it)" if text.startswith(b"allow") else " (those that ignore * may fetch all)"
     others = [f"expect.txt:2: also {', '.join(names[5:15])}{more}\n"] if len(names) > 5 else []
     lines = result.out.splitlines(keepends=True)
     told = [line.removeprefix("expect.txt:2: ") for line in lines[: min(len(names), 5)]]

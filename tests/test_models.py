@@ -82,7 +82,8 @@ def at_vendor(agent, named):
     return None if found is None or group == "*" else (found, True)
 
 
-def own_rules(lines):
+def own_rules(lines, ends="adec", is_loose=True):
+    """The rules of a crawler; members of these kinds end a list of names, and without a name, rules apply or not."""
     rules, now, ended = {}, [None], True
     for no, _, _, kind, value in lines:
         if kind == "u":
@@ -90,12 +91,22 @@ def own_rules(lines):
             rules.setdefault(value.lower(), [])
         for to in {*now} if kind in "ade" else ():
             rules.setdefault(to, []).append((no, kind, value.replace(" ", "%20")))
-        ended = kind != "u" and (ended or kind in "adec")
+        ended = kind != "u" and (ended or kind in ends)
     loose = rules.pop(None, [])
-    return lambda agent: rules.get(agent.lower(), rules.get("*", [])) if rules else loose
+    return lambda agent: rules.get(agent.lower(), rules.get("*", [])) if rules else loose if is_loose else []
 
 
-def of_closed(agents, named, own, sitemaps):
+def standard_rules(lines):
+    """Those in RFC 9309's reading: an empty rule matches nothing, and a `$` before the end is no end."""
+    own = own_rules(lines, "ade", is_loose=False)
+
+    def literal(pattern):
+        return pattern[:-1].replace("$", "%24") + pattern[-1:]
+
+    return lambda agent: [(no, kind, literal(value)) for no, kind, value in own(agent) if kind != "e" and value]
+
+
+def of_closed(agents, named, own, standard, sitemaps):
     low = [*map(str.lower, named)]
 
     @functools.cache
@@ -118,6 +129,19 @@ def of_closed(agents, named, own, sitemaps):
             if no and no > 0:
                 yield f"{no} {name} {'warning' if major else 'note'} '{(major or whom)[0]}'" + f" {len(whom) - 1}" * (len(whom) > 1)
 
+    def most(rules):
+        return closing(rules, is_whole, lambda it: not opens_little(it, sitemaps)) or closing(rules, is_whole, lambda it: matches(it, "/"))
+
+    google = ["Googlebot"] * ("*" in agents and "googlebot" not in map(str.lower, [*agents, *named]))
+    for agent in [*google, *agents]:
+        here, there = most(own(agent)), most(standard(agent))
+        if at_vendor(agent, named) or agent.lower() in low and meant(agent) or bool(here) == bool(there):
+            continue
+        if agent.lower() == "googlebot":
+            yield f"{here or there} closed-site error '{agent}'"
+        elif there:
+            yield f"{there} closed-site {'warning' if is_major(agent, False) else 'note'} rfc '{agent}'"
+
 
 def of_conflicts(agents, own):
     found = {}
@@ -136,10 +160,10 @@ def of_conflicts(agents, own):
 def of_groups(text, args):
     lines = [*parsed(text)]
     named = [value for *_, kind, value in lines if kind == "u"]
-    given = args[1::2] or ([name for name, _ in KNOWN.values()] if args else ["*", *named])
+    given = args[1::2] or ([name for name, _ in KNOWN.values()] if args else ["*", *(it for it in named if re.fullmatch(r"[\w-]+|\*", it, re.A))])
     agents = [it for at, it in enumerate(given) if it.lower() not in map(str.lower, given[:at])]
     own, paths = own_rules(lines), [value[11:] for *_, kind, value in lines if kind == "s" and len(value) > 12]
-    yield from of_closed(agents, named, own, paths + [f"{it}$" for it in paths])
+    yield from of_closed(agents, named, own, standard_rules(lines), paths + [f"{it}$" for it in paths])
     yield from of_conflicts(agents, own)
     for no, _, _, kind, value in lines:
         if kind == "u" and meant(value):

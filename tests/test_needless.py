@@ -31,10 +31,14 @@ def found_in(lines):
     return [it["line"] for it in report_on(file, "--needless", "--only", "needless-rule")["findings"]]
 
 
+def allowed_in(agent):
+    """Of each URL, whether it is allowed, in both readings."""
+    return [(verdict["allowed"], verdict["rfc_9309"]["allowed"]) for verdict in agent["verdicts"]]
+
+
 def verdicts_on(lines):
-    """Of each crawler, the group and whether each URL is allowed."""
-    agents = report_on("\n".join(lines).encode())["agents"]
-    return [(agent["group"]["kind"], [verdict["allowed"] for verdict in agent["verdicts"]]) for agent in agents]
+    """Of each crawler, the group and which URLs are allowed."""
+    return [(agent["group"]["kind"], allowed_in(agent)) for agent in report_on("\n".join(lines).encode())["agents"]]
 
 
 @pytest.mark.parametrize("seed", range(40))
@@ -50,9 +54,7 @@ def test_deleting_the_reported_lines_changes_no_verdict(seed):
 def results_of(file):
     """The sitemaps; and each crawler's delay, rejection and verdicts."""
     report = report_on(file)
-    agents = [
-        (it["delay_microseconds"], it["rejected_line"] is None, [verdict["allowed"] for verdict in it["verdicts"]]) for it in report["agents"]
-    ]
+    agents = [(it["delay_microseconds"], it["rejected_line"] is None, allowed_in(it)) for it in report["agents"]]
     return report["sitemaps"], agents
 
 
@@ -83,7 +85,7 @@ def test_some_lines_are_reported():
 
 
 LONGEST = "Disallow: /qqqqqqqq$"
-TEXTS = ["/qqqqqqqq", *("/" + "".join(letters) for size in range(5) for letters in itertools.product("abc", repeat=size))]
+TEXTS = ["/qqqqqqqq", *("/" + "".join(letters) for size in range(5) for letters in itertools.product("abc$", repeat=size))]
 
 
 @pytest.mark.parametrize("seed", range(20))
@@ -95,8 +97,8 @@ def test_every_needless_rule_is_found(seed):
     left = [line for number, line in enumerate(lines, 1) if number not in numbers]
 
     def verdicts(lines):
-        report = json.loads(run("robots_audit", ["--json", "--agent=a", "-", *TEXTS], "\n".join(lines).encode()).out)
-        return [verdict["allowed"] for verdict in report["agents"][0]["verdicts"]]
+        (audit,) = json.loads(run("robots_audit", ["--json", "--agent=a", "-", *TEXTS], "\n".join(lines).encode()).out)["agents"]
+        return allowed_in(audit)
 
     assert verdicts(left) == verdicts(lines)
     for at, line in enumerate(left[1:], 1):

@@ -7,8 +7,9 @@ from html.parser import HTMLParser
 
 import page_style
 import pytest
+import readings
 from browser import Browser
-from support import PHRASES, ROOT, also_in, level_and_text, run, shared
+from support import ROOT, also_in, level_and_text, run, shared
 
 SOURCE, STYLE = page_style.SOURCE.read_text(), page_style.STYLE.read_text()
 
@@ -180,7 +181,7 @@ SMALL = """<!DOCTYPE html><html lang="en"><head><meta charset="utf-8"/>
 <dt>Findings</dt><dd><b class="error">1 error</b> (rules for crawlers other than Ferris aren't checked)<ul><li class="error"><a href="#L2">line 2</a>: {warning}</li></ul></dd>
 <dt>Group</dt><dd>* (Ferris has no group of its own), <a href="#L1">line 1</a></dd>
 <dt>Rules</dt><dd>1</dd><dt>Crawl delay</dt><dd>none</dd><dt>May fetch</dt><dd class="everything">everything</dd>
-<dt>Sitemaps</dt><dd><ul></ul></dd><dt>Syntax</dt><dd>not RFC 9309 syntax, first at line 2</dd></dl>
+<dt>Sitemaps</dt><dd><ul></ul></dd><dt>Syntax</dt><dd>not RFC 9309 syntax, first at line 2</dd><dt>RFC 9309</dt><dd>RFC 9309 reads this file alike</dd></dl>
 <h2>URLs</h2><table class="urls"><caption>May the crawler fetch it?</caption>
 <thead><tr><th scope="col">URL</th><th scope="col">Verdict</th></tr></thead>
 <tbody><tr><th scope="row"><code dir="ltr">/a&amp;b</code></th><td class="allowed">allowed, no line</td></tr></tbody></table>
@@ -211,7 +212,7 @@ CRAWLERS = """
 <th scope="col">Rules</th><th scope="col">Crawl delay</th><th scope="col">May fetch</th>
 <th scope="col"><code dir="ltr">/b</code></th></tr></thead><tbody>
 <tr><th scope="row"><code dir="ltr">Long</code></th><td>Long, <a href="#L4">line 4</a>; rejected: <a href="#L5">line 5</a></td>
-<td>1</td><td>none</td><td class="some">not decided</td></tr>
+<td>1</td><td>none</td><td class="some">not decided (by RFC 9309 and Google: some)</td></tr>
 <tr><th scope="row"><code dir="ltr">B</code></th><td>* (B has no group of its own), <a href="#L1">line 1</a></td>
 <td>1</td><td>2.5 s</td><td class="depends-on-rules">what its rules allow</td>
 <td class="denied"><code dir="ltr">/b</code>denied, <a href="#L2">line 2</a></td></tr></tbody></table></div><h2>File</h2>
@@ -224,17 +225,27 @@ def test_table_of_crawlers():
     assert CRAWLERS.replace("\n", "") in page("--agent", "Long", "--agent", "B", "-", "/b", file=file)
 
 
-@pytest.mark.parametrize("agent, vendor, fetch", [
-    ("AdsBot-Google", PHRASES["ignores"], "everything"),
-    ("Googlebot-Image", PHRASES["vendor"], "not decided"),
+@pytest.mark.parametrize("agent, group", [
+    ("AdsBot-Google", "none (AdsBot-Google ignores the group *, and obeys only one with its own name; everything is allowed)"),
+    ("Googlebot-Image", "Googlebot (Google applies it to Googlebot-Image), line 4"),
 ])
-def test_page_has_what_vendors_do(agent, vendor, fetch):
+def test_page_has_what_vendors_do(agent, group):
     file = b"User-agent: *\nDisallow: /a\nCrawl-delay: 10\nUser-agent: Googlebot\nDisallow:"
     found = entries_of(f"--agent={agent}", "-", file=file)
-    assert found["Group"] == f"* ({agent} has no group of its own), line 1{vendor}"
-    assert (found["Crawl delay"], found["May fetch"]) == (f"10 s ({agent} probably ignores it)", fetch)
-    assert ["/a", "denied by the file, line 2"] in [cells for _, cells in children(elements_of(f"--agent={agent}", "-", "/a", file=file), "tr")]
+    assert (found["Group"], found["Crawl delay"], found["May fetch"]) == (group, "none", "everything")
+    line = "no line" if group.startswith("none") else "line 5"
+    assert ["/a", f"allowed, {line}"] in [cells for _, cells in children(elements_of(f"--agent={agent}", "-", "/a", file=file), "tr")]
     assert "<td>disallow</td><td>(empty: an Allow of / here)</td>" in page(f"--agent={agent}", "-", file=file)
+
+
+def test_page_has_the_verdicts_of_both_readings():
+    """A URL that one of them denies is marked as denied."""
+    verdict = 'allowed, no line (by RFC 9309 and Google: denied, <a href="#L7">line 7</a>)'
+    fetched = "everything (by RFC 9309 and Google: nothing)"
+    row = f'<td class="some">{fetched}</td><td class="denied"><code dir="ltr">/</code>{verdict}</td></tr>'
+    assert page("-", "/", file=readings.ONLY_TWO).count(row) == 2
+    alone = page("--agent=Googlebot", "-", "/", file=readings.ONLY_TWO)
+    assert f'<dd class="some">{fetched}</dd>' in alone and f'<td class="denied">{verdict}</td>' in alone
 
 
 def test_page_has_the_lines_and_warnings_of_the_json():
@@ -244,14 +255,15 @@ def test_page_has_the_lines_and_warnings_of_the_json():
     assert texts(elements, "li") == [*joined(found["findings"]), *found["sitemaps"]]
 
 
-@pytest.mark.parametrize("file, sentence", [
-    (b"User-agent: *\nDisallow: /", "RFC 9309 syntax, and verdicts for paths and queries in normal form (%20 for a space, not %41 for A)"),
-    (b"User-agent: *\nDisallow: /a$b", "RFC 9309 syntax; verdicts may differ from RFC 9309's: line 2"),
-    (b"User-agent: *\nDisallow: a", "not RFC 9309 syntax, first at line 2"),
-    (b"# nothing", None),
+@pytest.mark.parametrize("file, syntax, reading", [
+    (b"User-agent: *\nDisallow: /", None, "RFC 9309 reads this file alike"),
+    (b"User-agent: *\nDisallow: /a$b", None, "RFC 9309 reads this file otherwise for * (line 2)"),
+    (b"User-agent: *\nDisallow: a", "not RFC 9309 syntax, first at line 2", "RFC 9309 reads this file alike"),
+    (b"# nothing", None, None),
 ])
-def test_page_has_the_sentence_about_the_standard(file, sentence):
-    assert entries_of("-", file=file).get("Syntax") == sentence
+def test_page_has_the_sentences_about_the_standard(file, syntax, reading):
+    entries = entries_of("-", file=file)
+    assert (entries.get("Syntax"), entries.get("RFC 9309")) == (syntax, reading)
 
 
 @pytest.mark.parametrize("agents, file, crawlers", [

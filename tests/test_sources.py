@@ -102,10 +102,10 @@ def test_derives_are_not_replaced():
 
 
 def test_other_crates_use_the_shared_lemmas_of_the_library():
-    """So all others can change. The laws of `Robot` and `Site`, which the toolchain writes, belong to their types."""
+    """So all others can change."""
     texts = [path.read_text() for folder in ("src", "specs", "proofs") for path in CRATES.glob(f"[!t]*/{folder}/**/*.*t")]
     modules = {name for text in texts for name in re.findall(r"\btexting_robots(?:\.|::)proofs(?:\.|::)(\w+|{)", text)}
-    assert modules == {"Shared", "robot", "site"}
+    assert modules == {"Shared"}
     used = {name for text in texts for names in re.findall(r"\bproofs(?:\.|::)Shared(?:\.|::)(\w+|{[^}]*})", text) for name in re.findall(r"\w+", names)}
     shared = re.findall(r"(\w+)[,}]", (CRATES / "texting_robots/proofs/Shared.antt").read_text().split("\n\n")[1])
     assert sorted(used) == sorted({*shared})

@@ -45,8 +45,8 @@ def test_each_line_is_a_url(tmp_path, text, lines):
 
 
 def test_a_url_is_asked_without_its_fragment(tmp_path):
-    """In a path, `#` is a byte like others."""
-    out = PHRASES["star"] + "\ndelay: none\ndeny 2 https://e.com/a#b\nallow - /a#b\n1 allowed, 1 denied\n"
+    """In a path, `#` is a byte like others; but for RFC 9309 it begins a fragment."""
+    out = PHRASES["star"] + "\ndelay: none\ndeny 2 https://e.com/a#b\nallow - /a#b   (by RFC 9309: deny 2)\n0 allowed, 2 denied\n"
     result = check(tmp_path, b"https://e.com/a#b\n/a#b\n", "Ferris", robots=b"User-agent: *\nDisallow: /a$\n")
     assert result == Result(1, report(out, "verdicts"), warning_lines(["url-not-normal /a#b"], agent="Ferris"))
 
@@ -144,7 +144,8 @@ def test_numbers_are_those_of_all_crawlers(tmp_path):
 def test_denied_urls_as_json():
     result = run("robots_audit", ["--json", "--denied", "--agent=Ferris", "-", "/a", "/private/"], ROBOTS)
     verdicts = json.loads(result.out)["agents"][0]["verdicts"]
-    assert (result.status, verdicts) == (1, [{"allowed": False, "line": 2, "url": "/private/"}])
+    decision = {"allowed": False, "line": 2}
+    assert (result.status, verdicts) == (1, [decision | {"rfc_9309": decision, "url": "/private/"}])
 
 
 def test_ten_thousand_urls(tmp_path):

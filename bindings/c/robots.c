@@ -11,7 +11,6 @@ PROVED(robots_verdict);
 PROVED(robots_verdict_within);
 PROVED(robots_close);
 PROVED(robots_verdicts_of_file);
-PROVED(robots_site_open);
 PROVED(robots_site_robot);
 PROVED(robots_site_matrix);
 PROVED(robots_site_close);
@@ -26,6 +25,9 @@ enum { SITE_MEMORY, IS_NAMED, SITE_DELAY };
 extern int32_t proved_robots_number(const robots_robot *robot, size_t which, size_t length, uint64_t *number) HIDDEN;
 extern int32_t proved_robots_site_number(const robots_site *site, size_t which, const char *agent, size_t agent_len,
                                          uint64_t *number) HIDDEN;
+
+/* As RFC 9309 reads the file, or else as the Rust crate does. */
+extern int32_t proved_robots_site_open(const void *file, size_t file_len, bool by_rfc9309, robots_site **site) HIDDEN;
 
 /* Its sitemaps, or else the names in its user-agent lines. */
 extern int32_t proved_robots_site_texts(const robots_site *site, bool are_agents, char *out, size_t out_len, size_t *len) HIDDEN;
@@ -54,6 +56,14 @@ static int32_t with_length(int32_t status, size_t *len, size_t length) {
 static int32_t with_delay(int32_t status, uint64_t *microseconds, uint64_t delay) {
     if (status == ROBOTS_OK)
         *microseconds = delay;
+    return status;
+}
+
+static int32_t site_open(const void *file, size_t file_len, bool by_rfc9309, robots_site **site) {
+    robots_site *opened = NULL;
+    int32_t status = proved_robots_site_open(AT(file, file_len), by_rfc9309, &opened);
+    if (status == ROBOTS_OK)
+        *site = opened;
     return status;
 }
 
@@ -127,13 +137,9 @@ int32_t robots_verdicts_of_file(const char *agent, size_t agent_len, const void 
     return with_line(status, line, number);
 }
 
-int32_t robots_site_open(const void *file, size_t file_len, robots_site **site) {
-    robots_site *opened = NULL;
-    int32_t status = proved_robots_site_open(AT(file, file_len), &opened);
-    if (status == ROBOTS_OK)
-        *site = opened;
-    return status;
-}
+int32_t robots_site_open(const void *file, size_t file_len, robots_site **site) { return site_open(file, file_len, false, site); }
+
+int32_t robots_site_open_rfc9309(const void *file, size_t file_len, robots_site **site) { return site_open(file, file_len, true, site); }
 
 int32_t robots_site_robot(const robots_site *site, const char *agent, size_t agent_len, robots_robot **robot, size_t *line) {
     robots_robot *opened = NULL;

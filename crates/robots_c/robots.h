@@ -45,10 +45,10 @@
  * alone: after all other calls with the handle, as after the threads that made them were joined. The library has no global state. No call
  * may run in a signal handler.
  *
- * PRECONDITIONS, which nothing checks: each pointer is valid for its length; the buffers that a call writes overlap none of its
- * other arguments; nobody writes to the texts during a call; a robot is one that robots_open or robots_site_robot opened, and a site one
- * that robots_site_open opened; each is closed once, in any order. Robots and sites don't need each other, nor the texts that they were
- * opened with. No call keeps a pointer to a text.
+ * PRECONDITIONS, which nothing checks: each pointer is valid for its length; the buffers that a call writes overlap none of its other
+ * arguments; nobody writes to the texts during a call; a robot is one that robots_open or robots_site_robot opened, and a site one that
+ * robots_site_open or robots_site_open_rfc9309 opened; each is closed once, in any order. Robots and sites don't need each other, nor the
+ * texts that they were opened with. No call keeps a pointer to a text.
  *
  * PROOF. crates/robots_c/src has a contract for each function that bindings/c/robots.c makes these calls of, from the file's bytes to
  * every number written; of robots_memory and robots_site_memory it has only a lower bound, and tests compare them with malloc. For which
@@ -181,6 +181,16 @@ ROBOTS_CHECK int32_t robots_verdicts_of_file(const char *agent, size_t agent_len
  * ROBOTS_OUT_OF_MEMORY: a rule that is too long is an error only for the crawlers that it applies to. */
 ROBOTS_CHECK int32_t robots_site_open(const void *file, size_t file_len, robots_site **site) ROBOTS_NONNULL(3);
 
+/* robots_site_open with the verdicts of RFC 9309, also on files that the library reads otherwise by default: a Crawl-delay ends no list
+ * of names, a Disallow without a value is no rule, rules above the first user-agent line don't count, a '$' is special only at the end
+ * of a rule, and an escape such as %62 is the same as what it stands for. URLs are compared as they are written, up to a '#'. That holds
+ * for the matrix of such a site, and for its robots with all their verdicts. ROBOTS_OVERLONG_RULE is about rules that end with '$' and
+ * have more than 4,096 bytes when all that isn't allowed in a URI is escaped. robots_verdict doesn't allocate if path and query of the
+ * URL are escaped as in a URI, with escapes in uppercase only where they are needed; robots_cost is about the length of these two.
+ * Delays, sitemaps and names are those of robots_site_open. Take it if you have to obey the standard to the letter, and robots_site_open
+ * to decide as the Rust crate texting_robots does. */
+ROBOTS_CHECK int32_t robots_site_open_rfc9309(const void *file, size_t file_len, robots_site **site) ROBOTS_NONNULL(3);
+
 /* robots_open for a site, with the same robot, errors and line. The robot stays open when the site is closed. */
 ROBOTS_CHECK int32_t robots_site_robot(const robots_site *site, const char *agent, size_t agent_len, robots_robot **robot,
                                        size_t *line) ROBOTS_NONNULL(1, 4);
@@ -197,7 +207,7 @@ ROBOTS_CHECK int32_t robots_site_matrix(const robots_site *site, const char *age
 ROBOTS_CHECK int32_t robots_site_delay(const robots_site *site, const char *agent, size_t agent_len,
                                        uint64_t *microseconds) ROBOTS_NONNULL(1, 4);
 
-/* robots_memory for a site: what robots_site_open allocated and didn't free. It doesn't allocate. */
+/* robots_memory for a site: what was allocated to open it, and not freed. It doesn't allocate. */
 size_t robots_site_memory(const robots_site *site) ROBOTS_NONNULL(1);
 
 /* Writes the sitemaps, which are the same for every crawler, each with '\n' at its end, and their length in bytes to *len. At

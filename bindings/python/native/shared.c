@@ -33,11 +33,17 @@ struct site {
     struct robot *_Atomic unnamed;
 };
 
+/* As RFC 9309 reads the file, or else as the Rust crate does. */
+static int32_t open_site(const char *file, size_t file_len, bool by_rfc9309, robots_site **site)
+{
+    return by_rfc9309 ? robots_site_open_rfc9309(file, file_len, site) : robots_site_open(file, file_len, site);
+}
+
 /* Returns NULL if an allocation fails. */
-static struct site *site_open(const char *file, size_t file_len)
+static struct site *site_open(const char *file, size_t file_len, bool by_rfc9309)
 {
     struct site *shared = calloc(1, sizeof *shared);
-    if (shared != NULL && robots_site_open(file, file_len, &shared->site) != ROBOTS_OK) {
+    if (shared != NULL && open_site(file, file_len, by_rfc9309, &shared->site) != ROBOTS_OK) {
         free(shared);
         return NULL;
     }
@@ -67,11 +73,11 @@ static int32_t site_matrix(const struct site *shared, const char *agents, size_t
 }
 
 /* The same for a file that isn't kept. */
-static int32_t file_matrix(const char *agents, size_t agents_len, const char *file, size_t file_len, const char *urls, size_t urls_len,
-                           int64_t *verdicts, size_t verdicts_len)
+static int32_t file_matrix(const char *agents, size_t agents_len, const char *file, size_t file_len, bool by_rfc9309, const char *urls,
+                           size_t urls_len, int64_t *verdicts, size_t verdicts_len)
                            {
     robots_site *site = NULL;
-    int32_t status = robots_site_open(file, file_len, &site);
+    int32_t status = open_site(file, file_len, by_rfc9309, &site);
     if (status == ROBOTS_OK)
         status = robots_site_matrix(site, agents, agents_len, urls, urls_len, verdicts, verdicts_len);
     robots_site_close(site);
@@ -115,9 +121,16 @@ static struct robot *robot_new(const robots_site *site, const char *file, size_t
     return NULL;
 }
 
-static struct robot *robot_of_file(const char *file, size_t file_len, const char *agent, size_t agent_len)
+static struct robot *robot_of_file(const char *file, size_t file_len, bool by_rfc9309, const char *agent, size_t agent_len)
 {
-    return robot_new(NULL, file, file_len, agent, agent_len);
+    if (!by_rfc9309)
+        return robot_new(NULL, file, file_len, agent, agent_len);
+    robots_site *site = NULL;
+    struct robot *made = NULL;
+    if (robots_site_open_rfc9309(file, file_len, &site) == ROBOTS_OK)
+        made = robot_new(site, NULL, 0, agent, agent_len);
+    robots_site_close(site);
+    return made;
 }
 
 /* Of several threads that need the robot of unnamed crawlers first, the first one's stays with the site. */

@@ -19,13 +19,13 @@
 static const char *const DENY_ALL_FILE;
 static const int64_t NO_VERDICT;
 int processor_fits(void);
-int32_t file_matrix(const char *agents, size_t agents_len, const char *file, size_t file_len, const char *urls, size_t urls_len,
-                    int64_t *verdicts, size_t verdicts_len);
+int32_t file_matrix(const char *agents, size_t agents_len, const char *file, size_t file_len, bool by_rfc9309, const char *urls,
+                    size_t urls_len, int64_t *verdicts, size_t verdicts_len);
 int32_t robots_url(const char *url, size_t url_len, char *out, size_t out_len, size_t *len);
 int robots_response_meaning(uint32_t status, uint32_t redirects, bool has_location, bool is_complete);
 
 struct site;
-struct site *site_open(const char *file, size_t file_len);
+struct site *site_open(const char *file, size_t file_len, bool by_rfc9309);
 void site_close(struct site *site);
 int32_t site_matrix(const struct site *site, const char *agents, size_t agents_len, const char *urls, size_t urls_len, int64_t *verdicts,
                     size_t verdicts_len);
@@ -37,7 +37,7 @@ int32_t site_is_named(const struct site *site, const char *agent, size_t agent_l
 
 struct robot;
 struct robot *robot_open(struct site *site, const char *agent, size_t agent_len);
-struct robot *robot_of_file(const char *file, size_t file_len, const char *agent, size_t agent_len);
+struct robot *robot_of_file(const char *file, size_t file_len, bool by_rfc9309, const char *agent, size_t agent_len);
 void robot_close(struct robot *robot);
 size_t robot_memory(const struct robot *robot);
 size_t robot_overlong_line(const struct robot *robot);

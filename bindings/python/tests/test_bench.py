@@ -8,8 +8,8 @@ import urllib.robotparser
 
 import package
 import pytest
-from support import DOCUMENTS, ROOT, tables
-from test_documents import bytes_in, rows_under, section
+from support import DOCUMENTS, ROOT, bytes_in, rows_under, tables
+from test_documents import section
 
 from texting_robots import Site
 

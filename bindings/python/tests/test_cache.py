@@ -356,10 +356,9 @@ def test_without_memory(cache, monkeypatch):
 
     site, _ = fetched(cache, A, file())
     with monkeypatch.context() as changed:
-        changed.setattr(module.Rules, "verdict", no_memory)
+        changed.setattr(_memory.Rules, "verdict", no_memory)
         assert cache.verdict(site, "http://a.example/", "x") == (False, None, "out of memory")
-    for it in (module, _memory):
-        monkeypatch.setattr(it, "Rules", no_memory)
+    monkeypatch.setattr(_memory, "Rules", no_memory)
     assert fetched(cache, "http://b.example", file())[0].state is State.UNREACHABLE
     site.rules = None
     assert not cache.verdict(site, "http://a.example/", "x").allowed and cache.delay(site, "x") == 0

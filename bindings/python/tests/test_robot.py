@@ -37,7 +37,7 @@ def test_a_robots_of_one_agent_takes_the_memory_of_a_robot_and_of_the_file():
     file = b"User-agent: *\nCrawl-delay: 1\nSitemap:/\n" + b"".join(b"Disallow: /account/archives/%d\n" % n for n in range(10, 40))
     robots, robot = Site(file), Robot(file, "FerrisBot")
     assert robots.allowed("/", "FerrisBot") and robots.delay("FerrisBot") == robot.delay == 1 and robots.sitemaps == ["/"]
-    assert robots.memory == len(file) + robot.memory < 3700 and len(file) == 969
+    assert robots.memory == len(file) + robot.memory < 3720 and len(file) == 969
     assert robots.allowed("/", "x") and robots.memory > 2 * len(file) + robot.memory
 
 

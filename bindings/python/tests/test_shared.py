@@ -52,7 +52,7 @@ static void *use(void *given) {
 
 static void share(void) {
     const char file[] = "User-agent: *\nDisallow: /a\nUser-agent: own\nDisallow: /b";
-    struct site *site = site_open(file, sizeof file - 1);
+    struct site *site = site_open(file, sizeof file - 1, false);
     pthread_t threads[16];
     int right = 0;
     for (int i = 0; i < 16; i++)
@@ -71,7 +71,7 @@ int main(void) {
     int64_t verdicts[2];
     uint64_t delay = 0;
     size_t length = 0, ends[2] = {2, 4};
-    struct site *site = site_open(file, strlen(file));
+    struct site *site = site_open(file, strlen(file), false);
     struct robot *one = robot_open(site, "one", 3);
     check("a robot", one != NULL);
     struct robot *two = robot_open(site, "two", 3);
@@ -98,13 +98,18 @@ int main(void) {
     check("without the site", robot_verdict(one, "/a", 2) == -2);
     robot_close(one);
     robot_close(own);
-    one = robot_of_file(file, strlen(file), "one", 3);
-    own = robot_of_file(file, strlen(file), "long", 4);
+    one = robot_of_file(file, strlen(file), false, "one", 3);
+    own = robot_of_file(file, strlen(file), false, "long", 4);
     check("robots of a file", robot_verdict(one, "/a", 2) == -2 && robot_memory(one) > 0 && robot_overlong_line(own) == 6);
     robot_close(one);
     robot_close(own);
-    check("a file that isn't kept", file_matrix("x", 1, file, strlen(file), "/a", 2, verdicts, 2) == ROBOTS_OK && verdicts[0] == -2);
-    site = contended = site_open("", 0);
+    one = robot_of_file("User-agent: *\nDisallow: /%62", 28, true, "one", 3);
+    own = robot_of_file("User-agent: *\nDisallow: /%62", 28, false, "one", 3);
+    check("readings of a file", robot_verdict(one, "/b", 2) == -2 && robot_verdict(own, "/b", 2) == 0);
+    robot_close(one);
+    robot_close(own);
+    check("a file that isn't kept", file_matrix("x", 1, file, strlen(file), false, "/a", 2, verdicts, 2) == ROBOTS_OK && verdicts[0] == -2);
+    site = contended = site_open("", 0, true);
     robot_close(robot_open(site, "one", 3));
     check("two threads at once", contended == NULL);
     site_close(site);

@@ -146,8 +146,8 @@ from array import array
 from mmap import mmap
 from typing import Iterator, List, Mapping, Optional, Tuple, Type
 from urllib.robotparser import RequestRate, RobotFileParser
-from texting_robots import LIFETIME, REDIRECT_LIMIT, AgentError, Matrix, Meaning, OverlongRuleError, Robots, RobotsError, Site, TooCostlyError
-from texting_robots import UrlError, Verdict, meaning, product_token, robots_url
+from texting_robots import LIFETIME, REDIRECT_LIMIT, AgentError, Matrix, Meaning, OverlongRuleError, Reading, Robot, Robots, RobotsError, Site
+from texting_robots import TooCostlyError, UrlError, Verdict, meaning, product_token, robots_url
 from texting_robots import protego, robotparser
 from texting_robots.aio import AsyncRobots, Response
 from texting_robots.cache import CacheVerdict, Decision, Fetch, KnownSite, RobotsCache
@@ -168,6 +168,12 @@ async def may(url: str) -> float:
         return 0 if verdict.line else 1
 
 site: Site = Site(b"")
+mine: Reading = "rfc9309"
+readings: List[Reading] = [Site(b"", mine).reading, Site.parse(b"", "crate").reading, protego.Protego.parse(b"").reading]
+allowed_by_standard: bool = Robot(b"", "a", reading="rfc9309").allowed("/")
+standard_parser = robotparser.RobotFileParser()
+standard_parser.reading = mine
+standard_cache = RobotsCache(reading=mine)
 other: Robots = Robots(b"")
 false: Decision = CacheVerdict(False)
 allowed: bool = site.allowed(robots_url("https://example.com/"), product_token("a/1"))

@@ -40,6 +40,13 @@ impl Site {
         Ok(Site(Handle::new(site)))
     }
 
+    /// As RFC 9309 reads it.
+    pub(crate) fn open_rfc9309(txt: &[u8]) -> Result<Site, Error> {
+        let mut site = ptr::null_mut();
+        check(unsafe { sys::robots_site_open_rfc9309(txt.as_ptr().cast(), txt.len(), &mut site) }, 0)?;
+        Ok(Site(Handle::new(site)))
+    }
+
     pub(crate) fn robot(&self, agent: &str) -> Result<Robot, Error> {
         let (mut robot, mut line) = (ptr::null_mut(), 0);
         let status = unsafe {

@@ -61,6 +61,15 @@ impl Robot {
         Site::new(txt)?.robot(agent)
     }
 
+    /// As [`Robot::new`], but the verdicts are those of RFC 9309: see [`Site::rfc9309`].
+    ///
+    /// # Errors
+    ///
+    /// [`Error::OverlongRule`] and [`Error::OutOfMemory`].
+    pub fn rfc9309(agent: &str, txt: &[u8]) -> Result<Robot, Error> {
+        Site::rfc9309(txt)?.robot(agent)
+    }
+
     fn of(rules: handle::Robot, sitemaps: Arc<[String]>) -> Robot {
         Robot { delay: rules.delay().map(Duration::from_micros), sitemaps, rules: Arc::new(rules) }
     }
@@ -135,7 +144,22 @@ impl Site {
     ///
     /// [`Error::OutOfMemory`].
     pub fn new(txt: &[u8]) -> Result<Site, Error> {
-        let lines = handle::Site::open(txt)?;
+        Site::of(handle::Site::open(txt)?, txt)
+    }
+
+    /// Reads a file as [`Site::new`] does, but the verdicts of its robots and of [`Site::matrix`] are those of RFC 9309 on each file: a
+    /// `Crawl-delay` ends no list of names, an empty `Disallow` is no rule, only the last byte of a pattern can be a `$` that is special,
+    /// rules above the first user-agent line don't count, and escapes such as `%62` are the same as what they stand for. The delays,
+    /// [`Site::sitemaps`] and the names are as for [`Site::new`].
+    ///
+    /// # Errors
+    ///
+    /// [`Error::OutOfMemory`].
+    pub fn rfc9309(txt: &[u8]) -> Result<Site, Error> {
+        Site::of(handle::Site::open_rfc9309(txt)?, txt)
+    }
+
+    fn of(lines: handle::Site, txt: &[u8]) -> Result<Site, Error> {
         Ok(Site { sitemaps: lines.sitemaps(txt.len().min(FILE_LIMIT))?.into(), lines: Arc::new(lines) })
     }
 

@@ -226,3 +226,47 @@ fn debug_and_errors_of_the_standard_library() {
 fn the_library_is_that_of_the_header() {
     assert_eq!(unsafe { sys::robots_version() }, sys::ROBOTS_VERSION);
 }
+
+#[test]
+fn the_reading_of_rfc_9309() {
+    let file = "# only these\nUser-agent: Googlebot\nUser-agent: Bingbot\nCrawl-delay: 5\n\nUser-agent: *\nDisallow: /\nSitemap: a";
+    let (site, default) = (Site::rfc9309(file.as_bytes()).unwrap(), Site::new(file.as_bytes()).unwrap());
+    for agent in ["Googlebot", "Bingbot"] {
+        assert_eq!(site.robot(agent).unwrap().verdict("https://example.com/"), Ok(denied(7)));
+        assert_eq!(default.robot(agent).unwrap().verdict("https://example.com/"), Ok(ALLOWED));
+        let delays = [site.delay(agent), default.delay(agent), Robot::rfc9309(agent, file.as_bytes()).unwrap().delay];
+        assert_eq!(delays, [Some(Duration::from_secs(5)); 3]);
+    }
+    assert_eq!(site.matrix(&["Googlebot", "Other"], &["/"]).unwrap(), [[Some(denied(7))], [Some(denied(7))]]);
+    assert_eq!((site.sitemaps.to_vec(), site.agents()), (default.sitemaps.to_vec(), default.agents()));
+}
+
+#[test]
+fn rules_as_rfc_9309_reads_them() {
+    // a file, a URL, and its verdict by default and by the standard
+    let cases = [
+        ("User-agent: *\nDisallow: /%62", "https://example.com/b", ALLOWED, denied(2)),
+        ("User-agent: *\nDisallow: /b", "/%62", ALLOWED, denied(2)),
+        ("User-agent: *\nDisallow:\nDisallow: /", "/", allowed(2), denied(3)),
+        ("User-agent: *\nDisallow: /$a", "/$a", ALLOWED, denied(2)),
+        ("Disallow: /", "/", denied(1), ALLOWED),
+    ];
+    for (file, url, by_default, by_standard) in cases {
+        assert_eq!(robot("Bot", file).verdict(url), Ok(by_default), "{file}");
+        assert_eq!(Robot::rfc9309("Bot", file.as_bytes()).unwrap().verdict(url), Ok(by_standard), "{file}");
+    }
+    let long = format!("User-agent: *\nAllow: /\nDisallow: /{}$", "{".repeat(1400));
+    assert_eq!(robot("Bot", &long).verdict("/"), Ok(allowed(2)));
+    assert_eq!(Robot::rfc9309("Bot", long.as_bytes()).unwrap_err(), Error::OverlongRule { line: 3 });
+    assert_eq!(Site::rfc9309(long.as_bytes()).unwrap().matrix(&["Bot"], &["/"]).unwrap(), [[None]]);
+}
+
+#[test]
+fn a_full_file_is_read_to_its_end_by_the_standard() {
+    let (last, line) = ("Disallow: /last", format!("Disallow: /{}\n", "{".repeat(988)));
+    let mut file = format!("User-agent: *\n{}", line.repeat((FILE_LIMIT - 100) / line.len()));
+    file += &format!("{}\n{last}", "#".repeat(FILE_LIMIT - file.len() - last.len() - 1));
+    assert_eq!(file.len(), FILE_LIMIT);
+    let number = file.matches('\n').count() + 1;
+    assert_eq!(Robot::rfc9309("Bot", file.as_bytes()).unwrap().verdict("/last"), Ok(denied(number)));
+}

@@ -6,8 +6,8 @@ use Rattle.std.proofs.Math.Seq.{drop-nil}
 use Rattle.std.proofs.lemmas.{Bool.and_parts, Grind.common_steps}
 use Rattle.std.proofs.lemmas.Slice.Eq.{bytes_eq-Decides}
 use Rattle.std.proofs.lemmas.List.Folds.{Any-from_list_any}
-use Rattle.texting_robots.specs.Callers.{IsDenied, IsVerdict, LineValue, PlacedRule, Rule, placed_rules}
-use Rattle.texting_robots.specs.Callers.{label_by_value, rules_for, unplaced}
+use Rattle.texting_robots.specs.Callers.{IsDenied, IsVerdict, PlacedRule, Rule, placed_rules}
+use Rattle.texting_robots.specs.Callers.{label_by_value, lines_read, rules_for, unplaced}
 use Rattle.texting_robots.specs.declared.labels.LabeledLine.{LabeledLine}
 use Rattle.robots_rules.specs.Same.{HaveSameVerdicts}
 use Rattle.robots_warnings.specs.File.{lines_of}
@@ -88,13 +88,13 @@ module _ (older newer : List PlacedRule) where
       → HaveSameVerdicts (codes "/") (unplaced older) (unplaced newer)
   same_verdicts rules are none text allowed = unchanged_alike rules are none (47 ∷ text) allowed
 
-pub reported_alike : (urls : List (List ℕ)) (older newer : List LineValue) (agent : List ℕ)
-    (compared : Compared) (text : List ℕ) (allowed : Bool) → IsCompared urls older newer agent compared
-    → is_unchanged compared ≡ true
-    → IsVerdict (rules_for agent older) text allowed ↔ IsVerdict (rules_for agent newer) text allowed
+pub reported_alike : (urls : List (List ℕ)) (older newer agent : List ℕ) (compared : Compared) (text : List ℕ)
+    (allowed : Bool) → IsCompared urls older newer agent compared → is_unchanged compared ≡ true
+    → IsVerdict (rules_for agent (lines_read older)) text allowed
+    ↔ IsVerdict (rules_for agent (lines_read newer)) text allowed
 reported_alike urls older newer agent compared text allowed is said =
-    unchanged_alike (placed_rules agent older) (placed_rules agent newer) compared.rules is.rules_are
-    (and_parts _ (are_none compared.rules) said).1 text allowed
+    unchanged_alike (placed_rules agent (lines_read older)) (placed_rules agent (lines_read newer))
+    compared.rules is.rules_are (and_parts _ _ (and_parts _ _ said).1).0 text allowed
 
 pub both_lines : (one two : List LabeledLine)
     → lines_of (map label_by_value (one ++ two))

@@ -1,6 +1,6 @@
 -- Two versions of a robots.txt file compared.
-use Rattle.std.specs.Prelude.{◌≡◌, ℕ, ◌==◌, Bool, true, false, not, ◌&&◌, ◌||◌, List, [], ◌∷◌, ◌++◌, Option}
-use Rattle.std.specs.Prelude.{Some, bytes_eq, codes, filter, if◌then◌else◌, is_some, length, map, nat_eq}
+use Rattle.std.specs.Prelude.{◌≡◌, ℕ, ◌==◌, Bool, true, false, not, ◌&&◌, ◌||◌, List, [], ◌∷◌, ◌++◌, None}
+use Rattle.std.specs.Prelude.{Option, Some, bytes_eq, filter, if◌then◌else◌, is_some, length, map, nat_eq}
 use Rattle.std.specs.{List.AllZip, List.list_all, List.list_any, Option.option_eq}
 use Rattle.std.proofs.Math.{Bool.beq}
 use Rattle.texting_robots.specs.Callers.{LineValue, PlacedRule, Rule, lines_read, placed_rules, sitemaps_in}
@@ -11,7 +11,8 @@ use Rattle.audit_core.specs.Audit.{IsAgentAudit, VerdictValue, agents_requested}
 use Rattle.audit_compare.specs.declared.compare.Comparison.{Comparison}
 use Rattle.audit_compare.specs.declared.compared.Compared.{Compared}
 use Rattle.audit_compare.specs.declared.compared.{RuleChanges.RuleChanges, UrlChange.UrlChange}
-use Rattle.audit_compare.specs.EveryUrl.{AreAtVendor, AreVerdicts, is_same, is_same_at_vendor}
+use Rattle.audit_compare.specs.EveryUrl.{AreAtVendor, AreStandardVerdicts, AreVerdicts, is_same}
+use Rattle.audit_compare.specs.EveryUrl.{is_same_at_vendor, rules_in_both}
 
 -- of the same kind, and with equal patterns, which are escaped values
 abbrev pub is_same_rule : Rule → Rule → Bool
@@ -43,14 +44,26 @@ abbrev pub is_same_decision : RuleChanges → (older newer : Decision) → Bool
 is_same_decision rules older newer = beq older.allowed newer.allowed
     && not (is_in_line_of rules.removed.items older.line || is_in_line_of rules.added.items newer.line)
 
-abbrev pub Changed : Type 0
-Changed = List ℕ × Decision × Decision
+-- the verdicts in RFC 9309's reading aren't those here, and here or there they change
+abbrev pub is_otherwise : (one other : VerdictValue) (was is : Decision) → Bool
+is_otherwise one other was is =
+    not (beq one.decision.allowed was.allowed && beq other.decision.allowed is.allowed)
+    && not (beq one.decision.allowed other.decision.allowed && beq was.allowed is.allowed)
 
--- the URL and the decisions on it, if they differ
+abbrev pub Changed : Type 0
+Changed = List ℕ × Decision × Decision × Bool
+
+abbrev pub standard_change : (one other : VerdictValue) → (older newer : Option Decision) → List Changed
+standard_change one other (Some was) (Some is) =
+    if is_otherwise one other was is then (one.url, was, is, true) ∷ [] else []
+standard_change one other was is = []
+
+-- the URL and the decisions on it, if they differ here; and if RFC 9309's verdicts change otherwise, these
 abbrev pub change_on : RuleChanges → VerdictValue → VerdictValue → List Changed
 change_on rules one other =
-    if is_same_decision rules one.decision other.decision then []
-    else (one.url, one.decision, other.decision) ∷ []
+    (if is_same_decision rules one.decision other.decision then []
+    else (one.url, one.decision, other.decision, false) ∷ [])
+    ++ standard_change one other one.standard other.standard
 
 -- the changes on all URLs, in order
 abbrev pub changes_in : RuleChanges → (older newer : List VerdictValue) → List Changed
@@ -58,23 +71,28 @@ changes_in rules (one ∷ older) (other ∷ newer) = change_on rules one other +
 changes_in rules _ _ = []
 
 abbrev pub changed : List UrlChange → List Changed
-changed changes = map (λ change. (change.url.now, change.older, change.newer)) changes
+changed changes =
+    map (λ change. (change.url.now, change.older, change.newer, change.is_standard)) changes
 
 -- exactly the URLs on which the decisions differ, in order
 abbrev pub AreUrlChanges : RuleChanges → (older newer : List VerdictValue) → List UrlChange → Type 0
 AreUrlChanges rules older newer changes = changed changes ≡ changes_in rules older newer
 
--- what the lines of both files mean for a crawler, the URLs on which decisions differ, and what becomes of
--- the verdicts of all URLs, here and at the crawler's vendor
-pub record IsCompared (urls : List (List ℕ)) (older newer : List LineValue) (agent : List ℕ)
-    (compared : Compared) : Type 0 where
+-- what both files mean for a crawler, the URLs on which decisions differ, and what becomes of the verdicts of
+-- all URLs, in both readings, unless the crawler's vendor applies other groups, and then by these
+pub record IsCompared (urls : List (List ℕ)) (older newer agent : List ℕ) (compared : Compared)
+    : Type 0 where
   pub agent_is : compared.agent.now ≡ agent
   pub older_is : IsAgentAudit urls older agent compared.older
   pub newer_is : IsAgentAudit urls newer agent compared.newer
-  pub rules_are : AreChanges (placed_rules agent older) (placed_rules agent newer) compared.rules
+  pub rules_are : AreChanges (placed_rules agent (lines_read older)) (placed_rules agent (lines_read newer))
+      compared.rules
   pub changes_are : AreUrlChanges compared.rules compared.older.verdicts compared.newer.verdicts
       compared.changes.items
-  pub verdicts_are : AreVerdicts (placed_rules agent older) (placed_rules agent newer) compared.verdicts
+  pub here : AreVerdicts false (placed_rules agent (lines_read older)) (placed_rules agent (lines_read newer))
+      compared.verdicts.here
+  pub standard : compared.vendor ≡ None
+      → AreStandardVerdicts (rules_in_both agent older) (rules_in_both agent newer) compared.verdicts.standard
   pub vendor_is : AreAtVendor older newer agent compared.vendor
 
 abbrev pub is_listed : List (List ℕ) → List ℕ → Bool
@@ -92,15 +110,18 @@ ComparisonValue = Comparison
 -- names, and the sitemaps that only one of them lists
 pub record IsComparison (agents urls : List (List ℕ)) (older newer : List ℕ) (comparison : Comparison)
     : Type 0 where
-  pub all : AllZip (IsCompared urls (lines_read older) (lines_read newer))
+  pub all : AllZip (IsCompared urls older newer)
       (agents_requested agents (lines_read older ++ lines_read newer)) comparison.crawlers.items
   pub removed_are : AreOnlyIn (sitemaps_in (lines_read older)) (sitemaps_in (lines_read newer))
       (map (λ text. text.now) comparison.removed.items)
   pub added_are : AreOnlyIn (sitemaps_in (lines_read newer)) (sitemaps_in (lines_read older))
       (map (λ text. text.now) comparison.added.items)
 
+-- in one of the readings
 abbrev pub is_rejected : Compared → Bool
-is_rejected compared = is_some compared.older.rejected || is_some compared.newer.rejected
+is_rejected compared =
+    ((is_some compared.older.rejected || is_some compared.newer.rejected)
+    || is_some compared.older.standard.rejected) || is_some compared.newer.standard.rejected
 
 abbrev pub is_same_group : Group → Group → Bool
 is_same_group Named Named = true
@@ -112,31 +133,25 @@ is_same_group _ _ = false
 abbrev pub are_none : RuleChanges → Bool
 are_none rules = length rules.removed.items == 0 && length rules.added.items == 0
 
+-- no verdict changes for the crawler, in either reading, or at its vendor
+abbrev pub keep_verdicts : Compared → Bool
+keep_verdicts compared =
+    is_same compared.verdicts.here compared.verdicts.standard && is_same_at_vendor compared.vendor
+
 -- no file is rejected for the crawler, and no group, delay or rule differs; by the theorem
--- `same_rules_decide_alike` no verdict differs then. Nor does one by the groups that its vendor applies
+-- `same_rules_decide_alike` no verdict differs then. Nor does one in RFC 9309's reading, or by the groups
+-- that its vendor applies
 abbrev pub is_unchanged : Compared → Bool
 is_unchanged compared =
-    (((not (is_rejected compared) && is_same_group compared.older.group compared.newer.group)
-    && option_eq nat_eq compared.older.delay compared.newer.delay) && is_same_at_vendor compared.vendor)
-    && are_none compared.rules
-
--- the words for crawlers, if some are unchanged
-abbrev pub unchanged_words : List Compared → List ℕ
-unchanged_words crawlers = if list_any is_unchanged crawlers
-    then codes ": same group, delay and rules as read here, so the same verdicts" else []
-
--- the words for verdicts of which no example changes
-abbrev pub without_example : (is_same : Bool) → List ℕ
-without_example is_same = if is_same then codes "no URL's verdict changes"
-    else codes "it isn't decided whether a URL's verdict changes"
+    ((not (is_rejected compared) && is_same_group compared.older.group compared.newer.group)
+    && option_eq nat_eq compared.older.delay compared.newer.delay)
+    && (are_none compared.rules && keep_verdicts compared)
 
 abbrev pub rejects_some : Comparison → Bool
 rejects_some comparison = list_any is_rejected comparison.crawlers.items
 
--- for no crawler a verdict changes, here or at its vendor
 abbrev pub keeps_verdicts : Comparison → Bool
-keeps_verdicts comparison = list_all (λ (compared : Compared). is_same compared.verdicts
-    && is_same_at_vendor compared.vendor) comparison.crawlers.items
+keeps_verdicts comparison = list_all keep_verdicts comparison.crawlers.items
 
 abbrev pub differs_nowhere : Comparison → Bool
 differs_nowhere comparison =

@@ -6,14 +6,14 @@ ghost use Rattle.audit_core.specs.Audit.{agents_requested as specified_agents};
 ghost use Rattle.audit_compare.specs.Compare.{IsCompared, IsComparison, differs_nowhere, keeps_verdicts};
 ghost use Rattle.audit_compare.specs.Compare.{rejects_some};
 ghost use Rattle.robots_warnings.specs.Read.{IsRead};
+ghost use Rattle.audit_core.specs.Standard.{AreReadings};
 
-use crate::compared::{Compared, compared_for};
+use crate::compared::{Compared, compared_for, keep_verdicts};
 use crate::differences::{all_unchanged, is_rejected};
-use crate::every_url::is_same;
 use crate::sitemaps::sitemaps_only_in;
-use crate::vendor::is_same_at_vendor;
 use audit_core::agents::agents_requested;
 use audit_core::error::Error;
+use audit_core::readings::FileReadings;
 use robots_warnings::read::FileRead;
 use std::alloc::{AllocError, Global};
 
@@ -75,15 +75,15 @@ fn agents_of<'a>(
 fn crawlers_of<'a>(
     alloc: Global,
     agents: &[&'a str],
-    older: &FileRead<'_>,
-    newer: &FileRead<'_>,
+    older: &FileReadings<'_>,
+    newer: &FileReadings<'_>,
     urls: &[&'a str],
 ) -> Result<Vec<Compared<'a>>, Error>
-    requires older { IsRead older.now }
-    requires newer { IsRead newer.now }
+    requires older { AreReadings older.now.here.bytes.now older.now }
+    requires newer { AreReadings newer.now.here.bytes.now newer.now }
     ensures ok { IfOk result (λ crawlers. AllZip (IsCompared (map (λ url. url.now) urls.now)
-        (lines_read older.now.bytes.now) (lines_read newer.now.bytes.now))
-        (map (λ agent. agent.now) agents.now) crawlers.items) }
+        older.now.here.bytes.now newer.now.here.bytes.now) (map (λ agent. agent.now) agents.now)
+        crawlers.items) }
     ensures error { IfErr result (λ error. error ≡ Error.Memory) }
 {
     let budget = BUDGET / agents.len().max(1);
@@ -99,17 +99,18 @@ fn compared_files<'a>(
     agents: &[&'a str],
     urls: &[&'a str],
     names: (&'a str, &'a str),
-    old: &FileRead<'a>,
-    new: &FileRead<'a>,
+    older: &FileReadings<'a>,
+    newer: &FileReadings<'a>,
 ) -> Result<Comparison<'a>, Error>
-    requires older { IsRead old.now }
-    requires newer { IsRead new.now }
+    requires older { AreReadings older.now.here.bytes.now older.now }
+    requires newer { AreReadings newer.now.here.bytes.now newer.now }
     ensures ok { IfOk result (IsComparison (map (λ agent. agent.now) agents.now)
-        (map (λ url. url.now) urls.now) old.now.bytes.now new.now.bytes.now) }
+        (map (λ url. url.now) urls.now) older.now.here.bytes.now newer.now.here.bytes.now) }
     ensures error { IfErr result (λ error. error ≡ Error.Memory) }
 {
+    let (old, new) = (&older.here, &newer.here);
     let agents = agents_of(alloc, agents, old, new)?;
-    let crawlers = crawlers_of(alloc, &agents, old, new, urls)?;
+    let crawlers = crawlers_of(alloc, &agents, older, newer, urls)?;
     let removed = sitemaps_only_in(alloc, &old.labels, &new.labels)?;
     let added = sitemaps_only_in(alloc, &new.labels, &old.labels)?;
     Ok(Comparison {
@@ -135,8 +136,8 @@ pub fn compare<'a>(
         (map (λ url. url.now) urls.now) older.entry.bytes.now newer.entry.bytes.now) }
     ensures error { IfErr result (λ error. error ≡ Error.Memory) }
 {
-    let old = FileRead::new(alloc, "*", older.bytes)?;
-    let new = FileRead::new(alloc, "*", newer.bytes)?;
+    let old = FileReadings::new(alloc, "*", older.bytes)?;
+    let new = FileReadings::new(alloc, "*", newer.bytes)?;
     compared_files(alloc, agents, urls, (older.name, newer.name), &old, &new)
 }
 
@@ -146,12 +147,10 @@ pub fn rejects_some(comparison: &Comparison<'_>) -> bool
     comparison.crawlers.iter().any(is_rejected)
 }
 
-/// No URL's verdict changes for a crawler, here or at its vendor.
 pub fn keeps_verdicts(comparison: &Comparison<'_>) -> bool
     ensures { result ≡ keeps_verdicts comparison.now }
 {
-    comparison.crawlers.iter().all(|compared| is_same(&compared.verdicts)
-        && is_same_at_vendor(&compared.vendor))
+    comparison.crawlers.iter().all(keep_verdicts)
 }
 
 pub fn differs_nowhere(comparison: &Comparison<'_>) -> bool

@@ -1,18 +1,18 @@
 //! What two versions of a file mean for a crawler.
-ghost use Rattle.std.specs.Prelude.{◌≡◌, ◌++◌, IfErr, IfOk, OnOk, map};
-ghost use Rattle.texting_robots.specs.Callers.{lines_read};
-ghost use Rattle.audit_compare.specs.Compare.{AreChanges, AreUrlChanges, IsCompared, are_none, is_in_line_of};
-ghost use Rattle.audit_compare.specs.Compare.{change_on, changed, is_same_decision};
-ghost use Rattle.audit_compare.specs.Internal.{AreVerdictsFor};
-ghost use Rattle.robots_warnings.specs.Read.{IsRead};
+ghost use Rattle.std.specs.Prelude.{◌≡◌, ◌∷◌, ◌++◌, [], IfErr, IfOk, OnOk, false, if◌then◌else◌, map};
+ghost use Rattle.audit_compare.specs.Compare.{AreChanges, AreUrlChanges, IsCompared, are_none, change_on};
+ghost use Rattle.audit_compare.specs.Compare.{changed, is_in_line_of, is_otherwise, is_same_decision};
+ghost use Rattle.audit_compare.specs.Compare.{keep_verdicts};
+ghost use Rattle.audit_compare.specs.{EveryUrl.AreVerdicts, Internal.AnswersByRules};
+ghost use Rattle.audit_core.specs.Standard.{AreReadings};
 
-use crate::every_url::{Verdicts, verdicts_for};
+use crate::every_url::{InBoth, Verdicts, is_same, standard_verdicts, verdicts_for};
 use crate::rule_sets::rules_lacked;
-use crate::vendor::{VendorChange, at_vendor};
+use crate::vendor::{VendorChange, at_vendor, is_same_at_vendor};
 use audit_core::audit::{AgentAudit, Crawler, Verdict, audit_for};
 use audit_core::error::Error;
+use audit_core::readings::FileReadings;
 use robots_rules::rule::Rule;
-use robots_warnings::read::FileRead;
 use std::alloc::{AllocError, Global};
 use texting_robots::robot::Decision;
 
@@ -21,6 +21,8 @@ pub struct UrlChange<'a> {
     pub url: &'a str,
     pub older: Decision,
     pub newer: Decision,
+    /// Whether it is one in RFC 9309's reading.
+    pub is_standard: bool,
 }
 
 #[derive(Drop)]
@@ -38,8 +40,10 @@ pub struct Compared<'a> {
     pub older: AgentAudit<'a>,
     pub newer: AgentAudit<'a>,
     pub rules: RuleChanges,
+    /// The URLs on which decisions differ here, or verdicts change otherwise in RFC 9309's reading.
     pub changes: Vec<UrlChange<'a>>,
-    pub verdicts: Verdicts,
+    /// RFC 9309's reading isn't asked for a crawler to which its vendor applies another group.
+    pub verdicts: InBoth,
     /// If its vendor applies another group to the crawler, or none, in one of the files.
     pub vendor: Option<VendorChange>,
 }
@@ -68,6 +72,28 @@ fn is_same_decision(rules: &RuleChanges, older: &Decision, newer: &Decision) -> 
     older.allowed == newer.allowed && !(is_removed || is_added)
 }
 
+/// Whether verdicts in RFC 9309's reading aren't those here, and change here or there.
+fn is_otherwise(older: &Verdict<'_>, newer: &Verdict<'_>, was: &Decision, is: &Decision) -> bool
+    ensures { result ≡ is_otherwise older.now newer.now was.now is.now }
+{
+    let (old, new) = (older.decision.allowed, newer.decision.allowed);
+    (old != was.allowed || new != is.allowed) && (old != new || was.allowed != is.allowed)
+}
+
+fn push_if<'a>(
+    found: &mut Vec<UrlChange<'a>>,
+    holds: bool,
+    change: UrlChange<'a>,
+) -> Result<(), AllocError>
+    ensures { OnOk result (changed found.new.items
+        ≡ changed found.old.items ++ (if holds then changed (change.entry ∷ []) else [])) }
+{
+    if holds {
+        found.push(change)?;
+    }
+    Ok(())
+}
+
 fn add_change<'a>(
     found: &mut Vec<UrlChange<'a>>,
     rules: &RuleChanges,
@@ -77,17 +103,26 @@ fn add_change<'a>(
     ensures { OnOk result (changed found.new.items
         ≡ changed found.old.items ++ change_on rules.now older.now newer.now) }
 {
-    if is_same_decision(rules, &older.decision, &newer.decision) {
-        return Ok(());
-    }
-    Ok(found.push(UrlChange {
+    let change = UrlChange {
         url: older.url,
         older: older.decision,
         newer: newer.decision,
-    })?)
+        is_standard: false,
+    };
+    let is_same = is_same_decision(rules, &older.decision, &newer.decision);
+    push_if(found, !is_same, change)?;
+    let (Some(was), Some(is)) = (older.standard, newer.standard) else {
+        return Ok(());
+    };
+    let change = UrlChange {
+        url: older.url,
+        older: was,
+        newer: is,
+        is_standard: true,
+    };
+    push_if(found, is_otherwise(older, newer, &was, &is), change)
 }
 
-/// The URLs on which decisions differ.
 fn url_changes<'a>(
     alloc: Global,
     rules: &RuleChanges,
@@ -121,7 +156,7 @@ pub(crate) fn are_none(rules: &RuleChanges) -> bool
     rules.removed.is_empty() && rules.added.is_empty()
 }
 
-/// What becomes of the verdicts of all URLs. They are the same if the rules are.
+/// What becomes of the verdicts of all URLs here. They are the same if the rules are.
 fn verdicts_of(
     alloc: Global,
     older: &Crawler<'_>,
@@ -129,14 +164,16 @@ fn verdicts_of(
     rules: &RuleChanges,
     budget: usize,
 ) -> Result<Verdicts, Error>
-    requires { AreChanges older.now.rules.items newer.now.rules.items rules.now }
-    ensures ok { IfOk result (AreVerdictsFor older.now newer.now) }
+    requires older { AnswersByRules older.now }
+    requires newer { AnswersByRules newer.now }
+    requires rules { AreChanges older.now.rules.items newer.now.rules.items rules.now }
+    ensures ok { IfOk result (AreVerdicts false older.now.rules.items newer.now.rules.items) }
     ensures error { IfErr result (λ error. error ≡ Error.Memory) }
 {
     if are_none(rules) {
         return Ok(Verdicts::Same);
     }
-    verdicts_for(alloc, older, newer, budget)
+    verdicts_for(alloc, older, newer, false, budget)
 }
 
 /// The budget bounds how long rules are compared on all URLs, and an eighth of it how long those of each file
@@ -144,32 +181,43 @@ fn verdicts_of(
 pub(crate) fn compared_for<'a>(
     alloc: Global,
     agent: &'a str,
-    older: &FileRead<'_>,
-    newer: &FileRead<'_>,
+    older: &FileReadings<'_>,
+    newer: &FileReadings<'_>,
     urls: &[&'a str],
     budget: usize,
 ) -> Result<Compared<'a>, Error>
-    requires older { IsRead older.now }
-    requires newer { IsRead newer.now }
-    ensures ok { IfOk result (IsCompared (map (λ url. url.now) urls.now)
-        (lines_read older.now.bytes.now) (lines_read newer.now.bytes.now) agent.now) }
+    requires older { AreReadings older.now.here.bytes.now older.now }
+    requires newer { AreReadings newer.now.here.bytes.now newer.now }
+    ensures ok { IfOk result (IsCompared (map (λ url. url.now) urls.now) older.now.here.bytes.now
+        newer.now.here.bytes.now agent.now) }
     ensures error { IfErr result (λ error. error ≡ Error.Memory) }
 {
-    let old = Crawler::new(alloc, agent, older)?;
-    let new = Crawler::new(alloc, agent, newer)?;
-    let older_audit = audit_for(alloc, &old, older, urls, budget / 8)?;
-    let newer_audit = audit_for(alloc, &new, newer, urls, budget / 8)?;
+    let old = Crawler::new(alloc, agent, &older.here.site)?;
+    let new = Crawler::new(alloc, agent, &newer.here.site)?;
+    let was = audit_for(alloc, &old, older, urls, budget / 8)?;
+    let is = audit_for(alloc, &new, newer, urls, budget / 8)?;
     let rules = rule_changes(alloc, &old.rules, &new.rules)?;
-    let changes = changes_between(alloc, &rules, &older_audit, &newer_audit)?;
-    let verdicts = verdicts_of(alloc, &old, &new, &rules, budget)?;
+    let changes = changes_between(alloc, &rules, &was, &is)?;
+    let here = verdicts_of(alloc, &old, &new, &rules, budget)?;
     let vendor = at_vendor(alloc, agent, older, newer, budget)?;
+    let standard = match &vendor {
+        Some(_) => None,
+        None => standard_verdicts(alloc, &old, &new, older, newer, budget)?,
+    };
     Ok(Compared {
         agent,
-        older: older_audit,
-        newer: newer_audit,
+        older: was,
+        newer: is,
         rules,
         changes,
-        verdicts,
+        verdicts: InBoth { here, standard },
         vendor,
     })
+}
+
+/// No URL's verdict changes for the crawler, in either reading, or at its vendor.
+pub(crate) fn keep_verdicts(compared: &Compared<'_>) -> bool
+    ensures { result ≡ keep_verdicts compared.now }
+{
+    is_same(&compared.verdicts) && is_same_at_vendor(&compared.vendor)
 }

@@ -1,16 +1,15 @@
 //! What differs between two files for a crawler, as findings.
 ghost use Rattle.std.specs.Prelude.{◌≡◌};
-ghost use Rattle.std.specs.List.{list_all, list_any};
-ghost use Rattle.audit_compare.specs.Compare.{is_rejected, is_same_group, is_unchanged, unchanged_words};
-ghost use Rattle.audit_compare.specs.Compare.{without_example};
+ghost use Rattle.std.specs.List.{list_all};
+ghost use Rattle.audit_compare.specs.Compare.{is_rejected, is_same_group, is_unchanged};
 
-use crate::compared::{Compared, UrlChange, are_none};
-use crate::every_url::{Example, Verdicts, is_same};
-use crate::vendor::is_same_at_vendor;
+use crate::compared::{Compared, UrlChange, are_none, keep_verdicts};
+use crate::every_url::Verdicts;
 use audit_core::audit::AgentAudit;
 use audit_core::findings::{Findings, Subject, add, message};
 use audit_core::group::{AtVendor, Group};
 use audit_core::reach::Reach;
+use audit_core::readings::Decided;
 use audit_core::texts::{DelayOrNone, Fetched, Rejected};
 use robots_rules::rule::Rule;
 use safe_output::level::Level;
@@ -18,7 +17,6 @@ use safe_output::report::Line;
 use std::alloc::Global;
 use std::fmt;
 use std::fmt::Write;
-use texting_robots::robot::Decision;
 
 /// A section of what is reported on a crawler. If a file is rejected for it, the other sections are empty.
 #[derive(Clone, Copy)]
@@ -95,20 +93,6 @@ fn add_rules(
     Ok(())
 }
 
-/// The verdict, and the line that decides.
-#[derive(Clone, Copy)]
-struct Decided(Decision);
-
-impl fmt::Display for Decided {
-    fn fmt<W: fmt::Write>(&self, f: &mut fmt::Formatter<W>) -> fmt::Result {
-        f.write_str(if self.0.allowed { "allow" } else { "deny" })?;
-        match self.0.line {
-            Some(line) => write!(f, " {line}"),
-            None => Ok(()),
-        }
-    }
-}
-
 /// What a crawler's vendor does otherwise in the new file, or else that it did in the old one; and whether
 /// one of the files alone has rules without a user-agent line.
 #[derive(Clone, Copy)]
@@ -142,6 +126,12 @@ fn is_ungrouped(audit: &AgentAudit<'_>, other: &AgentAudit<'_>) -> bool {
         && !matches!(other.group, Group::Everyone)
 }
 
+const NO_REMARK: Vendors = Vendors {
+    older: AtVendor::Same,
+    newer: AtVendor::Same,
+    is_ungrouped: false,
+};
+
 fn vendors_of(compared: &Compared<'_>) -> Vendors {
     let (older, newer) = (&compared.older, &compared.newer);
     Vendors {
@@ -151,6 +141,7 @@ fn vendors_of(compared: &Compared<'_>) -> Vendors {
     }
 }
 
+/// Adds what becomes of the verdict on a URL.
 fn add_url(
     alloc: Global,
     found: &mut Findings,
@@ -164,10 +155,15 @@ fn add_url(
         _ => (Level::Note, "other-rule", ""),
     };
     let (agent, url, vendors) = (compared.agent, change.url, vendors_of(compared));
+    let reading = if change.is_standard {
+        ", by RFC 9309"
+    } else {
+        ""
+    };
     let (old, new) = (Decided(older), Decided(newer));
     let message = message(
         alloc,
-        format_args!("crawler {agent} {url}: {old} -> {new}{effect}{vendors}"),
+        format_args!("crawler {agent} {url}{reading}: {old} -> {new}{effect}{vendors}"),
     );
     let subject = Subject(newer.line, Some(agent), Some(url.as_bytes()));
     add(alloc, found, level, subject, name, message)
@@ -176,7 +172,11 @@ fn add_url(
 pub(crate) fn is_rejected(compared: &Compared<'_>) -> bool
     ensures { result ≡ is_rejected compared.now }
 {
-    compared.older.rejected.is_some() || compared.newer.rejected.is_some()
+    let (older, newer) = (&compared.older, &compared.newer);
+    older.rejected.is_some()
+        || newer.rejected.is_some()
+        || older.standard.rejected.is_some()
+        || newer.standard.rejected.is_some()
 }
 
 pub(crate) fn is_unchanged(compared: &Compared<'_>) -> bool
@@ -186,8 +186,7 @@ pub(crate) fn is_unchanged(compared: &Compared<'_>) -> bool
     !is_rejected(compared)
         && is_same_group(older.group, newer.group)
         && older.delay == newer.delay
-        && is_same_at_vendor(&compared.vendor)
-        && are_none(&compared.rules)
+        && (are_none(&compared.rules) && keep_verdicts(compared))
 }
 
 pub(crate) fn all_unchanged(crawlers: &[Compared<'_>]) -> bool
@@ -196,81 +195,126 @@ pub(crate) fn all_unchanged(crawlers: &[Compared<'_>]) -> bool
     crawlers.iter().all(is_unchanged)
 }
 
-fn has_unchanged(crawlers: &[Compared<'_>]) -> bool
-    ensures { result ≡ list_any is_unchanged crawlers.now }
-{
-    crawlers.iter().any(is_unchanged)
+/// What becomes of verdicts in one reading, and what the crawler may fetch by each file.
+#[derive(Clone, Copy)]
+struct Change<'a> {
+    verdicts: &'a Verdicts,
+    older: Fetched<'a>,
+    newer: Fetched<'a>,
 }
 
-pub(crate) fn unchanged_words(crawlers: &[Compared<'_>]) -> &'static str
-    ensures { result.now ≡ unchanged_words crawlers.now }
-{
-    if has_unchanged(crawlers) {
-        ": same group, delay and rules as read here, so the same verdicts"
-    } else {
-        ""
+impl<'a> fmt::Display for Change<'a> {
+    fn fmt<W: fmt::Write>(&self, f: &mut fmt::Formatter<W>) -> fmt::Result {
+        let (older, newer) = (self.older, self.newer);
+        let example = match self.verdicts {
+            Verdicts::Same => return f.write_str("no URL's verdict changes"),
+            Verdicts::Undecided => {
+                return f.write_str("it isn't decided whether a URL's verdict changes");
+            }
+            Verdicts::Other(example) => example,
+        };
+        if older.0 == newer.0 {
+            f.write_str("verdicts change")?;
+        } else {
+            write!(f, "may fetch {older} -> {newer}")?;
+        }
+        let (old, new) = (Decided(example.older), Decided(example.newer));
+        let path = example.path.as_str();
+        write!(f, ", for example {path}: {old} -> {new}")
     }
 }
 
 /// An error for a crawler that loses everything, a warning for one that loses the home page, else a note.
-fn change_level(newer: Reach, example: &Example) -> Level {
-    match newer {
+fn level_of(change: &Change<'_>) -> Level {
+    let Verdicts::Other(example) = change.verdicts else {
+        return Level::Note;
+    };
+    match change.newer.0 {
         Reach::Nothing => Level::Error,
         _ if example.path.as_str() == "/" && example.older.allowed => Level::Warning,
         _ => Level::Note,
     }
 }
 
-fn without_example(is_same: bool) -> &'static str
-    ensures { result.now ≡ without_example is_same }
-{
-    if is_same {
-        "no URL's verdict changes"
-    } else {
-        "it isn't decided whether a URL's verdict changes"
-    }
-}
-
-/// What becomes of verdicts; if some change, with a path, and what the crawler may fetch if that is another.
-#[derive(Clone, Copy)]
-struct Change<'a> {
-    reach: Option<(Fetched<'a>, Fetched<'a>)>,
-    verdicts: &'a Verdicts,
-}
-
-impl<'a> fmt::Display for Change<'a> {
-    fn fmt<W: fmt::Write>(&self, f: &mut fmt::Formatter<W>) -> fmt::Result {
-        let Verdicts::Other(example) = self.verdicts else {
-            return f.write_str(without_example(is_same(self.verdicts)));
-        };
-        let (old, new) = (Decided(example.older), Decided(example.newer));
-        let path = example.path.as_str();
-        match self.reach {
-            Some((was, is)) => write!(f, "may fetch {was} -> {is}")?,
-            None => f.write_str("verdicts change")?,
+/// Both readings say the same of the verdicts, in the same direction, if they change.
+fn are_alike(one: &Change<'_>, other: &Change<'_>) -> bool {
+    match (one.verdicts, other.verdicts) {
+        (Verdicts::Other(first), Verdicts::Other(second)) => {
+            one.newer.0 == other.newer.0 && first.newer.allowed == second.newer.allowed
         }
-        write!(f, ", for example {path}: {old} -> {new}")
+        (Verdicts::Same, Verdicts::Same) | (Verdicts::Undecided, Verdicts::Undecided) => true,
+        _ => false,
     }
 }
 
-/// Adds what becomes of verdicts.
+/// What becomes of verdicts here, a remark on that, and what becomes of them in the other reading, if that
+/// isn't alike.
+#[derive(Clone, Copy)]
+struct InReadings<'a> {
+    here: Change<'a>,
+    remark: Vendors,
+    name: &'a str,
+    other: Option<Change<'a>>,
+}
+
+impl<'a> fmt::Display for InReadings<'a> {
+    fn fmt<W: fmt::Write>(&self, f: &mut fmt::Formatter<W>) -> fmt::Result {
+        let (here, remark, name) = (self.here, self.remark, self.name);
+        write!(f, "{here}{remark}")?;
+        match self.other {
+            Some(other) => write!(f, "; {name}: {other}"),
+            None => Ok(()),
+        }
+    }
+}
+
+/// What becomes of verdicts in the other reading, if it has other rules, and that isn't alike.
+fn other_change<'a>(
+    here: &Change<'a>,
+    verdicts: &'a Option<Verdicts>,
+    older: Fetched<'a>,
+    newer: Fetched<'a>,
+) -> Option<Change<'a>> {
+    let verdicts = verdicts.as_ref()?;
+    let other = Change {
+        verdicts,
+        older,
+        newer,
+    };
+    if are_alike(here, &other) {
+        return None;
+    }
+    Some(other)
+}
+
+/// What says more of the verdicts: the more serious one, or that with an example.
+fn weightier<'a>(here: Change<'a>, other: Change<'a>) -> Change<'a> {
+    let is_serious = !level_of(&here).reaches(level_of(&other));
+    match (here.verdicts, other.verdicts) {
+        _ if is_serious => other,
+        (Verdicts::Other(_), _) | (_, Verdicts::Same) => here,
+        _ => other,
+    }
+}
+
+/// Adds what becomes of the verdicts of a crawler, which a message says of it.
 fn add_change(
     alloc: Global,
     found: &mut Findings,
     agent: &str,
-    newer: Reach,
-    verdicts: &Verdicts,
+    said: &InReadings<'_>,
     message: Result<Line, fmt::Error>,
 ) -> fmt::Result {
-    let (level, line, url, name) = match verdicts {
+    let change = weightier(said.here, said.other.unwrap_or(said.here));
+    let (name, line, url) = match change.verdicts {
         Verdicts::Other(example) => {
-            let (level, path) = (change_level(newer, example), example.path.as_bytes());
-            (level, example.newer.line, Some(path), "verdicts")
+            let path = example.path.as_bytes();
+            ("verdicts", example.newer.line, Some(path))
         }
-        Verdicts::Same => (Level::Note, None, None, "same-verdicts"),
-        Verdicts::Undecided => (Level::Note, None, None, "undecided-verdicts"),
+        Verdicts::Same => ("same-verdicts", None, None),
+        Verdicts::Undecided => ("undecided-verdicts", None, None),
     };
-    let subject = Subject(line, Some(agent), url);
+    let (level, subject) = (level_of(&change), Subject(line, Some(agent), url));
     add(alloc, found, level, subject, name, message)
 }
 
@@ -283,20 +327,32 @@ fn name_at_vendor<'a>(audit: &AgentAudit<'a>, name: &'a str) -> &'a str {
     }
 }
 
-/// Adds what becomes of verdicts by the groups that the vendor of a crawler applies to it.
+/// Adds what becomes of verdicts by the groups that the vendor of a crawler applies to it. It isn't said what
+/// the crawler may fetch.
 fn add_at_vendor(alloc: Global, found: &mut Findings, compared: &Compared<'_>) -> fmt::Result {
     let Some(vendor) = &compared.vendor else {
         return Ok(());
     };
-    let (agent, reach, verdicts) = (compared.agent, None, &vendor.verdicts);
-    let change = Change { reach, verdicts };
+    let agent = compared.agent;
     let old = name_at_vendor(&compared.older, &vendor.older);
     let new = name_at_vendor(&compared.newer, &vendor.newer);
+    let some = Fetched(Reach::Part, &[]);
+    let here = Change {
+        verdicts: &vendor.verdicts.here,
+        older: some,
+        newer: some,
+    };
+    let said = InReadings {
+        here,
+        remark: NO_REMARK,
+        name: "in the other reading",
+        other: other_change(&here, &vendor.verdicts.standard, some, some),
+    };
     let message = message(
         alloc,
-        format_args!("crawler {agent}, whose vendor applies the group {old} -> {new}: {change}"),
+        format_args!("crawler {agent}, whose vendor applies the group {old} -> {new}: {said}"),
     );
-    add_change(alloc, found, agent, Reach::Part, verdicts, message)
+    add_change(alloc, found, agent, &said, message)
 }
 
 /// Adds what becomes of the verdicts of all URLs, if something differs for the crawler.
@@ -305,26 +361,36 @@ fn add_verdicts(alloc: Global, found: &mut Findings, compared: &Compared<'_>) ->
         return Ok(());
     }
     let (agent, older, newer) = (compared.agent, &compared.older, &compared.newer);
-    let reach = if older.reach == newer.reach {
-        None
-    } else {
-        let was = Fetched(older.reach, &older.allows);
-        Some((was, Fetched(newer.reach, &newer.allows)))
+    let here = Change {
+        verdicts: &compared.verdicts.here,
+        older: Fetched(older.reach, &older.allows),
+        newer: Fetched(newer.reach, &newer.allows),
     };
-    let (verdicts, vendors) = (&compared.verdicts, vendors_of(compared));
-    let change = Change { reach, verdicts };
-    let message = message(alloc, format_args!("crawler {agent}: {change}{vendors}"));
-    add_change(alloc, found, agent, newer.reach, verdicts, message)?;
+    let was = Fetched(older.standard.reach, &older.standard.allows);
+    let is = Fetched(newer.standard.reach, &newer.standard.allows);
+    let said = InReadings {
+        here,
+        remark: vendors_of(compared),
+        name: "by RFC 9309",
+        other: other_change(&here, &compared.verdicts.standard, was, is),
+    };
+    let message = message(alloc, format_args!("crawler {agent}: {said}"));
+    add_change(alloc, found, agent, &said, message)?;
     add_at_vendor(alloc, found, compared)
 }
 
+/// Adds that a file is rejected, here or else by RFC 9309.
 fn add_rejection(
     alloc: Global,
     found: &mut Findings,
     agent: &str,
     is_new: bool,
-    rejected: Option<usize>,
+    audit: &AgentAudit<'_>,
 ) -> fmt::Result {
+    let (front, rejected) = match audit.rejected {
+        Some(_) => ("", audit.rejected),
+        None => ("by RFC 9309, ", audit.standard.rejected),
+    };
     let Some(line) = rejected else {
         return Ok(());
     };
@@ -333,8 +399,12 @@ fn add_rejection(
     } else {
         ("old", "old-rejected", None)
     };
-    let reason = Rejected { agent, line };
-    let message = message(alloc, format_args!("the {version} file is {reason}"));
+    let reason = Rejected {
+        agent,
+        line,
+        is_standard: false,
+    };
+    let message = message(alloc, format_args!("{front}the {version} file is {reason}"));
     let subject = Subject(place, Some(agent), None);
     add(alloc, found, Level::Error, subject, name, message)
 }
@@ -349,8 +419,8 @@ fn add_section(
     let (agent, older, newer) = (compared.agent, &compared.older, &compared.newer);
     match section {
         Section::Rejections => {
-            add_rejection(alloc, found, agent, false, older.rejected)?;
-            add_rejection(alloc, found, agent, true, newer.rejected)
+            add_rejection(alloc, found, agent, false, older)?;
+            add_rejection(alloc, found, agent, true, newer)
         }
         _ if is_rejected(compared) => Ok(()),
         Section::Groups => add_group(alloc, found, compared),
@@ -360,7 +430,9 @@ fn add_section(
         }
         Section::Urls => {
             for change in &compared.changes {
-                add_url(alloc, found, compared, change)?;
+                if !(change.is_standard && compared.vendor.is_some()) {
+                    add_url(alloc, found, compared, change)?;
+                }
             }
             Ok(())
         }

@@ -1,7 +1,7 @@
 //! The report on a comparison: what differs, as findings, and as text.
 use crate::compare::{Comparison, Side};
 use crate::compared::Compared;
-use crate::differences::{Section, add_crawler, is_unchanged, unchanged_words};
+use crate::differences::{Section, add_crawler, is_unchanged};
 use audit_core::findings::{Findings, Subject, add, message};
 use safe_output::level::Level;
 use safe_output::report::{Report, Untrusted};
@@ -126,22 +126,22 @@ impl<'a, 'c> fmt::Display for Unchanged<'a, 'c> {
 
 /// Writes which crawlers are unchanged, if some are.
 fn write_unchanged(out: &mut Report, crawlers: &[Compared<'_>]) -> fmt::Result {
-    let words = unchanged_words(crawlers);
-    if words.is_empty() {
-        return Ok(());
-    }
     let number = crawlers
         .iter()
         .filter(|compared| is_unchanged(compared))
         .count();
     let (who, named) = match number {
+        0 => return Ok(()),
         _ if number > 1 && number == crawlers.len() => ("all compared crawlers", &crawlers[..0]),
         1 => ("crawler ", crawlers),
         2..=5 => ("crawlers ", crawlers),
         _ => ("other compared crawlers", &crawlers[..0]),
     };
     let names = Unchanged(named);
-    write!(out, "{who}{names}{words}")?;
+    write!(
+        out,
+        "{who}{names}: same group, delay and rules as read here, so the same verdicts"
+    )?;
     out.end_line()
 }
 

@@ -1,16 +1,17 @@
 //! What becomes of verdicts by the groups that the vendor of a crawler applies to it.
 ghost use Rattle.std.specs.Prelude.{◌≡◌, [], IfErr, IfOk};
-ghost use Rattle.texting_robots.specs.Callers.{lines_read};
-ghost use Rattle.robots_warnings.specs.Read.{IsRead};
-ghost use Rattle.audit_compare.specs.EveryUrl.{AreAtVendor, is_here, is_same_at_vendor, name_at_vendor};
-ghost use Rattle.audit_compare.specs.EveryUrl.{lines_of_group};
+ghost use Rattle.texting_robots.specs.Callers.{file_lines};
+ghost use Rattle.audit_core.specs.Standard.{AreReadings};
+ghost use Rattle.audit_compare.specs.EveryUrl.{AreAtVendor, AreInBoth, file_of_group, is_here};
+ghost use Rattle.audit_compare.specs.EveryUrl.{is_same_at_vendor, name_at_vendor, rules_in_both};
 
-use crate::every_url::{Verdicts, is_same, verdicts_for};
+use crate::every_url::{InBoth, is_same, standard_verdicts, verdicts_for};
 use audit_core::audit::Crawler;
 use audit_core::error::Error;
+use audit_core::readings::FileReadings;
 use robots_warnings::crawlers::other_group;
-use robots_warnings::read::FileRead;
 use std::alloc::Global;
+use texting_robots::Site;
 
 /// The group that the vendor of a crawler applies to it in each file, and what becomes of the verdicts.
 #[derive(Drop)]
@@ -18,25 +19,22 @@ pub struct VendorChange {
     /// The name of the group: the crawler's if it is the one that applies here, empty for none.
     pub older: String,
     pub newer: String,
-    pub verdicts: Verdicts,
+    pub verdicts: InBoth,
 }
 
 /// The vendor applies in both files the group that applies here.
-fn is_here(older: &FileRead<'_>, newer: &FileRead<'_>, agent: &str) -> bool
-    requires older { IsRead older.now }
-    requires newer { IsRead newer.now }
-    ensures { result ≡ is_here (lines_read older.now.bytes.now) (lines_read newer.now.bytes.now) agent.now }
+fn is_here(older: &Site, newer: &Site, agent: &str) -> bool
+    ensures { result ≡ is_here (file_lines older.now) (file_lines newer.now) agent.now }
 {
-    other_group(&older.site, agent).is_none() && other_group(&newer.site, agent).is_none()
+    other_group(older, agent).is_none() && other_group(newer, agent).is_none()
 }
 
-fn name_at_vendor<'a>(read: &'a FileRead<'a>, agent: &'a str) -> &'a str
-    requires { IsRead read.now }
-    ensures { result.now ≡ name_at_vendor (lines_read read.entry.now.bytes.now) agent.entry.now }
+fn name_at_vendor<'a>(site: &'a Site, agent: &'a str) -> &'a str
+    ensures { result.now ≡ name_at_vendor (file_lines site.entry.now) agent.entry.now }
 {
-    match other_group(&read.site, agent) {
+    match other_group(site, agent) {
         Some(name) => name,
-        None if read.site.has_agents() => agent,
+        None if site.has_agents() => agent,
         None => "",
     }
 }
@@ -44,48 +42,65 @@ fn name_at_vendor<'a>(read: &'a FileRead<'a>, agent: &'a str) -> &'a str
 /// The file, or if the name is empty, the empty one.
 fn file_of_group<'f>(
     name: &str,
-    read: &'f FileRead<'f>,
-    empty: &'f FileRead<'f>,
-) -> &'f FileRead<'f>
-    requires read { IsRead read.now }
-    requires empty { IsRead empty.now }
-    requires nothing { empty.now.bytes.now ≡ [] }
-    ensures read { IsRead result.now }
-    ensures lines { lines_read result.now.bytes.now
-        ≡ lines_of_group (lines_read read.entry.now.bytes.now) name.now }
+    file: &'f FileReadings<'f>,
+    empty: &'f FileReadings<'f>,
+) -> &'f FileReadings<'f>
+    requires file { AreReadings file.now.here.bytes.now file.now }
+    requires empty { AreReadings [] empty.now }
+    ensures file { AreReadings result.now.here.bytes.now result.now }
+    ensures bytes { result.now.here.bytes.now ≡ file_of_group file.entry.now.here.bytes.now name.now }
 {
-    if name.is_empty() { empty } else { read }
+    if name.is_empty() { empty } else { file }
+}
+
+/// What becomes of the verdicts of one name in the old file if those of the other in the new one apply.
+fn verdicts_in_both(
+    alloc: Global,
+    old_name: &str,
+    new_name: &str,
+    older: &FileReadings<'_>,
+    newer: &FileReadings<'_>,
+    budget: usize,
+) -> Result<InBoth, Error>
+    requires older { AreReadings older.now.here.bytes.now older.now }
+    requires newer { AreReadings newer.now.here.bytes.now newer.now }
+    ensures ok { IfOk result (AreInBoth (rules_in_both old_name.now older.now.here.bytes.now)
+        (rules_in_both new_name.now newer.now.here.bytes.now)) }
+    ensures error { IfErr result (λ error. error ≡ Error.Memory) }
+{
+    let old = Crawler::new(alloc, old_name, &older.here.site)?;
+    let new = Crawler::new(alloc, new_name, &newer.here.site)?;
+    Ok(InBoth {
+        here: verdicts_for(alloc, &old, &new, false, budget)?,
+        standard: standard_verdicts(alloc, &old, &new, older, newer, budget)?,
+    })
 }
 
 /// What changes at the vendor; `None` if it applies the groups that apply here.
 pub(crate) fn at_vendor(
     alloc: Global,
     agent: &str,
-    older: &FileRead<'_>,
-    newer: &FileRead<'_>,
+    older: &FileReadings<'_>,
+    newer: &FileReadings<'_>,
     budget: usize,
 ) -> Result<Option<VendorChange>, Error>
-    requires older { IsRead older.now }
-    requires newer { IsRead newer.now }
-    ensures ok { IfOk result (AreAtVendor (lines_read older.now.bytes.now) (lines_read newer.now.bytes.now)
-        agent.now) }
+    requires older { AreReadings older.now.here.bytes.now older.now }
+    requires newer { AreReadings newer.now.here.bytes.now newer.now }
+    ensures ok { IfOk result (AreAtVendor older.now.here.bytes.now newer.now.here.bytes.now agent.now) }
     ensures error { IfErr result (λ error. error ≡ Error.Memory) }
 {
-    if is_here(older, newer, agent) {
+    if is_here(&older.here.site, &newer.here.site, agent) {
         return Ok(None);
     }
-    let empty = FileRead::new(alloc, "*", b"")?;
-    let old_name = name_at_vendor(older, agent);
-    let new_name = name_at_vendor(newer, agent);
+    let empty = FileReadings::new(alloc, "*", b"")?;
+    let old_name = name_at_vendor(&older.here.site, agent);
+    let new_name = name_at_vendor(&newer.here.site, agent);
     let old_file = file_of_group(old_name, older, &empty);
     let new_file = file_of_group(new_name, newer, &empty);
-    let old = Crawler::new(alloc, old_name, old_file)?;
-    let new = Crawler::new(alloc, new_name, new_file)?;
-    let verdicts = verdicts_for(alloc, &old, &new, budget)?;
     Ok(Some(VendorChange {
         older: String::from_str(alloc, old_name)?,
         newer: String::from_str(alloc, new_name)?,
-        verdicts,
+        verdicts: verdicts_in_both(alloc, old_name, new_name, old_file, new_file, budget)?,
     }))
 }
 

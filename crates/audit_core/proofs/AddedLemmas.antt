@@ -174,23 +174,35 @@ module _ (agents urls : List (List ℕ)) (file : List ℕ) (labels : List Label)
   abbrev IsOverruling : ℕ → Type 0
   IsOverruling number = overrules_for_one (is_empty_at labels) agents (lines_read file) number ≡ true
 
+  pub found_more : {one two : List ℕ} {old new : List WarningValue}
+      → AreFoundFor agents urls file labels one old → AddsNeedless two old new
+      → AreFoundFor agents urls file labels (one ++ two) new
+  found_more {old} {new} found all = record {
+    are = rw all.appended (All-append (IsSo agents file labels) old all.added found.are
+        (All-weaker IsPlain (IsSo agents file labels) plain_so all.added all.plain));
+    in_lines = ap (flat_map needless_line) all.appended ∙ flat_map-append needless_line old all.added
+        ∙ ap₂ (λ front (back : List ℕ). front ++ back) found.in_lines all.in_lines;
+    told = λ k other below. rw all.appended (Contains-append_left old all.added _ (found.told k other below));
+    closed = each_stays is_closing_cause (ClosesToOne agents (lines_read file)) old new
+        (λ warning _ has. rw all.appended (Contains-append_left old all.added warning has)) found.closed;
+    overruling = each_stays is_empty_cause IsOverruling old new
+        (λ warning _ has. rw all.appended (Contains-append_left old all.added warning has)) found.overruling;
+  }
+
   pub all_found : {lines : List ℕ} {old new : List WarningValue} → All Says old
       → All (Contains old) (flat_map url_warnings urls)
       → HasClosed agents (lines_read file) old
       → HasOverruling (is_empty_at labels) agents (lines_read file) old
       → AddsNeedless lines old new → AreFoundFor agents urls file labels lines new
-  all_found {lines} {old} {new} are told closed overruling all = record {
-    are = rw all.appended (All-append (IsSo agents file labels) old all.added
-        (λ k other below _. are k other below)
-        (All-weaker IsPlain (IsSo agents file labels) plain_so all.added all.plain));
-    in_lines = ap (flat_map needless_line) all.appended ∙ flat_map-append needless_line old all.added
-        ∙ ap (λ front. front ++ flat_map needless_line all.added) (none_needless old are) ∙ all.in_lines;
-    told = λ k other below. rw all.appended (Contains-append_left old all.added _ (told k other below));
-    closed = each_stays is_closing_cause (ClosesToOne agents (lines_read file)) old new
-        (λ warning _ has. rw all.appended (Contains-append_left old all.added warning has)) closed;
-    overruling = each_stays is_empty_cause IsOverruling old new
-        (λ warning _ has. rw all.appended (Contains-append_left old all.added warning has)) overruling;
-  }
+  all_found {lines} {old} {new} are told closed overruling all =
+      let found : AreFoundFor agents urls file labels [] old = record {
+        are = λ k other below _. are k other below;
+        in_lines = none_needless old are;
+        told = told;
+        closed = closed;
+        overruling = overruling;
+      } in
+      found_more found all
 
   pub chosen_so : (only ignored : List (List ℕ)) (lines : List ℕ) (found new : List WarningValue)
       → AreFoundFor agents urls file labels lines found → new ≡ chosen only ignored found

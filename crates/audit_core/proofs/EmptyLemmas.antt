@@ -8,8 +8,8 @@ use Rattle.texting_robots.specs.{Statement.IsStatement, Internal.Line.line_of}
 use Rattle.texting_robots.specs.declared.parser.statement.Kind.{Kind, TheVariants.Disallow}
 use Rattle.texting_robots.specs.Internal.Statement.{kind_by, skip_blanks, statement_of}
 use Rattle.texting_robots.proofs.Shared.{statement_sound, line_raw, line_stated, statement_complete}
-use Rattle.robots_warnings.specs.Conflicts.{begins_with_d, is_empty_disallow}
 use Rattle.safe_output.specs.{Bytes.trim_blanks_start}
+use Rattle.rfc9309.specs.EmptyDisallow.{begins_with_d, is_empty_disallow}
 
 abbrev is_disallow : Option Kind → Bool
 is_disallow (Some Disallow) = true

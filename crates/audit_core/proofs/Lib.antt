@@ -2,4 +2,3 @@ pub mod AuditLemmas
 pub mod AddedLemmas
 pub mod EmptyLemmas
 pub mod ReachLemmas
-pub mod TogetherLemmas

@@ -1,7 +1,7 @@
 pub mod Request
 pub mod Answer
-pub mod Texts
 pub mod Reach
+pub mod Standard
 pub mod Error
 pub mod Target
 pub mod Audit

@@ -1,10 +1,12 @@
-//! The crawlers that a report covers: those that were requested, or `*` and each that the file names.
+//! The crawlers that a report covers: those that were requested, or `*` and each that the file
+//! names, if a crawler can have the name.
 ghost use Rattle.std.specs.Prelude.{◌≡◌, ◌++◌, ◌∷◌, [], IfOk, OnOk, if◌then◌else◌, map};
 ghost use Rattle.texting_robots.specs.Callers.{UserAgent, by_value, label_by_value};
 ghost use Rattle.audit_core.specs.Audit.{agents_requested, crawlers_in, with_names};
 ghost use Rattle.robots_warnings.specs.File.{lines_of};
 ghost use Rattle.audit_core.specs.Internal.Agents.{AddsAgent};
 
+use crate::crawler::is_crawler_name;
 use robots_warnings::names::{Names, add_name};
 use safe_output::bytes::as_text;
 use std::alloc::{AllocError, Global};
@@ -22,7 +24,8 @@ fn add_if<'a>(names: &mut Vec<&'a str>, holds: bool, name: &'a str) -> Result<()
     Ok(())
 }
 
-/// Appends the name of a user-agent line, if it is UTF-8 and not in `met` yet, and inserts it into `met`.
+/// Appends the name of a user-agent line, if a crawler can have it and it isn't in `met` yet, and inserts it
+/// into `met`.
 fn add_agent<'a>(
     alloc: Global,
     met: &mut Names,
@@ -36,8 +39,8 @@ fn add_agent<'a>(
         return Ok(());
     };
     match as_text(value) {
-        Some(name) => add_if(names, add_name(alloc, met, value)?, name),
-        None => Ok(()),
+        Some(name) if is_crawler_name(name) => add_if(names, add_name(alloc, met, value)?, name),
+        _ => Ok(()),
     }
 }
 

@@ -3,9 +3,9 @@ ghost use Rattle.std.specs.Prelude.{◌≡◌};
 ghost use Rattle.audit_core.specs.Error.{status_after};
 
 use crate::answer::Outcome;
+use rfc9309::target::begins_as_url;
 use robots_warnings::crawlers::{is_near, row_at};
 use robots_warnings::table::{Cause, causes};
-use robots_warnings::urls::begins_as_url;
 use safe_output::bytes::{before_byte, has};
 use safe_output::report::{Named, Report};
 use safe_output::streams::{ReadError, WriteError};
@@ -26,6 +26,9 @@ pub enum Flaw {
     Agent,
     /// No crawler has this name; the known crawler with this index is probably meant.
     Meant(usize),
+    /// Neither a known crawler nor a group of the file has this name; the known one with this index may be
+    /// meant.
+    Near(usize),
     /// The text is neither a path nor an http(s) URL that can be parsed.
     Url,
     /// The text is no path or URL, but may be the name of a crawler.
@@ -149,7 +152,7 @@ impl From<WriteError> for Error {
 fn write_flaw(out: &mut Report, flaw: Flaw) -> fmt::Result {
     out.write_str(flaw_text(flaw))?;
     match flaw {
-        Flaw::Meant(crawler) => match row_at(crawler).0 {
+        Flaw::Meant(crawler) | Flaw::Near(crawler) => match row_at(crawler).0 {
             "*" => out.write_str(
                 "any, for every crawler, or *, for those without a group of their own?",
             ),
@@ -162,6 +165,7 @@ fn write_flaw(out: &mut Report, flaw: Flaw) -> fmt::Result {
 fn flaw_text(flaw: Flaw) -> &'static str {
     match flaw {
         Flaw::Meant(_) => "no crawler has this name; did you mean ",
+        Flaw::Near(_) => "no known crawler and no group of the file has this name; did you mean ",
         Flaw::Form =>
             "write \"allow AGENT URL\" or \"deny AGENT URL\", or for a pattern allow-all or deny-all",
         Flaw::Pattern =>

@@ -1,8 +1,9 @@
 //! What an audit found, as one list, for formats that don't distinguish verdicts and warnings.
 ghost use Rattle.std.specs.Prelude.{◌<◌, OnOk, length};
 
-use crate::audit::{AgentAudit, Audit};
-use crate::texts::Rejected;
+use crate::audit::{AgentAudit, Audit, Verdict};
+use crate::syntax::other_readers;
+use crate::texts::{other_decision, other_reader, rejection_of};
 use crate::together::{Message, Together, is_shown, needless_lines};
 use robots_warnings::warning::Warning;
 use safe_output::level::Level;
@@ -70,27 +71,39 @@ pub fn add(
     }
 }
 
+/// Adds the URL if one of the readings denies it; the other one is that of `by`.
+fn add_verdict(
+    alloc: Global,
+    found: &mut Findings,
+    name: &str,
+    by: &str,
+    verdict: &Verdict<'_>,
+) -> fmt::Result {
+    let (url, here) = (verdict.url, verdict.decision);
+    let (line, front, reader, end) = match other_decision(verdict) {
+        None if here.allowed => return Ok(()),
+        None => (here.line, "", "", ""),
+        Some(other) if other.allowed => (here.line, ", but may by ", by, ""),
+        Some(other) => (other.line, " by ", by, ", but may here"),
+    };
+    let message = message(
+        alloc,
+        format_args!("{name} may not fetch {url}{front}{reader}{end}"),
+    );
+    let subject = Subject(line, Some(name), Some(url.as_bytes()));
+    add(alloc, found, Level::Error, subject, "denied", message)
+}
+
 /// Why the file is rejected for the crawler, and the denied URLs.
-fn add_agent(alloc: Global, found: &mut Findings, agent: &AgentAudit<'_>) -> fmt::Result {
-    let (name, vendor) = (agent.agent, agent.vendor);
-    if let Some(line) = agent.rejected {
-        let message = message(alloc, Rejected { agent: name, line });
-        add(
-            alloc,
-            found,
-            Level::Error,
-            Subject(agent.rejected, Some(name), None),
-            "rejected",
-            message,
-        )?;
+fn add_agent(alloc: Global, found: &mut Findings, by: &str, audit: &AgentAudit<'_>) -> fmt::Result {
+    let (name, by) = (audit.agent, other_reader(by, audit));
+    if let Some(rejected) = rejection_of(audit) {
+        let subject = Subject(Some(rejected.line), Some(name), None);
+        let message = message(alloc, rejected);
+        add(alloc, found, Level::Error, subject, "rejected", message)?;
     }
-    for verdict in &agent.verdicts {
-        let (line, url) = (verdict.decision.line, verdict.url);
-        let subject = Subject(line, Some(name), Some(url.as_bytes()));
-        if !verdict.decision.allowed {
-            let message = message(alloc, format_args!("{name} may not fetch {url}{vendor}"));
-            add(alloc, found, Level::Error, subject, "denied", message)?;
-        }
+    for verdict in &audit.verdicts {
+        add_verdict(alloc, found, name, by, verdict)?;
     }
     Ok(())
 }
@@ -139,8 +152,9 @@ pub fn findings_of(alloc: Global, audit: &Audit<'_>, is_one: bool) -> Result<Fin
     };
     let mut found = Vec::new(alloc);
     add_warnings(alloc, &mut found, true, together, &audit.warnings)?;
+    let by = other_readers(&audit.labels);
     for agent in &audit.agents {
-        add_agent(alloc, &mut found, agent)?;
+        add_agent(alloc, &mut found, by, agent)?;
     }
     add_warnings(alloc, &mut found, false, together, &audit.warnings)?;
     Ok(found)

@@ -2,11 +2,13 @@
 ghost use Rattle.std.specs.Prelude.{◌≡◌, IfOk, map};
 ghost use Rattle.std.specs.Str.{str_to_ascii_lowercase};
 ghost use Rattle.texting_robots.specs.Callers.{by_value, file_lines, is_agent_named, label_by_value};
-ghost use Rattle.robots_warnings.specs.File.{lines_of};
+ghost use Rattle.robots_warnings.specs.{File.lines_of, Read.IsRead};
 ghost use Rattle.robots_warnings.specs.{Crawlers.other_group, Internal.row_value};
 ghost use Rattle.audit_core.specs.Audit.{at_vendor, group_of, ignored_by, ignoring_among, naming_line};
 
 use robots_warnings::crawlers::{Crawler, crawlers, ignores_star, other_group};
+use robots_warnings::read::FileRead;
+use safe_output::bytes::as_text;
 use std::alloc::{AllocError, Global};
 use texting_robots::Site;
 use texting_robots::labels::LabeledLine;
@@ -111,4 +113,25 @@ pub(crate) fn naming_line(agent: &str, site: &Site, labels: &[LabeledLine<'_>]) 
         }
     }
     None
+}
+
+fn name_in<'a>(labels: &[LabeledLine<'a>], line: Option<usize>) -> Option<&'a str> {
+    match labels.get(line?.saturating_sub(1))?.line {
+        Line::UserAgent(value) => as_text(value),
+        _ => None,
+    }
+}
+
+/// The name for which the file is read for this crawler: its own, or that of the group that its vendor
+/// applies to it.
+pub(crate) fn name_asked<'a>(agent: &'a str, read: &FileRead<'a>) -> &'a str
+    requires { IsRead read.now }
+{
+    match other_group(&read.site, agent) {
+        Some(group) if !group.is_empty() => {
+            let line = naming_line(group, &read.site, &read.labels);
+            name_in(&read.labels, line).unwrap_or(agent)
+        }
+        _ => agent,
+    }
 }

@@ -1,9 +1,11 @@
 //! Warnings about rules that can be deleted, which `robots_rules` finds.
-ghost use Rattle.std.specs.Prelude.{◌≡◌, ◌∷◌, [], IfOk, OnOk, false, true};
+ghost use Rattle.std.specs.Prelude.{◌≡◌, ◌≢◌, ◌∷◌, [], IfOk, OnOk, false, true};
+ghost use Rattle.texting_robots.specs.Callers.{file_lines};
 ghost use Rattle.robots_rules.specs.Blocks.{AreFoundIn};
-ghost use Rattle.robots_rules.specs.Needless.{nothing, numbers_of};
+ghost use Rattle.robots_rules.specs.Needless.{AreDeletable, nothing, numbers_of};
 ghost use Rattle.audit_core.specs.{Internal.AddsNeedless, Together.is_needless};
 
+use rfc9309::site::StandardSite;
 use robots_rules::lines::{Needless, needless_lines, nothing};
 use robots_rules::needless::{NeedlessRule, Reason};
 use robots_warnings::table::Cause;
@@ -67,20 +69,23 @@ pub(crate) fn add_needless(
     add_undecided(found, &needless.undecided)
 }
 
-/// The needless rules. None if they aren't looked for, or if not the whole file is read, since deleting lines
-/// would let more of it be read.
+/// The needless rules in both readings of a file. None if they aren't looked for, or if not the whole file is
+/// read, since deleting lines would let more of it be read.
 pub(crate) fn needless_rules(
     alloc: Global,
     is_requested: bool,
     is_too_large: bool,
     site: &Site,
+    standard: &StandardSite,
 ) -> Result<Needless, AllocError>
     ensures found { IfOk result (λ found. AreFoundIn site.now found.rules) }
+    ensures standard { IfOk result (λ found. found.rules ≢ []
+        → AreDeletable (numbers_of found.rules) (file_lines standard.now)) }
     ensures unrequested { IfOk result (λ found. is_requested ≡ false → found ≡ nothing) }
     ensures too_large { IfOk result (λ found. is_too_large ≡ true → found ≡ nothing) }
 {
     if is_requested && !is_too_large {
-        needless_lines(alloc, site)
+        needless_lines(alloc, site, standard.text_site())
     } else {
         Ok(nothing(alloc))
     }

@@ -1,9 +1,11 @@
 //! What a crawler may fetch.
-ghost use Rattle.std.specs.Prelude.{◌≡◌, [], Contains, IfOk, filter, map, true};
+ghost use Rattle.std.specs.Prelude.{◌≡◌, ◌⊎◌, [], Contains, IfOk, filter, map, true};
 ghost use Rattle.std.specs.List.{list_all};
 ghost use Rattle.texting_robots.specs.Callers.{PlacedRule};
 ghost use Rattle.audit_core.specs.Reach.{IsReach, is_allow, is_closing, is_long_allow, plain_rules};
 
+use crate::audit::{Crawler, Reading};
+use crate::group::AtVendor;
 use robots_rules::compare::{Comparison, compare};
 use robots_rules::rule::Rule;
 use robots_warnings::site_patterns::is_whole_site;
@@ -143,7 +145,7 @@ fn whole_reach(
 
 /// What the rules allow; if that is listed, with the lines of the Allows. The robot has the same rules. The
 /// budget bounds how long they are compared.
-pub(crate) fn reach_of(
+fn reach_of(
     alloc: Global,
     robot: &Robot,
     rules: &[Rule],
@@ -163,5 +165,23 @@ pub(crate) fn reach_of(
     match whole_reach(alloc, is_open, rules, budget)? {
         Reach::Part => Ok((reach, lines)),
         whole => Ok((whole, Vec::new(alloc))),
+    }
+}
+
+/// What the crawler may fetch. It is `Part` if its vendor applies another group, or the file is rejected.
+pub(crate) fn reach_for(
+    alloc: Global,
+    vendor: AtVendor,
+    crawler: &Crawler<'_>,
+    budget: usize,
+) -> Result<(Reach, Vec<usize>), AllocError>
+    ensures reach { IfOk result (λ found. IsReach crawler.now.rules.items found.0 found.1.items) }
+    ensures own { IfOk result (λ found. (vendor ≡ AtVendor.Same) ⊎ (found.0 ≡ Reach.Part)) }
+{
+    match &crawler.reading {
+        Reading::Accepted(robot) if vendor == AtVendor::Same => {
+            reach_of(alloc, robot, &crawler.rules, budget)
+        }
+        _ => Ok((Reach::Part, Vec::new(alloc))),
     }
 }

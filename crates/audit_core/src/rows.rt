@@ -1,8 +1,8 @@
 //! The rows of a report: one for each line of the file.
 
 use itoa::Buffer;
+use rfc9309::text::is_empty_disallow;
 use robots_warnings::contents::split_content;
-use robots_warnings::empty_disallows::is_empty_disallow;
 use robots_warnings::file::is_blank;
 use safe_output::delay::Delay;
 use safe_output::report::{Report, Untrusted};

@@ -4,7 +4,7 @@ ghost use Rattle.texting_robots.specs.Callers.{by_value, label_by_value, sitemap
 ghost use Rattle.robots_warnings.specs.{File.lines_of};
 ghost use Rattle.audit_core.specs.Internal.{AddsNeedless};
 
-use crate::audit::{Reading, Verdict};
+use crate::audit::{Reading, reading_for};
 use crate::error::Error;
 use crate::target::decision_on;
 use robots_warnings::closed::is_closed;
@@ -17,6 +17,7 @@ use std::alloc::{AllocError, Global};
 use texting_robots::Robot;
 use texting_robots::labels::LabeledLine;
 use texting_robots::parser::Line;
+use texting_robots::robot::Decision;
 
 fn add_sitemap<'a>(sitemaps: &mut Vec<&'a [u8]>, line: Line<'a>) -> Result<(), AllocError>
     ensures { OnOk result (map (λ sitemap. sitemap.now) sitemaps.new.items
@@ -62,20 +63,17 @@ fn asked_about<'a>(alloc: Global, line: Line<'a>) -> Result<Option<&'a str>, All
 }
 
 #[tactic(auto, using(crate::proofs::AddedLemmas::none_added))]
-fn warn_of_verdict(
+fn warn_of_decision(
     found: &mut Vec<Warning<'_>>,
     number: usize,
-    verdict: &Verdict<'_>,
+    decision: Decision,
 ) -> Result<(), AllocError>
     ensures { OnOk result (AddsNeedless [] found.old.items found.new.items) }
 {
-    if verdict.decision.allowed {
+    if decision.allowed {
         return Ok(());
     }
-    let detail = match verdict.decision.line {
-        Some(line) => Some(Detail::Line(line)),
-        None => None,
-    };
+    let detail = decision.line.map(|line| Detail::Line(line));
     Ok(found.push(Warning {
         line: Some(number),
         cause: Cause::SitemapDenied,
@@ -98,8 +96,7 @@ fn warn_of_sitemap(
         return Ok(());
     };
     let decision = decision_on(alloc, robot, url)?;
-    let verdict = Verdict { url, decision };
-    Ok(warn_of_verdict(found, labeled.number, &verdict)?)
+    Ok(warn_of_decision(found, labeled.number, decision)?)
 }
 
 fn warn_of_each(
@@ -117,22 +114,34 @@ fn warn_of_each(
     Ok(())
 }
 
+/// The robot for `*`, if the file lists sitemaps, isn't rejected, and doesn't close the whole site to `*`.
+fn robot_for_sitemaps(alloc: Global, read: &FileRead<'_>) -> Result<Option<Robot>, Error>
+    ensures error { IfErr result (λ error. error ≡ Error.Memory) }
+{
+    let has_sitemap = read
+        .labels
+        .iter()
+        .any(|labeled| matches!(labeled.line, Line::Sitemap(_)));
+    if !has_sitemap || is_closed(alloc, &read.site, "*")? {
+        return Ok(None);
+    }
+    match reading_for(alloc, "*", &read.site)? {
+        Reading::Accepted(robot) => Ok(Some(robot)),
+        Reading::Rejected(_) => Ok(None),
+    }
+}
+
 /// Appends the warnings about the sitemaps that the rules for `*` deny, unless these close the whole site.
-/// `star` is how the file is read for `*`.
 pub(crate) fn warn_of_sitemaps(
     alloc: Global,
     found: &mut Vec<Warning<'_>>,
-    star: &Reading,
     read: &FileRead<'_>,
 ) -> Result<(), Error>
     ensures ok { OnOk result (AddsNeedless [] found.old.items found.new.items) }
     ensures error { IfErr result (λ error. error ≡ Error.Memory) }
 {
-    let Reading::Accepted(robot) = star else {
+    let Some(robot) = robot_for_sitemaps(alloc, read)? else {
         return Ok(());
     };
-    if is_closed(alloc, &read.site, "*")? {
-        return Ok(());
-    }
-    Ok(warn_of_each(alloc, found, robot, &read.labels)?)
+    warn_of_each(alloc, found, &robot, &read.labels)
 }

@@ -1,11 +1,13 @@
 //! URLs and paths of a request, a list or an expectation, as crawlers ask for them.
 ghost use Rattle.std.specs.Prelude.{◌≡◌, IfErr, IfOk, string_bytes};
 ghost use Rattle.texting_robots.specs.Decision.{IsDecisionOn};
+ghost use Rattle.rfc9309.specs.{Matching.all_stay, Matching.normal_uri, StandardTarget.written_target};
 ghost use Rattle.audit_core.specs.Target.{asked_target};
 
 use crate::error::Error;
+use rfc9309::target::StandardTarget;
 use robots_warnings::targets;
-use std::alloc::Global;
+use std::alloc::{AllocError, Global};
 use texting_robots::Robot;
 use texting_robots::robot::Decision;
 
@@ -24,4 +26,13 @@ pub fn decision_on(alloc: Global, robot: &Robot, url: &str) -> Result<Decision, 
 {
     let target = asked_target(alloc, url)?;
     Ok(robot.decide_prepared(&target))
+}
+
+/// The decision on the URL as RFC 9309 compares it.
+pub fn standard_decision_on(alloc: Global, robot: &Robot, url: &str) -> Result<Decision, AllocError>
+    ensures { IfOk result
+        (IsDecisionOn robot.now.rules (normal_uri all_stay (written_target url.now))) }
+{
+    let target = StandardTarget::new(alloc, url)?;
+    Ok(robot.decide_prepared(target.as_str()))
 }

@@ -1,22 +1,20 @@
 //! Texts that several reports share: a delay, which group applies to a crawler, and that the file is
 //! rejected.
-ghost use Rattle.std.specs.Prelude.{◌≡◌, option_map};
-ghost use Rattle.audit_core.specs.Texts.{may_fetch, reach_word};
 
-use crate::audit::AgentAudit;
+use crate::audit::{AgentAudit, Verdict};
 use crate::group::{AtVendor, Group};
 use crate::reach::Reach;
+use crate::standard::Alike;
 use robots_warnings::crawlers::is_wrong;
 use robots_warnings::positions::is_ignored;
+use safe_output::bytes::first;
 use safe_output::delay::Delay;
-use safe_output::report::Report;
 use std::fmt;
 use std::fmt::Write;
 use texting_robots::parser::Line;
+use texting_robots::robot::Decision;
 
-fn reach_word(reach: Reach) -> &'static str
-    ensures { result.now ≡ reach_word reach }
-{
+fn reach_word(reach: Reach) -> &'static str {
     match reach {
         Reach::Everything => "everything",
         Reach::Nothing => "nothing",
@@ -25,14 +23,11 @@ fn reach_word(reach: Reach) -> &'static str
     }
 }
 
-/// What the crawler may fetch, in a word; `None` if the file is rejected for it or its vendor applies another
-/// group.
-pub fn may_fetch(rejected: Option<usize>, vendor: AtVendor, reach: Reach) -> Option<&'static str>
-    ensures { option_map (λ word. word.now) result ≡ may_fetch rejected vendor reach }
-{
-    match (rejected, vendor) {
-        (None, AtVendor::Same) => Some(reach_word(reach)),
-        _ => None,
+/// What the crawler may fetch, in a word; `None` if the file is rejected for it.
+pub fn may_fetch(rejected: Option<usize>, reach: Reach) -> Option<&'static str> {
+    match rejected {
+        None => Some(reach_word(reach)),
+        Some(_) => None,
     }
 }
 
@@ -71,10 +66,6 @@ impl<'a> fmt::Display for Lines<'a> {
 pub struct Fetched<'a>(pub Reach, pub &'a [usize]);
 
 impl<'a> fmt::Display for Fetched<'a> {
-    ghost use Rattle.audit_core.specs.Texts.{all_or_nothing};
-
-    ghost output = { λ fetched. all_or_nothing fetched.0 };
-
     fn fmt<W: fmt::Write>(&self, f: &mut fmt::Formatter<W>) -> fmt::Result {
         match self.0 {
             Reach::Everything | Reach::Nothing => f.write_str(reach_word(self.0)),
@@ -86,6 +77,27 @@ impl<'a> fmt::Display for Fetched<'a> {
             Reach::Part => f.write_str("some"),
         }
     }
+}
+
+/// What the crawler may fetch by RFC 9309, if both readings are known not to be alike, and this isn't what it
+/// may fetch here.
+pub fn standard_fetched<'a>(audit: &'a AgentAudit<'_>) -> Option<Fetched<'a>> {
+    let standard = &audit.standard;
+    let is_same = audit.rejected.is_none()
+        && audit.reach == standard.reach
+        && audit.allows.as_slice() == standard.allows.as_slice();
+    if is_same || standard.alike == Alike::Yes || standard.rejected.is_some() {
+        None
+    } else {
+        Some(Fetched(standard.reach, &standard.allows))
+    }
+}
+
+/// RFC 9309's decision on the URL, if its verdict is another one.
+pub fn other_decision(verdict: &Verdict<'_>) -> Option<Decision> {
+    verdict
+        .standard
+        .filter(|decision| decision.allowed != verdict.decision.allowed)
 }
 
 /// A delay, or `none`.
@@ -125,7 +137,7 @@ impl<'a, 'b> fmt::Display for Delayed<'a, 'b> {
     }
 }
 
-/// If a crawler's vendor applies another group than the one that is reported, the end of what is said of it.
+/// If a crawler's vendor applies another group than the one that is compared, the end of what is said of it.
 impl fmt::Display for AtVendor {
     fn fmt<W: fmt::Write>(&self, f: &mut fmt::Formatter<W>) -> fmt::Result {
         match *self {
@@ -143,22 +155,48 @@ impl fmt::Display for AtVendor {
     }
 }
 
-/// The end of what is said of a crawler, if it doesn't obey the group that is reported, or if others don't
-/// obey the group of `*`, which denies something.
+fn begins_with(agent: &str, front: &[u8]) -> bool {
+    first(front.len(), agent.as_bytes()).eq_ignore_ascii_case(front)
+}
+
+/// The vendor of a known crawler that gets another group than the one with its name.
+pub fn vendor_of(agent: &str) -> &'static str {
+    if agent.contains("Google") || agent.contains("google") {
+        "Google"
+    } else if begins_with(agent, b"Yandex") {
+        "Yandex"
+    } else if begins_with(agent, b"Applebot") {
+        "Apple"
+    } else {
+        "its vendor"
+    }
+}
+
+/// Who reads the file otherwise for this crawler: `others`, or its vendor, if that applies another group to
+/// it.
+pub fn other_reader<'a>(others: &'a str, audit: &AgentAudit<'_>) -> &'a str {
+    if audit.vendor == AtVendor::OtherGroup {
+        vendor_of(audit.agent)
+    } else {
+        others
+    }
+}
+
+/// The end of what is said of `*`, if some crawlers don't obey its group, which denies something.
 #[derive(Clone, Copy)]
 pub struct Elsewhere<'a, 'b>(pub &'a AgentAudit<'b>);
 
 impl<'a, 'b> fmt::Display for Elsewhere<'a, 'b> {
     fn fmt<W: fmt::Write>(&self, f: &mut fmt::Formatter<W>) -> fmt::Result {
         let audit = self.0;
-        let (vendor, names) = (audit.vendor, Several(&audit.ignored_by));
+        let names = Several(&audit.ignored_by);
         if audit.reach != Reach::Everything && !audit.ignored_by.is_empty() {
             write!(
                 f,
                 "; but crawlers that obey only a group with their own name may fetch all: {names}"
             )?;
         }
-        write!(f, "{vendor}")
+        Ok(())
     }
 }
 
@@ -169,15 +207,23 @@ pub struct Applied<'a, 'b>(pub &'a AgentAudit<'b>);
 impl<'a, 'b> fmt::Display for Applied<'a, 'b> {
     fn fmt<W: fmt::Write>(&self, f: &mut fmt::Formatter<W>) -> fmt::Result {
         let audit = self.0;
-        let agent = audit.agent;
+        let (agent, asked) = (audit.agent, audit.asked);
+        if audit.vendor == AtVendor::OtherGroup {
+            let vendor = vendor_of(agent);
+            return write!(f, "{asked} ({vendor} applies it to {agent})");
+        }
         match audit.group {
             Group::Named => f.write_str(agent),
             Group::Star if is_wrong(agent.as_bytes()) => {
                 write!(f, "* (no crawler has the name {agent})")
             }
             Group::Star => write!(f, "* ({agent} has no group of its own)"),
-            Group::Nobody if audit.vendor == AtVendor::OtherGroup => {
-                write!(f, "none (no group for {agent} or *)")
+            Group::Nobody if audit.vendor == AtVendor::NoGroup => {
+                write!(
+                    f,
+                    "none ({agent} ignores the group *, and obeys only one with its own name; everything is \
+                    allowed)"
+                )
             }
             Group::Nobody if agent == "*" => {
                 f.write_str("none (no group for *; everything is allowed)")
@@ -190,30 +236,36 @@ impl<'a, 'b> fmt::Display for Applied<'a, 'b> {
     }
 }
 
-/// Says that the file is rejected for a crawler because of this line.
+/// Says that the file is rejected for a crawler because of this line, or that RFC 9309 has no verdict because
+/// of it.
 #[derive(Clone, Copy)]
 pub struct Rejected<'a> {
     pub agent: &'a str,
     pub line: usize,
+    pub is_standard: bool,
 }
 
 impl<'a> fmt::Display for Rejected<'a> {
     fn fmt<W: fmt::Write>(&self, f: &mut fmt::Formatter<W>) -> fmt::Result {
         let (agent, line) = (self.agent, self.line);
+        let (front, form) = if self.is_standard {
+            ("no verdict by RFC 9309", " in normal form")
+        } else {
+            ("rejected", "")
+        };
         write!(
             f,
-            "rejected for {agent}: line {line}: a pattern with $ longer than 4,096 bytes isn't supported; \
-            shorten it"
+            "{front} for {agent}: line {line}: a pattern with $ longer than 4,096 bytes{form} isn't \
+            supported; shorten it"
         )
     }
 }
 
-/// Writes a line that says that the file is rejected, if it is.
-pub fn write_rejected(out: &mut Report, agent: &str, rejected: Option<usize>) -> fmt::Result {
-    let Some(line) = rejected else {
-        return Ok(());
-    };
-    let rejected = Rejected { agent, line };
-    write!(out, "{rejected}")?;
-    out.end_line()
+/// Why the file is rejected for the crawler, in one of the readings or in both.
+pub fn rejection_of<'a>(audit: &AgentAudit<'a>) -> Option<Rejected<'a>> {
+    Some(Rejected {
+        agent: audit.agent,
+        line: audit.rejected.or(audit.standard.rejected)?,
+        is_standard: audit.rejected.is_none(),
+    })
 }

@@ -1,6 +1,6 @@
 //! Needless rules can be deleted, but only all together: their lines as ranges, which a message names.
-ghost use Rattle.std.specs.Prelude.{◌≡◌, ◌++◌, ◌∷◌, [], flat_map, IfOk, MatchOption, OnOk, ⊤};
-ghost use Rattle.audit_core.specs.Together.{is_needless, lines_in, lines_of, needless_line};
+ghost use Rattle.std.specs.Prelude.{◌≡◌};
+ghost use Rattle.audit_core.specs.Together.{is_needless};
 
 use robots_warnings::table::Cause;
 use robots_warnings::warning::Warning;
@@ -15,10 +15,7 @@ pub struct Range {
 }
 
 /// The range with this line, if that is the next one.
-#[tactic(auto, using(crate::proofs::TogetherLemmas::line_added))]
-fn extended(range: Range, line: usize) -> Option<Range>
-    ensures { MatchOption result ⊤ (λ longer. lines_of longer ≡ lines_of range ++ line ∷ []) }
-{
+fn extended(range: Range, line: usize) -> Option<Range> {
     if line > range.first && line - range.first - 1 == range.more {
         let (first, more) = (range.first, line - range.first);
         return Some(Range { first, more });
@@ -27,10 +24,7 @@ fn extended(range: Range, line: usize) -> Option<Range>
 }
 
 /// The line is in the last range, if it follows on its last line.
-#[tactic(auto, using(crate::proofs::TogetherLemmas::one_more_range))]
-fn add_line(ranges: &mut Vec<Range>, line: usize) -> Result<(), AllocError>
-    ensures { OnOk result (lines_in ranges.new.items ≡ lines_in ranges.old.items ++ line ∷ []) }
-{
+fn add_line(ranges: &mut Vec<Range>, line: usize) -> Result<(), AllocError> {
     if let Some(last) = ranges.pop() {
         if let Some(longer) = extended(last, line) {
             return Ok(ranges.push(longer)?);
@@ -52,23 +46,14 @@ fn is_needless(cause: Cause) -> bool
     )
 }
 
-fn add_needless_line(ranges: &mut Vec<Range>, warning: &Warning<'_>) -> Result<(), AllocError>
-    ensures { OnOk result (lines_in ranges.new.items
-        ≡ lines_in ranges.old.items ++ needless_line warning.now) }
-{
-    match warning.line {
-        Some(line) if is_needless(warning.cause) => add_line(ranges, line),
-        _ => Ok(()),
-    }
-}
-
 /// The lines of needless rules, in the order of the warnings.
-pub fn needless_lines(alloc: Global, warnings: &[Warning<'_>]) -> Result<Vec<Range>, AllocError>
-    ensures { IfOk result (λ ranges. lines_in ranges.items ≡ flat_map needless_line warnings.now) }
-{
+pub fn needless_lines(alloc: Global, warnings: &[Warning<'_>]) -> Result<Vec<Range>, AllocError> {
     let mut ranges = Vec::new(alloc);
     for warning in warnings {
-        add_needless_line(&mut ranges, warning)?;
+        match warning.line {
+            Some(line) if is_needless(warning.cause) => add_line(&mut ranges, line)?,
+            _ => {}
+        }
     }
     Ok(ranges)
 }

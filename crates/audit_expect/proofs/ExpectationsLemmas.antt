@@ -1,23 +1,20 @@
 -- Expectations: how they are found and checked.
-use Rattle.std.proofs.Common.{◌≡◌, ◌≢◌, ℕ, ◌==◌, Bool, true, false, List, [], ◌∷◌, Option, Some, None, arith}
+use Rattle.std.proofs.Common.{◌≡◌, ℕ, ◌==◌, Bool, true, false, List, [], ◌∷◌, Option, Some, None, arith}
 use Rattle.std.proofs.Common.{◌∙◌, ap, length, map, not, refl, subst, sym, take}
 use Rattle.std.specs.{Borrow.Bor, Prelude.filter}
 use Rattle.std.proofs.lemmas.Bool.{false≢true, not-false, or_parts}
 use Rattle.std.proofs.lemmas.Bool.Decides.{nat_tests}
-use Rattle.texting_robots.specs.Callers.{IsRejected, IsRobotWithoutSitemaps, IsVerdict, RobotValue}
-use Rattle.texting_robots.specs.Callers.{bodies_read, escaped, file_limit, lines_read, placed_rules, unplaced}
-use Rattle.texting_robots.specs.Decision.{IsDecisionOn}
-use Rattle.texting_robots.specs.declared.decision.Decision.{Decision}
-use Rattle.texting_robots.proofs.Shared.{answer_as_placed, read_robot}
-use Rattle.robots_warnings.specs.Targets.{normal_target, written_target}
+use Rattle.texting_robots.specs.Callers.{IsVerdict, RobotValue, file_limit, unplaced}
+use Rattle.texting_robots.specs.{Decision.IsDecisionOn, declared.decision.Decision.Decision}
+use Rattle.rfc9309.specs.{Matching.all_stay, Matching.normal_uri, StandardTarget.written_target}
+use Rattle.rfc9309.proofs.StandardLemmas.{text_verdict}
 use Rattle.robots_warnings.specs.{Crawlers.Row, Internal.row_value}
-use Rattle.audit_core.specs.Target.{asked_target}
-use Rattle.audit_expect.specs.Expectations.{HoldsFor, HoldsIn, IsAskedAsWritten}
-use Rattle.audit_expect.specs.OtherReading.{IsNormalVerdict, IsOtherVerdict}
-use Rattle.audit_expect.specs.{Expect.ExpectationValue, Expect.is_word, Patterns.AreDecidedAs}
-use Rattle.audit_expect.specs.Internal.Expectations.{IsJudgmentOn, holds, is_unexpected}
+use Rattle.audit_core.specs.{Target.asked_target}
+use Rattle.audit_expect.specs.Expectations.{AreDecidedInBoth, HoldsFor, HoldsIn, IsAskedAsWritten}
+use Rattle.audit_expect.specs.{Expect.ExpectationValue, Expect.is_word}
+use Rattle.audit_expect.specs.Internal.Expectations.{AreRobots, IsJudgmentOn, holds, is_unexpected}
 use Rattle.audit_expect.specs.declared.checks.Judgment.TheVariants.{Decided, Everywhere}
-use Rattle.audit_expect.specs.declared.patterns.OnPaths.{OnPaths}
+use Rattle.audit_expect.specs.declared.checks.OnPaths.{OnPaths}
 
 pub map_filtered : (words : List (Bor (List ℕ)))
     → map (λ (word : Bor (List ℕ)). word.now) (filter (λ (word : Bor (List ℕ)). is_word word.now) words)
@@ -32,56 +29,43 @@ expected : (allowed : Bool) (decision : Decision) → is_unexpected allowed deci
 expected true decision is = not-false _ is
 expected false decision is = is
 
-pub robot_accepted : (file agent : List ℕ) (robot : RobotValue)
-    → IsRobotWithoutSitemaps agent (take file_limit file) robot → ¬ IsRejected agent (lines_read file)
-robot_accepted file agent robot is = (read_robot agent file _ is.2).accepted
-
-module _ (file agent : List ℕ) (one : ExpectationValue) where
-  pub decided_all : (found : OnPaths) → ¬ IsRejected agent (lines_read file) → one.is_pattern ≡ true
-      → (holds found ≡ true
-      → AreDecidedAs (escaped one.url) (placed_rules agent (lines_read file)) one.allowed)
+module _ (file agent : List ℕ) (robot standard : RobotValue)
+    (are : AreRobots file agent robot standard) where
+  pub decided_all : (one : ExpectationValue) (found : OnPaths) → one.is_pattern ≡ true
+      → (holds found ≡ true → AreDecidedInBoth file agent one)
       → IsJudgmentOn file agent one (Everywhere found)
-  decided_all found accepted pattern decided passes = record {
-    accepted = accepted;
+  decided_all one found pattern decided passes = record {
+    accepted = are.here.0;
+    standard = are.in_text.0;
     url = λ plain. absurd (false≢true (sym plain ∙ pattern));
     pattern = λ _. decided (not-false _ passes);
   }
 
-  pub decided_as : (robot : RobotValue) (decision other normal : Decision)
-      → IsRobotWithoutSitemaps agent (take file_limit file) robot
-      → one.is_pattern ≡ false → IsAskedAsWritten one.url
-      → IsDecisionOn robot.rules (asked_target one.url) decision
-      → IsOtherVerdict (bodies_read file) (placed_rules agent (lines_read file)) (asked_target one.url)
-      other.allowed
-      → IsNormalVerdict (bodies_read file) (placed_rules agent (lines_read file))
-      (normal_target (written_target one.url)) normal.allowed
-      → IsJudgmentOn file agent one (Decided decision other normal)
-  decided_as robot decision other normal is plain written by is_other is_normal passes =
-      let rules = placed_rules agent (lines_read file) in
-      let alike = answer_as_placed agent (lines_read file) robot.rules (read_robot agent file _ is.2).rules in
-      let (first, rest) = or_parts _ _ passes in
-      let (second, third) = or_parts _ _ rest in
+  pub decided_as : (one : ExpectationValue) (here other : Decision) → one.is_pattern ≡ false
+      → IsAskedAsWritten one.url → IsDecisionOn robot.rules (asked_target one.url) here
+      → IsDecisionOn standard.rules (normal_uri all_stay (written_target one.url)) other
+      → IsJudgmentOn file agent one (Decided here other)
+  decided_as one here other plain written by_here by_standard passes =
+      let (first, second) = or_parts _ _ passes in
       record {
-        accepted = robot_accepted file agent robot is;
+        accepted = are.here.0;
+        standard = are.in_text.0;
         url = λ _. record {
           written = written;
-          here = (alike.verdicts (asked_target one.url) one.allowed).0
+          here = (are.here.1.verdicts (asked_target one.url) one.allowed).0
               (subst (IsVerdict (unplaced robot.rules) (asked_target one.url))
-              (expected one.allowed decision first) by.verdict);
-          other = subst (IsOtherVerdict (bodies_read file) rules (asked_target one.url))
-              (expected one.allowed other second) is_other;
-          normal = subst (IsNormalVerdict (bodies_read file) rules (normal_target (written_target one.url)))
-              (expected one.allowed normal third) is_normal;
+              (expected one.allowed here first) by_here.verdict);
+          standard =
+              let target = normal_uri all_stay (written_target one.url) in
+              (text_verdict agent (take file_limit file) (written_target one.url) one.allowed).0
+              ((are.in_text.1.verdicts target one.allowed).0
+              (subst (IsVerdict (unplaced standard.rules) target) (expected one.allowed other second)
+              by_standard.verdict));
         };
         pattern = λ pattern. absurd (false≢true (sym plain ∙ pattern));
       }
 
 -- ---- Groups of vendors; none if the name is empty.
-
-pub no_group : (file : List ℕ) (one : ExpectationValue) (group : Option (List ℕ)) → group ≡ None
-    → HoldsIn file one group
-no_group file one None is = tt
-no_group file one (Some name) is = cc
 
 pub nobody : (file : List ℕ) (one : ExpectationValue) (name : List ℕ) → (length name == 0) ≡ true
     → not one.allowed ≡ false → HoldsIn file one (Some name)

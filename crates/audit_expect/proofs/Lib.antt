@@ -1,3 +1,2 @@
 pub mod ExpectationsLemmas
-pub mod OtherReadingLemmas
 pub mod PatternLemmas

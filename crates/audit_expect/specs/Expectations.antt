@@ -1,56 +1,51 @@
 -- Expectations that hold on a robots.txt file.
 use Rattle.std.specs.Prelude.{◌≡◌, ℕ, ◌==◌, Bool, true, false, All, List, Option, Some, None, [], ◌∷◌, ◌++◌}
-use Rattle.std.specs.Prelude.{⊤, codes, flat_map, if◌then◌else◌, is_some, length, map}
-use Rattle.texting_robots.specs.Callers.{IsRejected, IsVerdict, LineValue, PlacedRule, bodies_read, escaped}
-use Rattle.texting_robots.specs.Callers.{lines_read, placed_rules, unplaced}
+use Rattle.std.specs.Prelude.{flat_map, if◌then◌else◌, is_some, length, map, take}
+use Rattle.texting_robots.specs.Callers.{IsRejected, IsVerdict, LineValue, escaped, file_limit, file_lines}
+use Rattle.texting_robots.specs.Callers.{lines_read, placed_rules, rules_for}
+use Rattle.rfc9309.specs.StandardReading.{IsStandardVerdict, pattern_of}
+use Rattle.rfc9309.specs.{Matching.all_stay, Matching.normal_uri, StandardTarget.written_target}
 use Rattle.robots_warnings.specs.Crawlers.{Row, crawlers, other_group}
-use Rattle.robots_warnings.specs.Targets.{normal_target, written_target}
-use Rattle.audit_core.specs.{Target.asked_target, Audit.crawlers_in}
+use Rattle.audit_core.specs.{Target.asked_target, Audit.crawlers_in, Standard.text_read}
 use Rattle.audit_expect.specs.Expect.{AreExpectedIn, ExpectationValue, is_any}
-use Rattle.audit_expect.specs.OtherReading.{IsNormalVerdict, IsOtherVerdict}
 use Rattle.audit_expect.specs.Patterns.{AreDecidedAs}
 
 -- What is written and what is compared here have the same normal form. They don't if `url` changes what RFC
 -- 9309 compares, such as dot segments, a backslash, or an apostrophe in a query.
 abbrev pub IsAskedAsWritten : List ℕ → Type 0
-IsAskedAsWritten url = normal_target (asked_target url) ≡ normal_target (written_target url)
+IsAskedAsWritten url = normal_uri all_stay (asked_target url) ≡ normal_uri all_stay (written_target url)
 
--- `url` doesn't change the URL, and this is the verdict: on what is compared here, where an empty Disallow is
--- an Allow of `/`, as here, and where it is no rule; and on what is written, where it is no rule and normal
--- forms are compared
-pub record IsDecidedAs (bodies : List (List ℕ)) (rules : List PlacedRule) (url : List ℕ) (allowed : Bool)
-    : Type 0 where
+-- `url` doesn't change the URL, and this is the verdict in both readings: on what is compared here, and on
+-- what is written by RFC 9309
+pub record IsDecidedAs (file agent url : List ℕ) (allowed : Bool) : Type 0 where
   pub written : IsAskedAsWritten url
-  pub here : IsVerdict (unplaced rules) (asked_target url) allowed
-  pub other : IsOtherVerdict bodies rules (asked_target url) allowed
-  pub normal : IsNormalVerdict bodies rules (normal_target (written_target url)) allowed
+  pub here : IsVerdict (rules_for agent (lines_read file)) (asked_target url) allowed
+  pub standard : IsStandardVerdict agent (take file_limit file) (written_target url) allowed
 
--- for this crawler, the file isn't rejected, and has the verdict on the URL, or on each path that the pattern
--- matches
+-- each path that the pattern matches has the verdict in both readings; for RFC 9309, the pattern is in normal
+-- form, as the rules in the text are
+pub record AreDecidedInBoth (file agent : List ℕ) (one : ExpectationValue) : Type 0 where
+  pub here : AreDecidedAs (escaped one.url) (placed_rules agent (lines_read file)) one.allowed
+  pub standard : AreDecidedAs (escaped (pattern_of all_stay one.url))
+      (placed_rules agent (file_lines (text_read file))) one.allowed
+
+-- for this crawler, neither reading rejects the file, and both have the verdict on the URL, or on each path
+-- that the pattern matches
 pub record HoldsFor (file agent : List ℕ) (one : ExpectationValue) : Type 0 where
   pub accepted : ¬ IsRejected agent (lines_read file)
-  pub url : one.is_pattern ≡ false
-      → IsDecidedAs (bodies_read file) (placed_rules agent (lines_read file)) one.url one.allowed
-  pub pattern : one.is_pattern ≡ true
-      → AreDecidedAs (escaped one.url) (placed_rules agent (lines_read file)) one.allowed
+  pub standard : ¬ IsRejected agent (file_lines (text_read file))
+  pub url : one.is_pattern ≡ false → IsDecidedAs file agent one.url one.allowed
+  pub pattern : one.is_pattern ≡ true → AreDecidedInBoth file agent one
 
--- the expectation holds for the group that the crawler's vendor applies in place of the one that applies
--- here, if there is one; with no group, which has an empty name, everything is allowed
+-- the expectation holds for the crawler, or for the group that its vendor applies in place of the one that
+-- applies here, if there is one; with no group, which has an empty name, everything is allowed
 abbrev pub HoldsIn : List ℕ → ExpectationValue → (group : Option (List ℕ)) → Type 0
-HoldsIn file one None = ⊤
+HoldsIn file one None = HoldsFor file one.agent one
 HoldsIn file one (Some []) = one.allowed ≡ true
 HoldsIn file one (Some (byte ∷ name)) = HoldsFor file (byte ∷ name) one
 
--- the expectation holds on the file, here and at the vendor of its crawler
-pub record Holds (file : List ℕ) (one : ExpectationValue) : Type 0 where
-  pub here : HoldsFor file one.agent one
-  pub at_vendor : HoldsIn file one (other_group (lines_read file) one.agent)
-
--- the words after the number of expectations, if none fails
-abbrev pub holding_words : (failing number : ℕ) → List ℕ
-holding_words failing number =
-    if failing == 0
-    then (if number == 1 then codes " expectation holds" else codes " expectations hold") else []
+abbrev pub Holds : (file : List ℕ) → ExpectationValue → Type 0
+Holds file one = HoldsIn file one (other_group (lines_read file) one.agent)
 
 -- the name, if the vendor of the crawler applies another group to it than the one that applies here
 abbrev pub elsewhere : List LineValue → List ℕ → List (List ℕ)

@@ -26,6 +26,8 @@ pub(crate) struct Expectation<'a> {
     /// Whether the URL must be allowed to the crawler, or else denied.
     pub(crate) allowed: bool,
     pub(crate) agent: &'a str,
+    /// Whether it is about any crawler; `agent` is then one of them, once the file was read.
+    pub(crate) is_any: bool,
     pub(crate) url: &'a str,
     /// Whether `url` is a pattern, and all paths that it matches are meant.
     pub(crate) is_pattern: bool,
@@ -186,6 +188,7 @@ fn expects<'a>(
         number,
         allowed,
         agent,
+        is_any: is_any(agent),
         url,
         is_pattern,
     })))

@@ -1,21 +1,20 @@
 //! Expectations checked against a robots.txt file, and the report on those that fail.
 ghost use Rattle.std.specs.Prelude.{◌≡◌, All, IfOk, OnOk, false, length, map};
-ghost use Rattle.audit_core.specs.Internal.{IsCrawlerIn};
-ghost use Rattle.robots_warnings.specs.Read.{IsRead};
-ghost use Rattle.audit_expect.specs.Expectations.{AreFailuresOf, Holds, holding_words};
-ghost use Rattle.audit_expect.specs.Internal.Expectations.{expectation_value, fails};
+ghost use Rattle.audit_core.specs.Standard.{AreReadings};
+ghost use Rattle.audit_expect.specs.Expectations.{AreFailuresOf, Holds};
+ghost use Rattle.audit_expect.specs.Internal.Expectations.{IsInBoth, expectation_value, fails};
 
 use crate::any::about_each;
-use crate::checks::{AtVendor, Checked, Judgment, checked_on, fails, fails_at, is_unexpected};
-use crate::entries::without_entries;
-use crate::expect::{Expectation, expectations_in, is_any};
-use crate::patterns::OnPaths;
-use audit_core::audit::Crawler;
-use audit_core::error::{EntryKind, Error};
+use crate::checks::{Checked, Judgment, OnPaths, Readers, checked_on, fails};
+use crate::entries::{check_lines, without_entries};
+use crate::expect::{Expectation, expectations_in};
+use audit_core::error::{EntryKind, Error, Flaw};
 use audit_core::findings::{Findings, Subject, add, message};
+use audit_core::readings::{Decided, FileReadings};
+use audit_core::syntax::other_readers;
 use audit_core::target::asked_target;
-use robots_warnings::crawlers::{meant, row_at};
-use robots_warnings::read::FileRead;
+use audit_core::texts::vendor_of;
+use robots_warnings::crawlers::{meant, other_group};
 use safe_output::level::Level;
 use safe_output::report::Report;
 use std::alloc::Global;
@@ -25,21 +24,21 @@ use texting_robots::robot::Decision;
 use texting_robots::site::Site;
 
 /// The file isn't parsed again if the crawler is the one before.
-fn crawler_for<'a>(
+fn readers_for<'a>(
     alloc: Global,
-    before: Crawler<'a>,
+    before: Readers<'a>,
     agent: &'a str,
-    read: &FileRead<'_>,
-) -> Result<Crawler<'a>, Error>
-    requires read { IsRead read.now }
-    requires before { IsCrawlerIn read.now.bytes.now before }
-    ensures agent { IfOk result (λ crawler. crawler.agent.now ≡ agent.entry.now) }
-    ensures crawler { IfOk result (IsCrawlerIn read.now.bytes.now) }
+    file: &FileReadings<'_>,
+) -> Result<Readers<'a>, Error>
+    requires file { AreReadings file.now.here.bytes.now file.now }
+    requires before { IsInBoth file.now.here.bytes.now before }
+    ensures agent { IfOk result (λ readers. readers.here.agent.now ≡ agent.entry.now) }
+    ensures readers { IfOk result (IsInBoth file.now.here.bytes.now) }
 {
-    if before.agent == agent {
+    if before.here.agent == agent {
         return Ok(before);
     }
-    Crawler::new(alloc, agent, read)
+    Readers::new(alloc, agent, file)
 }
 
 /// What decides. `target` is what is compared here, as for those below, and `name` a word for it.
@@ -68,21 +67,30 @@ impl<'a> fmt::Display for Deciding<'a> {
     }
 }
 
-/// Why the decision for a crawler or a group isn't the expected one.
+/// Why the expectation fails for the crawler, or the group that its vendor applies to it.
 #[derive(Clone, Copy)]
-struct Reason<'a> {
+struct Reason<'a, 'c> {
     agent: &'a str,
-    target: &'a str,
+    target: &'c str,
+    judgment: &'c Judgment,
+    /// Whether it must be allowed.
     allowed: bool,
-    judgment: &'a Judgment,
+    /// Who has the other reading.
+    by: &'static str,
 }
 
-impl<'a> fmt::Display for Reason<'a> {
+impl<'a, 'c> fmt::Display for Reason<'a, 'c> {
     fn fmt<W: fmt::Write>(&self, f: &mut fmt::Formatter<W>) -> fmt::Result {
         let (agent, target) = (self.agent, self.target);
-        let (reading, name, target, decision) = match self.judgment {
+        let (name, target, here, standard) = match self.judgment {
             Judgment::Rejected(line) => {
                 return write!(f, "the file is rejected for {agent}: line {line}");
+            }
+            Judgment::RejectedByStandard(line) => {
+                return write!(
+                    f,
+                    "the file is rejected for {agent} by RFC 9309: line {line}"
+                );
             }
             Judgment::Rewritten => {
                 return write!(f, "crawlers may ask for another path or query: {target}");
@@ -91,73 +99,70 @@ impl<'a> fmt::Display for Reason<'a> {
             Judgment::Everywhere(OnPaths::Undecided) => {
                 return f.write_str("that isn't decided, since there are many stars");
             }
-            Judgment::Everywhere(OnPaths::Fail(path, decision)) => {
-                ("", path.as_str(), path.as_str(), decision)
+            Judgment::Everywhere(OnPaths::Fail(path, here, standard)) => {
+                (path.as_str(), path.as_str(), *here, *standard)
             }
-            Judgment::Decided(decision, _, _) if is_unexpected(self.allowed, decision) => {
-                ("", "it", target, decision)
-            }
-            Judgment::Decided(_, other, _) if is_unexpected(self.allowed, other) => (
-                "where an empty Disallow is no rule, as for RFC 9309 and Google, ",
-                "it",
-                target,
-                other,
-            ),
-            Judgment::Decided(_, _, normal) => (
-                "in the normal forms of RFC 9309, ",
-                "it",
-                target,
-                normal,
-            ),
+            Judgment::Decided(here, standard) => ("it", target, *here, *standard),
         };
-        let deciding = Deciding {
-            target,
-            name,
-            decision: *decision,
-        };
-        write!(f, "{reading}{deciding}")
+        if here.allowed == standard.allowed {
+            let decision = here;
+            let deciding = Deciding {
+                target,
+                name,
+                decision,
+            };
+            return write!(f, "{deciding}");
+        }
+        let (here, standard) = (Decided(here), Decided(standard));
+        let (verb, by) = (if self.allowed { "allows" } else { "denies" }, self.by);
+        write!(
+            f,
+            "only one reading {verb} {name}: {here} (by {by}: {standard})"
+        )
     }
 }
 
-/// What fails, and why: at the vendor, or else here.
+/// What fails, and why.
 #[derive(Clone, Copy)]
 struct Failure<'a, 'c> {
     checked: &'c Checked<'a>,
     target: &'c str,
+    /// Who has the other reading.
+    by: &'static str,
 }
 
 impl<'a, 'c> fmt::Display for Failure<'a, 'c> {
     fn fmt<W: fmt::Write>(&self, f: &mut fmt::Formatter<W>) -> fmt::Result {
-        let (expectation, target) = (&self.checked.expectation, self.target);
-        let (agent, url, allowed) = (expectation.agent, expectation.url, expectation.allowed);
-        let demand = match (allowed, expectation.is_pattern) {
+        let (checked, target) = (self.checked, self.target);
+        let (agent, url) = (checked.expectation.agent, checked.expectation.url);
+        let demand = match (checked.expectation.allowed, checked.expectation.is_pattern) {
             (true, false) => "allowed",
             (true, true) => "allowed all of",
             (false, false) => "denied",
             (false, true) => "denied all of",
         };
         write!(f, "{agent} must be {demand} {url}, but ")?;
-        let here = Reason {
-            agent,
-            target,
-            allowed,
-            judgment: &self.checked.judgment,
+        let Some(judgment) = &checked.judgment else {
+            return write!(
+                f,
+                "its vendor doesn't apply the group * to it; add a group with User-agent: {agent}"
+            );
         };
-        match &self.checked.vendor {
-            AtVendor::Group(agent, judgment) if fails_at(allowed, judgment) => {
-                let there = Reason {
-                    agent,
-                    judgment,
-                    ..here
-                };
-                write!(f, "its vendor applies the group {agent} to it, and {there}")
+        let by = match checked.group {
+            Some(group) => {
+                write!(f, "its vendor applies the group {group} to it, and ")?;
+                vendor_of(agent)
             }
-            AtVendor::Nobody if !allowed => {
-                f.write_str("its vendor doesn't apply the group * to it")
-            }
-            AtVendor::Nobody => write!(f, "if it obeys *, {here}"),
-            _ => write!(f, "{here}"),
-        }
+            None => self.by,
+        };
+        let reason = Reason {
+            agent: checked.group.unwrap_or(agent),
+            target,
+            judgment,
+            allowed: checked.expectation.allowed,
+            by,
+        };
+        write!(f, "{reason}")
     }
 }
 
@@ -169,42 +174,75 @@ const NAMED: usize = 10;
 
 /// The report on failures, and how many of the latest line it has.
 #[derive(Drop)]
-struct Failing<'a> {
+struct Failing<'a, 'e> {
     out: Report,
     /// The name of the file of expectations.
     name: &'a str,
+    /// Who has the other reading of the file.
+    by: &'static str,
     line: usize,
     number: usize,
-    /// What is said of crawlers that are only named, and ignore the group of `*`.
-    end: &'static str,
+    /// The crawlers that ignore `*`, and what is expected of them, if that line is about any crawler.
+    ignoring: Vec<&'e str>,
+    expected: Option<Expectation<'e>>,
 }
 
 /// Ends the line that only names crawlers, if there is one.
-fn end_names(report: &mut Failing<'_>) -> fmt::Result {
-    let (out, number, end) = (&mut report.out, report.number, report.end);
+fn end_names(report: &mut Failing<'_, '_>) -> fmt::Result {
+    let (out, number) = (&mut report.out, report.number);
     if number <= MOST {
         return Ok(());
     }
-    let written = if number > MOST + NAMED {
+    if number > MOST + NAMED {
         let others = number - (MOST + NAMED);
-        write!(out, " and {others} more{end}")
-    } else {
-        out.write_str(end)
-    };
-    written?;
+        write!(out, " and {others} more")?;
+    }
     out.end_line()
 }
 
-/// Writes the crawler of a failure after so many of its line.
-fn write_agent(report: &mut Failing<'_>, checked: &Checked<'_>, number: usize) -> fmt::Result {
-    let (name, line, agent) = (report.name, report.line, checked.expectation.agent);
-    if matches!(checked.vendor, AtVendor::Nobody) {
-        report.end = if checked.expectation.allowed {
-            " (those that ignore *: only if they obey it)"
-        } else {
-            " (those that ignore * may fetch all)"
-        };
+/// Writes which crawlers ignore `*`, and what to write, if the line is about any crawler.
+fn write_ignoring(report: &mut Failing<'_, '_>) -> fmt::Result {
+    let Some(expected) = report.expected else {
+        return Ok(());
+    };
+    let (out, name, line) = (&mut report.out, report.name, report.line);
+    let mut front = "";
+    write!(out, "{name}:{line}: ")?;
+    for agent in &report.ignoring {
+        write!(out, "{front}{agent}")?;
+        front = ", ";
     }
+    let (verb, pronoun) = if report.ignoring.len() == 1 {
+        ("ignores", "it")
+    } else {
+        ("ignore", "them")
+    };
+    let word = if expected.is_pattern {
+        "deny-all"
+    } else {
+        "deny"
+    };
+    let url = expected.url;
+    write!(
+        out,
+        " {verb} *: add a group that names {pronoun}, or write {word} * {url}"
+    )?;
+    out.end_line()
+}
+
+/// Ends what is written of the latest line.
+fn end_line(report: &mut Failing<'_, '_>) -> fmt::Result {
+    end_names(report)?;
+    write_ignoring(report)?;
+    report.number = 0;
+    report.ignoring.clear();
+    report.expected = None;
+    Ok(())
+}
+
+/// Writes the crawler of a failure after so many of its line.
+fn write_agent(report: &mut Failing<'_, '_>, agent: &str, number: usize) -> fmt::Result {
+    let (name, line) = (report.name, report.line);
     if number == MOST {
         write!(report.out, "{name}:{line}: also {agent}")
     } else if number < MOST + NAMED {
@@ -214,30 +252,36 @@ fn write_agent(report: &mut Failing<'_>, checked: &Checked<'_>, number: usize) -
     }
 }
 
-fn write_failure(report: &mut Failing<'_>, failure: &Failure<'_, '_>) -> fmt::Result {
+fn write_failure<'e>(report: &mut Failing<'_, 'e>, failure: &Failure<'e, '_>) -> fmt::Result {
     let (name, checked) = (report.name, failure.checked);
-    let line = checked.expectation.number;
+    let expectation = checked.expectation;
+    let line = expectation.number;
     if line != report.line {
-        end_names(report)?;
+        end_line(report)?;
         report.line = line;
-        report.number = 0;
-        report.end = "";
+    }
+    if expectation.is_any && checked.judgment.is_none() {
+        report.expected = Some(expectation);
+        return match report.ignoring.push(expectation.agent) {
+            Ok(()) => Ok(()),
+            Err(_) => Err(fmt::Error),
+        };
     }
     let number = report.number;
     report.number = number.saturating_add(1);
     if number >= MOST {
-        return write_agent(report, checked, number);
+        return write_agent(report, expectation.agent, number);
     }
     write!(report.out, "{name}:{line}: {failure}")?;
     report.out.end_line()
 }
 
 /// Writes and adds what fails.
-fn add_if_failing(
+fn add_if_failing<'e>(
     alloc: Global,
-    report: &mut Failing<'_>,
+    report: &mut Failing<'_, 'e>,
     found: &mut Findings,
-    checked: &Checked<'_>,
+    checked: &Checked<'e>,
 ) -> Result<(), Error>
     ensures { OnOk result (length found.new.items ≡ 0
         → (length found.old.items ≡ 0) × (fails checked.now ≡ false)) }
@@ -250,6 +294,7 @@ fn add_if_failing(
     let failure = Failure {
         checked,
         target: &target,
+        by: report.by,
     };
     write_failure(report, &failure)?;
     let (line, agent) = (Some(expectation.number), Some(expectation.agent));
@@ -260,29 +305,29 @@ fn add_if_failing(
 
 fn failures<'a>(
     alloc: Global,
-    report: &mut Failing<'_>,
+    report: &mut Failing<'_, 'a>,
     expectations: &[Expectation<'a>],
-    read: &'a FileRead<'_>,
+    file: &'a FileReadings<'_>,
 ) -> Result<Findings, Error>
-    requires { IsRead read.now }
+    requires { AreReadings file.now.here.bytes.now file.now }
     ensures { IfOk result (λ found. length found.items ≡ 0
-        → All (Holds read.now.bytes.now) (map expectation_value expectations.now)) }
+        → All (Holds file.now.here.bytes.now) (map expectation_value expectations.now)) }
 {
-    let mut latest = Crawler::new(alloc, "*", read)?;
+    let mut latest = Readers::new(alloc, "*", file)?;
     let mut found = Vec::new(alloc);
     for expectation in expectations {
-        latest = crawler_for(alloc, latest, expectation.agent, read)?;
-        let checked = checked_on(alloc, expectation, &latest, read)?;
+        let group = other_group(&file.here.site, expectation.agent);
+        let agent = group.unwrap_or(expectation.agent);
+        latest = readers_for(alloc, latest, agent, file)?;
+        let checked = checked_on(alloc, expectation, group, &latest, file)?;
         add_if_failing(alloc, report, &mut found, &checked)?;
     }
-    end_names(report)?;
+    end_line(report)?;
     Ok(found)
 }
 
 /// What is said after the number of expectations, if none fails.
-fn holding_words(found: &Findings, number: usize) -> &'static str
-    ensures { result.now ≡ holding_words (length found.now.items) number }
-{
+fn holding_words(found: &Findings, number: usize) -> &'static str {
     match (found.is_empty(), number) {
         (false, _) => "",
         (true, 1) => " expectation holds",
@@ -299,47 +344,24 @@ fn write_holding(out: &mut Report, found: &Findings, number: usize) -> fmt::Resu
     out.end_line()
 }
 
-/// Writes a note for a name that is like that of a known crawler, if the file doesn't have it.
-fn write_note(
+/// Fails with all lines in which a name is like that of a known crawler, if the file doesn't have it.
+fn check_names(
     alloc: Global,
-    out: &mut Report,
     name: &str,
-    expectation: &Expectation<'_>,
-    site: &Site,
-) -> fmt::Result {
-    let (line, agent) = (expectation.number, expectation.agent);
-    if is_any(agent) || site.is_named(agent) {
-        return Ok(());
-    }
-    let Some(crawler) = meant(alloc, agent.as_bytes())? else {
-        return Ok(());
-    };
-    let meant = row_at(crawler).0;
-    write!(
-        out,
-        "{name}:{line}: note: no known crawler and no group is called {agent}; did you mean {meant}?"
-    )?;
-    out.end_line()
-}
-
-/// The report with the notes, and without failures.
-fn report_on<'a>(
-    alloc: Global,
-    name: &'a str,
     expectations: &[Expectation<'_>],
     site: &Site,
-) -> Result<Failing<'a>, fmt::Error> {
-    let mut out = Report::new(alloc);
+) -> Result<(), Error> {
+    let mut malformed = Vec::new(alloc);
     for expectation in expectations {
-        write_note(alloc, &mut out, name, expectation, site)?;
+        let agent = expectation.agent;
+        if expectation.is_any || site.is_named(agent) {
+            continue;
+        }
+        if let Some(crawler) = meant(alloc, agent.as_bytes())? {
+            malformed.push((expectation.number, Flaw::Near(crawler)))?;
+        }
     }
-    Ok(Failing {
-        out,
-        name,
-        line: 0,
-        number: 0,
-        end: "",
-    })
+    check_lines(alloc, name, malformed)
 }
 
 /// Checks the expectations in a text against a file that was read. Fails if there are none.
@@ -347,18 +369,28 @@ fn check_read<'a>(
     alloc: Global,
     name: &str,
     text: &'a [u8],
-    read: &'a FileRead<'_>,
+    file: &'a FileReadings<'_>,
 ) -> Result<(Report, Findings), Error>
-    requires { IsRead read.now }
-    ensures { IfOk result (λ checked. AreFailuresOf text.now read.now.bytes.now (length checked.1.items)) }
+    requires { AreReadings file.now.here.bytes.now file.now }
+    ensures { IfOk result (λ checked. AreFailuresOf text.now file.now.here.bytes.now
+        (length checked.1.items)) }
 {
     let expectations = expectations_in(alloc, name, text)?;
     if expectations.is_empty() {
         return Err(without_entries(alloc, name, EntryKind::Expectation));
     }
-    let all = about_each(alloc, &expectations, read)?;
-    let mut report = report_on(alloc, name, &expectations, &read.site)?;
-    let found = failures(alloc, &mut report, &all, read)?;
+    check_names(alloc, name, &expectations, &file.here.site)?;
+    let all = about_each(alloc, &expectations, &file.here)?;
+    let mut report = Failing {
+        out: Report::new(alloc),
+        name,
+        by: other_readers(&file.here.labels),
+        line: 0,
+        number: 0,
+        ignoring: Vec::new(alloc),
+        expected: None,
+    };
+    let found = failures(alloc, &mut report, &all, file)?;
     write_holding(&mut report.out, &found, expectations.len())?;
     Ok((report.out, found))
 }
@@ -368,9 +400,9 @@ fn check_read<'a>(
 ///
 /// # Errors
 ///
-/// `Error::Malformed` for all malformed lines of the text, `Error::Empty` if there are no expectations in it,
-/// and `Error::Memory` if an allocation failed or a URL is too long for `url`. An expectation fails if the
-/// file is rejected for its crawler, which isn't an error.
+/// `Error::Malformed` for all malformed lines of the text, or all with a misspelled name, `Error::Empty` if
+/// there are no expectations in it, and `Error::Memory` if an allocation failed or a URL is too long for
+/// `url`. An expectation fails if the file is rejected for its crawler, which isn't an error.
 pub fn check(
     alloc: Global,
     name: &str,
@@ -379,6 +411,6 @@ pub fn check(
 ) -> Result<(Report, Findings), Error>
     ensures { IfOk result (λ checked. AreFailuresOf text.now file.now (length checked.1.items)) }
 {
-    let read = FileRead::new(alloc, "*", file)?;
-    check_read(alloc, name, text, &read)
+    let readings = FileReadings::new(alloc, "*", file)?;
+    check_read(alloc, name, text, &readings)
 }

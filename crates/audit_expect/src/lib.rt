@@ -7,8 +7,6 @@ mod checks;
 mod entries;
 mod expect;
 pub mod expectations;
-mod normal_form;
-mod other_reading;
 mod patterns;
 pub mod theorems;
 pub mod url_list;

@@ -5,8 +5,8 @@ use crate::expect::is_path_or_url;
 use audit_core::crawler::is_crawler_name;
 use audit_core::error::{EntryKind, Error, Flaw, argument};
 use audit_core::request::Request;
+use rfc9309::target::begins_as_url;
 use robots_warnings::facts::without_utf8_bom;
-use robots_warnings::urls::begins_as_url;
 use safe_output::bytes::{as_text, has, somewhere};
 use std::alloc::{AllocError, Global};
 

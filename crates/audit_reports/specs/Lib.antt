@@ -1,3 +1,2 @@
 pub mod Github
-pub mod Verdicts
 pub mod Sarif

@@ -2,18 +2,24 @@
 use crate::lines::Lines;
 use crate::verdicts::write_verdicts;
 use audit_core::audit::{AgentAudit, Audit};
-use audit_core::group::Group;
+use audit_core::group::{AtVendor, Group};
 use audit_core::reach::Reach;
 use audit_core::rows::Shown;
-use audit_core::texts::{Elsewhere, Fetched, ignores_delay};
+use audit_core::texts::{
+    Elsewhere, Fetched, ignores_delay, other_reader, rejection_of, standard_fetched, vendor_of,
+};
 use robots_warnings::crawlers::is_wrong;
 use safe_output::delay::Delay;
+use std::fmt;
 
 fn write_group(out: &mut Lines<'_>, agent: &AgentAudit<'_>) {
-    let name = agent.agent;
+    let name = agent.asked;
     match agent.group {
         Group::Named => write!(out, ": group {name}"),
         Group::Star => write!(out, ": group *"),
+        Group::Nobody if agent.vendor == AtVendor::NoGroup => {
+            write!(out, ": no group (it ignores that of *)");
+        }
         Group::Nobody => write!(out, ": no group"),
         Group::Everyone if agent.rules == 0 => write!(
             out,
@@ -23,6 +29,10 @@ fn write_group(out: &mut Lines<'_>, agent: &AgentAudit<'_>) {
     }
     if let Some(line) = agent.group_line {
         write!(out, " (line {line})");
+    }
+    if agent.vendor == AtVendor::OtherGroup {
+        let vendor = vendor_of(agent.agent);
+        write!(out, ", which {vendor} applies to it");
     }
 }
 
@@ -60,8 +70,37 @@ fn write_values(out: &mut Lines<'_>, audit: &Audit<'_>, lines: &[usize]) {
     }
 }
 
+/// What a crawler may fetch by RFC 9309, if that is something else than here; these read the file so, unless
+/// a vendor does.
+#[derive(Clone, Copy)]
+pub(crate) struct Otherwise<'a, 'b>(pub(crate) &'a str, pub(crate) &'a AgentAudit<'b>);
+
+impl<'a, 'b> fmt::Display for Otherwise<'a, 'b> {
+    fn fmt<W: fmt::Write>(&self, f: &mut fmt::Formatter<W>) -> fmt::Result {
+        let by = other_reader(self.0, self.1);
+        match standard_fetched(self.1) {
+            Some(fetched) => write!(f, " (by {by}: {fetched})"),
+            None => Ok(()),
+        }
+    }
+}
+
+/// Whether a report says what the crawler may fetch: not if that is a part of the site in both readings.
+pub(crate) fn is_fetch_told(agent: &AgentAudit<'_>) -> bool {
+    agent.reach != Reach::Part || standard_fetched(agent).is_some()
+}
+
+fn write_fetched(out: &mut Lines<'_>, by: &str, audit: &Audit<'_>, agent: &AgentAudit<'_>) {
+    let (fetched, otherwise) = (Fetched(agent.reach, &agent.allows), Otherwise(by, agent));
+    if is_fetch_told(agent) {
+        write!(out, ", may fetch {fetched}");
+        write_values(out, audit, &agent.allows);
+        write!(out, "{otherwise}");
+    }
+}
+
 /// Writes a line such as `crawler GPTBot: group * (line 1), 3 rules, delay 2 s`.
-fn write_crawler(out: &mut Lines<'_>, audit: &Audit<'_>, agent: &AgentAudit<'_>) {
+fn write_crawler(out: &mut Lines<'_>, by: &str, audit: &Audit<'_>, agent: &AgentAudit<'_>) {
     let name = agent.agent;
     write!(out, "crawler {name}");
     write_group(out, agent);
@@ -73,11 +112,7 @@ fn write_crawler(out: &mut Lines<'_>, audit: &Audit<'_>, agent: &AgentAudit<'_>)
             write!(out, ", which it probably ignores");
         }
     }
-    if agent.reach != Reach::Part {
-        let fetched = Fetched(agent.reach, &agent.allows);
-        write!(out, ", may fetch {fetched}");
-        write_values(out, audit, &agent.allows);
-    }
+    write_fetched(out, by, audit, agent);
     let elsewhere = Elsewhere(agent);
     write!(out, "{elsewhere}");
     write_wrong(out, name);
@@ -85,14 +120,14 @@ fn write_crawler(out: &mut Lines<'_>, audit: &Audit<'_>, agent: &AgentAudit<'_>)
 }
 
 /// Writes about each crawler, or if `denied_only` is true about each that has verdicts or a rejected file.
-pub(crate) fn write_crawlers(out: &mut Lines<'_>, denied_only: bool, audit: &Audit<'_>) {
+pub(crate) fn write_crawlers(out: &mut Lines<'_>, denied_only: bool, by: &str, audit: &Audit<'_>) {
     for agent in &audit.agents {
-        if !denied_only || agent.rejected.is_some() || !agent.verdicts.is_empty() {
-            write_crawler(out, audit, agent);
+        if !denied_only || rejection_of(agent).is_some() || !agent.verdicts.is_empty() {
+            write_crawler(out, by, audit, agent);
         }
-        out.rejected(agent.agent, agent.rejected);
+        out.rejected(agent);
     }
     for agent in &audit.agents {
-        write_verdicts(out, Some(agent.agent), &agent.verdicts);
+        write_verdicts(out, by, Some(agent.agent), agent);
     }
 }

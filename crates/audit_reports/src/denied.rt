@@ -1,5 +1,7 @@
-//! Which URLs a report lists, and how many are allowed and denied.
-use audit_core::audit::{AgentAudit, Audit};
+//! Which URLs a report lists, and how many are allowed and denied. A URL is denied if one of the readings
+//! denies it.
+use audit_core::audit::{AgentAudit, Audit, Verdict};
+use audit_core::texts::other_decision;
 
 /// The numbers for all crawlers together.
 #[derive(Clone, Copy)]
@@ -8,18 +10,22 @@ pub struct Totals {
     pub denied: usize,
 }
 
+fn is_denied(verdict: &Verdict<'_>) -> bool {
+    !verdict.decision.allowed || other_decision(verdict).is_some()
+}
+
 /// The audit, or if `denied_only` is true the audit with the denied URLs alone.
 pub fn shown<'a>(denied_only: bool, audit: Audit<'a>) -> Audit<'a> {
     let mut reported = audit;
     if denied_only {
         for agent in reported.agents.iter_mut() {
-            agent.verdicts.retain(|verdict| !verdict.decision.allowed);
+            agent.verdicts.retain(|verdict| is_denied(verdict));
         }
     }
     reported
 }
 
-/// How many verdicts allow and deny, for all of these crawlers.
+/// How many URLs are allowed and denied, for all of these crawlers.
 pub fn totals_of(agents: &[AgentAudit<'_>]) -> Totals {
     let mut totals = Totals {
         allowed: 0,
@@ -27,10 +33,10 @@ pub fn totals_of(agents: &[AgentAudit<'_>]) -> Totals {
     };
     for agent in agents {
         for verdict in &agent.verdicts {
-            if verdict.decision.allowed {
-                totals.allowed = totals.allowed.saturating_add(1);
-            } else {
+            if is_denied(verdict) {
                 totals.denied = totals.denied.saturating_add(1);
+            } else {
+                totals.allowed = totals.allowed.saturating_add(1);
             }
         }
     }

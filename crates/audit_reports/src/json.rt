@@ -3,11 +3,13 @@ ghost use Rattle.std.specs.Prelude.{IfOk, string_bytes};
 ghost use Rattle.safe_output.specs.Text.{IsReport};
 
 use crate::object::Object;
-use audit_core::audit::{AgentAudit, Audit, Verdict};
+use audit_core::audit::{AgentAudit, Audit, Verdict, rejects_some};
 use audit_core::findings::{Finding, sanitized, warnings_found};
 use audit_core::group::{AtVendor, Group};
 use audit_core::rows::{comment_of, field_text, membership_word};
 use audit_core::sitemaps::sitemaps_of;
+use audit_core::standard::Alike;
+use audit_core::syntax::has_standard_verdicts;
 use audit_core::texts::may_fetch;
 use rfc9309::conformance::Conformance;
 use safe_output::report::Report;
@@ -17,6 +19,7 @@ use std::fmt;
 use std::fmt::Write;
 use texting_robots::labels::LabeledLine;
 use texting_robots::parser::Line;
+use texting_robots::robot::Decision;
 
 /// A value with a JSON form.
 pub(crate) trait Json {
@@ -51,11 +54,23 @@ fn text_json(alloc: Global, bytes: &[u8]) -> Result<Value, AllocError> {
     }
 }
 
+/// RFC 9309's decision; null if there is none.
+fn decision_json(alloc: Global, decision: Option<Decision>) -> Result<Value, AllocError> {
+    let Some(decision) = decision else {
+        return Ok(Value::Null);
+    };
+    let object = Object::new(alloc)
+        .with("allowed", Ok(Value::Bool(decision.allowed)))?
+        .with("line", Ok(Value::from(decision.line)))?;
+    Ok(object.value())
+}
+
 impl<'a> Json for Verdict<'a> {
     fn json(&self, alloc: Global) -> Result<Value, AllocError> {
         let object = Object::new(alloc)
             .with("allowed", Ok(Value::Bool(self.decision.allowed)))?
             .with("line", Ok(Value::from(self.decision.line)))?
+            .with("rfc_9309", decision_json(alloc, self.standard))?
             .with("url", sanitized_json(alloc, self.url.as_bytes()))?;
         Ok(object.value())
     }
@@ -92,15 +107,28 @@ fn group_json(alloc: Global, audit: &AgentAudit<'_>) -> Result<Value, AllocError
     Ok(object.value())
 }
 
+/// What RFC 9309 says of the file for the crawler. User-agent lines are the same for it.
+fn standard_json(alloc: Global, audit: &AgentAudit<'_>) -> Result<Value, AllocError> {
+    let standard = &audit.standard;
+    let fetched = may_fetch(standard.rejected, standard.reach);
+    let object = Object::new(alloc)
+        .with("group_line", Ok(Value::from(audit.group_line)))?
+        .with("may_fetch", optional_json(alloc, fetched))?
+        .with("rejected_line", Ok(Value::from(standard.rejected)))?
+        .with("rules", Ok(Value::from(standard.rules)))?;
+    Ok(object.value())
+}
+
 impl<'a> Json for AgentAudit<'a> {
     fn json(&self, alloc: Global) -> Result<Value, AllocError> {
-        let fetched = may_fetch(self.rejected, self.vendor, self.reach);
+        let fetched = may_fetch(self.rejected, self.reach);
         let object = Object::new(alloc)
             .with("agent", sanitized_json(alloc, self.agent.as_bytes()))?
             .with("delay_microseconds", Ok(Value::from(self.delay)))?
             .with("group", group_json(alloc, self))?
             .with("may_fetch", optional_json(alloc, fetched))?
             .with("rejected_line", Ok(Value::from(self.rejected)))?
+            .with("rfc_9309", standard_json(alloc, self))?
             .with("rules", Ok(Value::from(self.rules)))?
             .text("vendor_group", vendor_word(self.vendor))?
             .with("verdicts", list_json(alloc, &self.verdicts))?;
@@ -164,12 +192,22 @@ fn rows_json(
     }
 }
 
-/// The line that keeps a file from the standard's grammar, or else from verdicts that are the standard's.
-fn other_line_json(syntax: Conformance) -> Value {
-    match syntax {
-        Conformance::OtherLine(line) | Conformance::Syntax(line) => Value::from(line),
-        Conformance::OtherFile | Conformance::Verdicts => Value::Null,
+/// The first line that isn't in the standard's grammar; or else, of the first crawler for which verdicts
+/// aren't the standard's, the line because of which.
+fn other_line(audit: &Audit<'_>) -> Option<usize> {
+    if let Conformance::OtherLine(line) = audit.syntax {
+        return Some(line);
     }
+    for agent in &audit.agents {
+        let line = match agent.standard.alike {
+            Alike::No(line) => Some(line),
+            Alike::Yes | Alike::Unknown => agent.rejected,
+        };
+        if line.is_some() && audit.syntax.has_syntax() {
+            return line;
+        }
+    }
+    None
 }
 
 /// `found` are the warnings.
@@ -179,18 +217,18 @@ fn audit_json(
     audit: &Audit<'_>,
     found: &[Finding],
 ) -> Result<Value, AllocError> {
-    let syntax = audit.syntax;
     let sitemaps = sitemaps_of(alloc, &audit.labels)?;
+    let has_verdicts = has_standard_verdicts(audit) && !rejects_some(&audit.agents);
     let object = Object::new(alloc)
         .with("agents", list_json(alloc, &audit.agents))?
         .with("findings", list_json(alloc, found))?
-        .with("has_rfc_9309_syntax", Ok(Value::Bool(syntax.has_syntax())))?
         .with(
-            "has_rfc_9309_verdicts",
-            Ok(Value::Bool(syntax.has_verdicts())),
+            "has_rfc_9309_syntax",
+            Ok(Value::Bool(audit.syntax.has_syntax())),
         )?
+        .with("has_rfc_9309_verdicts", Ok(Value::Bool(has_verdicts)))?
         .with("lines", rows_json(alloc, has_rows, &audit.labels))?
-        .with("rfc_9309_line", Ok(other_line_json(syntax)))?
+        .with("rfc_9309_line", Ok(Value::from(other_line(audit))))?
         .with("sitemaps", list_json(alloc, &sitemaps))?;
     Ok(object.value())
 }

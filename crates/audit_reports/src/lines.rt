@@ -1,5 +1,6 @@
 //! Lines of a report, written piece by piece.
-use audit_core::texts::write_rejected;
+use audit_core::audit::AgentAudit;
+use audit_core::texts::rejection_of;
 use safe_output::level::Level;
 use safe_output::report::Report;
 use std::fmt;
@@ -41,8 +42,10 @@ impl<'a> Lines<'a> {
         self.has_failed |= self.report.level(level).is_err();
     }
 
-    /// Writes that the file is rejected, if it is.
-    pub(crate) fn rejected(&mut self, agent: &str, rejected: Option<usize>) {
-        self.has_failed |= write_rejected(self.report, agent, rejected).is_err();
+    /// Writes that the file is rejected for the crawler, if it is.
+    pub(crate) fn rejected(&mut self, audit: &AgentAudit<'_>) {
+        if let Some(rejected) = rejection_of(audit) {
+            self.line(rejected);
+        }
     }
 }

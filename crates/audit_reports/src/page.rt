@@ -12,11 +12,12 @@ use audit_core::audit::Audit;
 use audit_core::joined::in_order;
 use audit_core::request::Request;
 use audit_core::sitemaps::sitemaps_of;
-use audit_core::syntax::{Standard, has_directive};
+use audit_core::syntax::{OtherSyntax, ReadAlike, has_directive, is_reading_told, other_readers};
 use audit_core::together::{Together, keep_shown, needless_lines};
 use audit_core::version::VERSION;
 use elements::{Page, put_text};
 use file::{write_file_table, write_sitemap_entry};
+use rfc9309::conformance::Conformance;
 use robots_warnings::table::Cause;
 use robots_warnings::warning::Warning;
 use safe_output::report::Named;
@@ -79,6 +80,23 @@ fn write_file_entry(page: &mut Page, name: &str) {
     page.close();
 }
 
+/// Which line isn't in the standard's grammar, and whether the standard reads the file alike.
+fn write_standard(page: &mut Page, audit: &Audit<'_>) {
+    if !has_directive(&audit.labels) {
+        return;
+    }
+    if let Conformance::OtherLine(line) = audit.syntax {
+        page.entry("Syntax", OtherSyntax(line));
+    }
+    if is_reading_told(audit) {
+        let alike = ReadAlike(&audit.agents);
+        page.element("dt", "RFC 9309");
+        page.open("dd");
+        put_text!(page, "{alike}");
+        page.close();
+    }
+}
+
 fn write_summary(
     alloc: Global,
     page: &mut Page,
@@ -93,11 +111,10 @@ fn write_summary(
         page.entry("Date", Named(date));
     }
     write_warning_entry(alloc, page, request, audit, together, shown)?;
-    write_crawler_entries(page, request.agent, &audit.agents);
+    let by = other_readers(&audit.labels);
+    write_crawler_entries(page, request.agent, by, &audit.agents);
     write_sitemap_entry(page, &sitemaps_of(alloc, &audit.labels)?);
-    if has_directive(&audit.labels) {
-        page.entry("Syntax", Standard(audit.syntax));
-    }
+    write_standard(page, audit);
     page.close();
     Ok(())
 }
@@ -125,7 +142,8 @@ fn write_body(
     }
     page.element("h1", title);
     write_summary(alloc, page, request, audit, together, &shown)?;
-    write_verdict_part(page, request.agent, &request.urls, &audit.agents);
+    let by = other_readers(&audit.labels);
+    write_verdict_part(page, request.agent, by, &request.urls, &audit.agents);
     write_file_table(page, request.agent, &audit.labels, together, &shown);
     page.open("footer");
     put_text!(page, "robots_audit {VERSION}");

@@ -6,9 +6,9 @@ pub(crate) type Named = (&'static str, &'static str);
 #[rattlefmt::skip]
 static THEOREMS: [(&str, &str); 17] = [
     ("closed-site",
-        "each path is denied to the crawler, if the file isn't rejected for it, unless it begins with /robots.txt or with the path of a sitemap, or an Allow matches it that is /$, ends, but for *, $ and ?, as a static file does (.css, .js, .txt, .xml, .json, a picture or a font), or begins with /.well-known or /sitemap (theorem closed_site)"),
+        "if the message names no reading, each path is denied to the crawler, if the file isn't rejected for it, unless it begins with /robots.txt or with the path of a sitemap, or an Allow matches it that is /$, ends, but for *, $ and ?, as a static file does (.css, .js, .txt, .xml, .json, a picture or a font), or begins with /.well-known or /sitemap (theorem closed_site)"),
     ("url-not-normal",
-        "without this note the path and the query that are compared are the normal form of what is written, so the sentence about verdicts applies (theorem url_not_normal)"),
+        "without this note the path and the query that are compared are the normal form of what is written, so what the report says of RFC 9309's reading applies (theorem url_not_normal)"),
     ("hash-in-rule", "as an error: what is left of the rule matches every path (theorem hash_in_rule)"),
     ("rule-not-utf-8", "no crawler has the rule (theorem rule_not_utf_8)"),
     ("missing-slash", "such a rule matches nothing that starts with / (theorem missing_slash)"),

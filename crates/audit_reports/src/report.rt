@@ -1,5 +1,5 @@
 //! The audit as lines of text, and the warnings.
-use crate::crawlers::{write_crawlers, write_wrong};
+use crate::crawlers::{Otherwise, is_fetch_told, write_crawlers, write_wrong};
 use crate::denied::Totals;
 use crate::lines::Lines;
 use crate::listed::{More, listing_of};
@@ -8,10 +8,9 @@ use audit_core::audit::{AgentAudit, Audit};
 use audit_core::counts::counts_of;
 use audit_core::group::Group;
 use audit_core::joined::{AlsoIn, in_order, shared_lines};
-use audit_core::reach::Reach;
 use audit_core::request::Request;
 use audit_core::rows::write_rows;
-use audit_core::syntax::{Standard, has_directive};
+use audit_core::syntax::{OtherSyntax, ReadAlike, is_reading_told, other_readers};
 use audit_core::texts::{Applied, Delayed, Elsewhere, Fetched};
 use audit_core::together::{Message, Together, keep_shown, needless_lines};
 use rfc9309::conformance::Conformance;
@@ -22,14 +21,7 @@ use std::alloc::Global;
 use std::fmt;
 use std::fmt::Write;
 
-fn write_fetched(out: &mut Lines<'_>, audit: &AgentAudit<'_>) {
-    if audit.reach != Reach::Part {
-        let fetched = Fetched(audit.reach, &audit.allows);
-        out.line(format_args!("may fetch: {fetched}"));
-    }
-}
-
-fn write_agent(out: &mut Lines<'_>, is_quiet: bool, audit: &AgentAudit<'_>) {
+fn write_agent(out: &mut Lines<'_>, is_quiet: bool, by: &str, audit: &AgentAudit<'_>) {
     let (applied, elsewhere, delayed) = (Applied(audit), Elsewhere(audit), Delayed(audit));
     write!(out, "group: {applied}{elsewhere}");
     if audit.group != Group::Star {
@@ -37,29 +29,32 @@ fn write_agent(out: &mut Lines<'_>, is_quiet: bool, audit: &AgentAudit<'_>) {
     }
     out.end_line();
     out.line(format_args!("delay: {delayed}"));
-    if !is_quiet {
-        write_fetched(out, audit);
+    if !is_quiet && is_fetch_told(audit) {
+        let (fetched, otherwise) = (Fetched(audit.reach, &audit.allows), Otherwise(by, audit));
+        out.line(format_args!("may fetch: {fetched}{otherwise}"));
     }
-    out.rejected(audit.agent, audit.rejected);
-    write_verdicts(out, None, &audit.verdicts);
+    out.rejected(audit);
+    write_verdicts(out, by, None, audit);
 }
 
 fn write_agents(out: &mut Lines<'_>, request: &Request<'_>, audit: &Audit<'_>) {
+    let by = other_readers(&audit.labels);
     if request.agent.is_none() {
-        write_crawlers(out, request.is_denied_only, audit);
+        write_crawlers(out, request.is_denied_only, by, audit);
         return;
     }
     for agent in &audit.agents {
-        write_agent(out, !request.has_rows(), agent);
+        write_agent(out, !request.has_rows(), by, agent);
     }
 }
 
-/// Writes whether the file is in the standard's grammar; nothing of a file that only has comments.
-fn write_syntax(out: &mut Lines<'_>, audit: &Audit<'_>) {
-    match audit.syntax {
-        Conformance::OtherFile => {}
-        Conformance::Verdicts if !has_directive(&audit.labels) => {}
-        _ => out.line(Standard(audit.syntax)),
+/// Writes which line isn't in the standard's grammar, and whether the standard reads the file alike.
+fn write_standard(out: &mut Lines<'_>, audit: &Audit<'_>) {
+    if let Conformance::OtherLine(line) = audit.syntax {
+        out.line(OtherSyntax(line));
+    }
+    if is_reading_told(audit) {
+        out.line(ReadAlike(&audit.agents));
     }
 }
 
@@ -73,7 +68,7 @@ pub fn write_report(out: &mut Report, request: &Request<'_>, audit: &Audit<'_>) 
         has_failed: false,
     };
     write_agents(&mut lines, request, audit);
-    write_syntax(&mut lines, audit);
+    write_standard(&mut lines, audit);
     lines.finish()
 }
 

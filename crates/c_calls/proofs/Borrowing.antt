@@ -1,11 +1,11 @@
 -- Borrowing what C keeps: calls, and what they lend.
 use Rattle.std.proofs.Common.{◌<◌, ◌^◌, Bool, ℤ, sym, subst, Bor, ◌++◌}
-use Rattle.c_calls.specs.File.{IsRobotFor, IsRobotOfSomeFile, bytes_read}
+use Rattle.c_calls.specs.File.{IsRobotFor, IsRobotOfSomeFile, site_of}
 use Rattle.c_calls.specs.Kept.{Robots, Sites, opened_at, owned_at, owned_or_null}
 use Rattle.std.specs.contracts.alloc.Global as Global
 use Rattle.std.proofs.alloc.Global.TheLaws as Global-laws
-use Rattle.texting_robots.proofs.robot.Robot.TheLaws as Robot-laws
-use Rattle.texting_robots.proofs.site.Site.TheLaws as Site-laws
+use Rattle.c_calls.proofs.reading.OpenRobot.TheLaws as Robot-laws
+use Rattle.c_calls.proofs.reading.OpenSite.TheLaws as Site-laws
 use Rattle.c_calls.specs.Kept as kept
 use denote.SharingLaws.{contraction}
 use denote.Struct.Lending.{lent_at_shr_laws}
@@ -431,6 +431,6 @@ module _ {M : Type 1} {𝓤 : Ura M} (𝓛 : Logic 𝓤) where
   sites_lent_to_two_calls = lent_twice Sites Site-laws.the_row_laws
 
 -- and such a robot is one that the calls take
-pub calls_take_it : (agent file : List ℕ) (x : Robots.Denot) → IsRobotFor agent (bytes_read file) x
-    → IsRobotOfSomeFile x
-calls_take_it agent file x is = (agent, file, is.1)
+pub calls_take_it : (by_rfc9309 : Bool) (agent file : List ℕ) (x : Robots.Denot)
+    → IsRobotFor agent (site_of by_rfc9309 file) x → IsRobotOfSomeFile x
+calls_take_it by_rfc9309 agent file x is = (agent, site_of by_rfc9309 file, (by_rfc9309, file, refl), is.1)

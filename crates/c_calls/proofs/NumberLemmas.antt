@@ -7,20 +7,24 @@ use Rattle.std.specs.{Result.IsErrAnd, List.AllZip, List.All, List.list_any, Str
 use Rattle.std.proofs.lemmas.{Int.to_z-of_z, Option.slice_get_within, Slice.Zip.AllZip-long}
 use Rattle.std.proofs.lemmas.List.{length-map, length-take, take_more, append_assoc, length-append}
 use Rattle.std.proofs.lemmas.List.{length-replicate, map_push}
-use Rattle.texting_robots.specs.Callers.{HasLines, IsDecidingLine, IsRobotWithoutSitemaps, IsVerdict}
-use Rattle.texting_robots.specs.Callers.{LineValue, PlacedRule, RobotValue, file_limit, file_lines, nul_as_lf}
-use Rattle.texting_robots.specs.Callers.{lines_read, unplaced, IsCaptured, IsRejected, IsRobotOf, group_name}
-use Rattle.texting_robots.specs.Callers.{IsRejectionOf, is_agent_named, is_named, prepared}
+use Rattle.texting_robots.specs.Callers.{HasLines, IsCaptured, IsDecidingLine, IsRejected, IsRejectionOf}
+use Rattle.texting_robots.specs.Callers.{IsRobotOf, IsRobotWithoutSitemaps, IsVerdict, LineValue, PlacedRule}
+use Rattle.texting_robots.specs.Callers.{RobotValue, file_bodies, file_limit, file_lines, group_name}
+use Rattle.texting_robots.specs.Callers.{is_agent_named, is_named, nul_as_lf, unplaced}
+use Rattle.texting_robots.specs.{Internal.Line.line_of}
 use Rattle.texting_robots.specs.declared.error.RobotError.{RobotError}
 use Rattle.texting_robots.specs.declared.error.RobotError.TheVariants as rejection
-use Rattle.texting_robots.proofs.Shared.{deciding_line_holds_its_rule, parsed_within, each_text_has_its_lines}
-use Rattle.texting_robots.proofs.Shared.{same_group_robot, no_line_allows, lines_satisfy, read_robot}
-use Rattle.texting_robots.proofs.Shared.{has_lines}
-use Rattle.c_calls.specs.{File.IsRobotOfSomeFile, File.IsSiteOfSomeFile, Verdicts.IsRow, Verdicts.LinesFit}
+use Rattle.texting_robots.proofs.Shared.{deciding_line_holds_its_rule, each_text_has_its_lines, has_lines}
+use Rattle.texting_robots.proofs.Shared.{lines_satisfy, no_line_allows, parsed_within, same_group_robot}
+use Rattle.rfc9309.specs.StandardReading.{entries_in, entry_of, from_first_token}
+use Rattle.rfc9309.proofs.TextLemmas.{text_read, value_for}
+use Rattle.rfc9309.specs.Rfc9309 as rfc
+use Rattle.c_calls.specs.File.{HasFewLines, IsRobotOfSomeFile, bytes_read, read_text, site_of}
+use Rattle.c_calls.specs.{Batch.Ascend, Batch.pieces, Verdicts.IsRow, Verdicts.LinesFit}
+use Rattle.c_calls.specs.{declared.reading.OpenRobot.OpenRobot}
 use Rattle.c_calls.specs.Status.{IsWhyNoRobot, IsWhyNoVerdict, error_of}
 use Rattle.c_calls.specs.Verdicts.{IsVerdictOn, number_of, HasVerdict, AreRows, items_in, no_verdict}
 use Rattle.std.proofs.lemmas.List.Elements.{All-cons, All-head, All-tail}
-use Rattle.c_calls.specs.Batch.{Ascend, pieces}
 use Rattle.c_calls.specs.declared.error.Error.{Error, TheVariants.Memory, TheVariants.NotUtf8}
 
 -- ---- A number encodes a verdict and its deciding line, and it fits in an `i64`.
@@ -32,12 +36,6 @@ zip_append R [] more (y ∷ ys) others are too = absurd are
 zip_append R (x ∷ xs) more [] others are too = absurd are
 zip_append R (x ∷ xs) more (y ∷ ys) others (first, later) too =
     (first, zip_append R xs more ys others later too)
-
-pub one_more : {A B : Type 0} (R : A → B → Type 0) (xs : List A) (at : ℕ) (x : A) (ys : List B) (y : B)
-    → (at < length xs) × (x ≡ slice_index_or xs at x)
-    → AllZip R (take at xs) ys → R x y → AllZip R (take (at + 1) xs) (ys ++ y ∷ [])
-one_more R xs at x ys y (below, here) are is =
-    rw (take_more xs at x below) (zip_append R _ _ ys (y ∷ []) are (subst (λ x. R x y) here is, tt))
 
 pub by_lines : (site : List ℕ) (P : List LineValue → Type 0) → HasLines site P → P (file_lines site)
 by_lines site P is =
@@ -53,22 +51,40 @@ why_rejected (Err error) agent site rejection.Memory same utf8 is = rw same utf8
 lines_counted : (text : List ℕ) → length (file_lines text) ≤ length text
 lines_counted text = omega (arith, parsed_within (map nul_as_lf text), length-map text nul_as_lf)
 
-pub few_lines : (file : List ℕ) → length (lines_read file) ≤ file_limit
-few_lines file = omega (arith, lines_counted (take file_limit file), length-take file_limit file)
+as_many_entries : (entries : List rfc.Entry) → length (from_first_token entries) ≡ length entries
+as_many_entries [] = refl
+as_many_entries (rfc.Agent token ∷ entries) = refl
+as_many_entries (_ ∷ entries) = omega (arith, as_many_entries entries)
 
-pub lines_fit : (robot : RobotValue) → IsRobotOfSomeFile robot → LinesFit robot.rules
-lines_fit robot (agent, file, (none, sitemaps, of)) text line decides =
-    let lines = lines_read file in
-    let is = read_robot agent file _ of in
+few_of_file : (file : List ℕ) → HasFewLines (bytes_read file)
+few_of_file file = omega (arith, lines_counted (bytes_read file), length-take file_limit file)
+
+pub few_lines : (by_rfc9309 : Bool) (file : List ℕ) → HasFewLines (read_text (site_of by_rfc9309 file))
+few_lines false file = few_of_file file
+few_lines true file =
+    -- the text has one line for each line of the file
+    let read = bytes_read file in
+    omega (
+      arith,
+      ap length (text_read read) ∙ length-map (from_first_token (entries_in read)) value_for,
+      as_many_entries (entries_in read) ∙ length-map (file_bodies read) entry_of,
+      length-map (file_bodies read) line_of,
+      few_of_file file,
+    )
+
+pub text_lines_fit : (text agent : List ℕ) (robot : RobotValue) → HasFewLines text
+    → IsRobotWithoutSitemaps agent text robot → LinesFit robot.rules
+text_lines_fit text agent robot few (none, sitemaps, of) target line decides =
+    let lines = file_lines text in
+    let is = by_lines text (λ lines. IsRobotOf agent lines _) of in
     let (placed, deciding, at, place, number, held) =
-    deciding_line_holds_its_rule agent lines robot.rules text line is.rules decides in
+    deciding_line_holds_its_rule agent lines robot.rules target line is.rules decides in
     let below : place < length lines = slice_get_within lines place _ held.line.0 in
-    (omega (arith, number), omega (arith, number, below, few_lines file))
+    (omega (arith, number), omega (arith, number, below, few))
 
-pub site_lines_fit : (site agent : List ℕ) (robot : RobotValue) → IsSiteOfSomeFile site
-    → IsRobotWithoutSitemaps agent site robot → LinesFit robot.rules
-site_lines_fit site agent robot (file, is) of =
-    lines_fit robot (agent, file, subst (λ site. IsRobotWithoutSitemaps agent site robot) is of)
+pub lines_fit : (robot : OpenRobot) → IsRobotOfSomeFile robot → LinesFit robot.robot.rules
+lines_fit robot (agent, site, (by_rfc9309, file, same), is) =
+    text_lines_fit (read_text site) agent robot.robot (rw same (few_lines by_rfc9309 file)) is.rules
 
 -- ---- The number encodes the decision.
 
@@ -125,28 +141,28 @@ pub not_utf8 : (text ends : List ℕ) (start end : ℕ) (left : List ℕ) → Sa
 not_utf8 text ends start end left same refused whole = refused (All-head IsUtf8 _ _ (same.these whole))
 
 -- with the verdicts for the URLs that are left, they are the verdicts for all URLs
-pub record SoFar (rules : List PlacedRule) (text ends : List ℕ) (start : ℕ) (left : List ℕ)
+pub record SoFar (robot : OpenRobot) (text ends : List ℕ) (start : ℕ) (left : List ℕ)
     (numbers : List ℤ) : Type 0 where
   pub ascend : Ascend start left (length text)
   pub utf8 : All IsUtf8 (pieces text start left)
-  pub verdicts : (later : List ℤ) → AllZip (HasVerdict rules) (pieces text start left) later
-      → AllZip (HasVerdict rules) (pieces text 0 ends) (numbers ++ later)
+  pub verdicts : (later : List ℤ) → AllZip (HasVerdict robot) (pieces text start left) later
+      → AllZip (HasVerdict robot) (pieces text 0 ends) (numbers ++ later)
 
-pub one_more_end : (rules : List PlacedRule) (text ends : List ℕ) (start end : ℕ) (left : List ℕ)
-    (numbers : List ℤ) (number : ℤ) → SoFar rules text ends start (end ∷ left) numbers
-    → HasVerdict rules (take (end - start) (drop start text)) number
-    → SoFar rules text ends end left (numbers ++ number ∷ [])
-one_more_end rules text ends start end left numbers number so has = record {
+pub one_more_end : (robot : OpenRobot) (text ends : List ℕ) (start end : ℕ) (left : List ℕ)
+    (numbers : List ℤ) (number : ℤ) → SoFar robot text ends start (end ∷ left) numbers
+    → HasVerdict robot (take (end - start) (drop start text)) number
+    → SoFar robot text ends end left (numbers ++ number ∷ [])
+one_more_end robot text ends start end left numbers number so has = record {
   ascend = so.ascend.2;
   utf8 = All-tail IsUtf8 _ _ so.utf8;
-  verdicts = λ later are. subst (AllZip (HasVerdict rules) (pieces text 0 ends))
+  verdicts = λ later are. subst (AllZip (HasVerdict robot) (pieces text 0 ends))
       (sym (append_assoc numbers (number ∷ []) later)) (so.verdicts (number ∷ later) (has, are));
 }
 
-pub all_so_far : (rules : List PlacedRule) (text ends : List ℕ) (start : ℕ) (numbers : List ℤ)
-    → SoFar rules text ends start [] numbers → AllZip (HasVerdict rules) (pieces text 0 ends) numbers
-all_so_far rules text ends start numbers so =
-    subst (AllZip (HasVerdict rules) (pieces text 0 ends)) (append-nil numbers) (so.verdicts [] tt)
+pub all_so_far : (robot : OpenRobot) (text ends : List ℕ) (start : ℕ) (numbers : List ℤ)
+    → SoFar robot text ends start [] numbers → AllZip (HasVerdict robot) (pieces text 0 ends) numbers
+all_so_far robot text ends start numbers so =
+    subst (AllZip (HasVerdict robot) (pieces text 0 ends)) (append-nil numbers) (so.verdicts [] tt)
 
 pub count_pieces : (text : List ℕ) (start : ℕ) (ends : List ℕ) → length (pieces text start ends) ≡ length ends
 count_pieces text start [] = refl
@@ -160,20 +176,19 @@ only_memory url _ is why = absurd why
 -- ---- The rows of the verdicts of many crawlers.
 
 pub one_more_mapped : {A B C : Type 0} (f : A → C) (g : B → C) (xs : List A) (at : ℕ) (x : A) (ys : List B)
-    (y : B) → (at < length xs) × (x ≡ slice_index_or xs at x) → map g ys ≡ map f (take at xs) → g y ≡ f x
+    (y : B) → at < length xs → map g ys ≡ map f (take at xs) → g y ≡ f (slice_index_or xs at x)
     → map g (ys ++ y ∷ []) ≡ map f (take (at + 1) xs)
-one_more_mapped f g xs at x ys y (below, here) are is =
-    let last : g y ≡ f (slice_index_or xs at x) = is ∙ ap f here in
+one_more_mapped f g xs at x ys y below are is =
     map_push g ys y
-    ∙ ap (λ zs. zs ++ g y ∷ []) are ∙ ap (λ z. map f (take at xs) ++ z ∷ []) last
+    ∙ ap (λ zs. zs ++ g y ∷ []) are ∙ ap (λ z. map f (take at xs) ++ z ∷ []) is
     ∙ sym (ap (map f) (take_more xs at x below) ∙ map_push f (take at xs) (slice_index_or xs at x))
 
 pub one_more_target : {A B C : Type 0} (R : C → B → Type 0) (f : A → C) (xs : List A) (at : ℕ) (x : A)
-    (ys : List B) (y : B) → (at < length xs) × (x ≡ slice_index_or xs at x)
-    → AllZip R (map f (take at xs)) ys → R (f x) y → AllZip R (map f (take (at + 1) xs)) (ys ++ y ∷ [])
-one_more_target R f xs at x ys y (below, here) are is =
+    (ys : List B) (y : B) → at < length xs → AllZip R (map f (take at xs)) ys
+    → R (f (slice_index_or xs at x)) y → AllZip R (map f (take (at + 1) xs)) (ys ++ y ∷ [])
+one_more_target R f xs at x ys y below are is =
     rw (take_more xs at x below, map_push f (take at xs) (slice_index_or xs at x))
-    (zip_append R _ _ ys (y ∷ []) are (subst (λ z. R (f z) y) here is, tt))
+    (zip_append R _ _ ys (y ∷ []) are (is, tt))
 
 rows_append : (site : List ℕ) (targets : List (List ℕ)) (agents more : List (List ℕ)) (rows others : List ℤ)
     → AreRows site targets agents rows → AreRows site targets more others
@@ -187,19 +202,14 @@ rows_append site targets (agent ∷ agents) more rows others (row, later, is, ar
   rw whole (append_assoc row later others),
 )
 
-pub one_more_row : (site : List ℕ) (targets agents : List (List ℕ)) (at : ℕ) (agent : List ℕ)
-    (rows row : List ℤ) → (at < length agents) × (agent ≡ slice_index_or agents at agent)
-    → AreRows site targets (take at agents) rows → IsRow site targets agent row
-    → AreRows site targets (take (at + 1) agents) (rows ++ row)
-one_more_row site targets agents at agent rows row (below, here) are is =
-    rw (take_more agents at agent below)
-    (rows_append site targets _ _ rows row are (
-      row,
-      [],
-      subst (λ a. IsRow site targets a row) here is,
-      refl,
-      sym (append-nil row),
-    ))
+pub one_more_row : {X : Type 0} (site : List ℕ) (targets : List (List ℕ)) (f : X → List ℕ) (agents : List X)
+    (at : ℕ) (agent : X) (rows row : List ℤ) → at < length agents
+    → AreRows site targets (map f (take at agents)) rows
+    → IsRow site targets (f (slice_index_or agents at agent)) row
+    → AreRows site targets (map f (take (at + 1) agents)) (rows ++ row)
+one_more_row site targets f agents at agent rows row below are is =
+    rw (take_more agents at agent below, map_push f (take at agents) (slice_index_or agents at agent))
+    (rows_append site targets _ _ rows row are (row, [], is, refl, sym (append-nil row)))
 
 row_length : (site : List ℕ) (targets : List (List ℕ)) (agent : List ℕ) (row : List ℤ)
     → IsRow site targets agent row → length row ≡ length targets
@@ -219,12 +229,13 @@ rows_length site targets (agent ∷ agents) numbers (row, later, is, are, whole)
       rows_length site targets agents later are,
     )
 
-pub as_many_rows : (site : List ℕ) (targets : List (List ℕ)) (agents urls : List ℕ) (numbers : List ℤ)
-    → AreRows site targets (items_in agents) numbers → targets ≡ map prepared (items_in urls)
+pub as_many_rows : (site : List ℕ) (target : List ℕ → List ℕ) (targets : List (List ℕ)) (agents urls : List ℕ)
+    (numbers : List ℤ) → AreRows site targets (items_in agents) numbers
+    → targets ≡ map target (items_in urls)
     → length numbers ≡ length (items_in agents) * length (items_in urls)
-as_many_rows site targets agents urls numbers are prepared_are =
+as_many_rows site target targets agents urls numbers are targets_are =
     rows_length site targets (items_in agents) numbers are
-    ∙ ap (λ n. length (items_in agents) * n) (ap length prepared_are ∙ length-map (items_in urls) prepared)
+    ∙ ap (λ n. length (items_in agents) * n) (ap length targets_are ∙ length-map (items_in urls) target)
 
 abbrev star : List ℕ
 star = codes "*"

@@ -2,9 +2,8 @@
 use Rattle.std.specs.Prelude.{ℕ, ◌-◌, ◌<◌, ◌≤◌, ℤ, Bool, true, false, IsUtf8, List, [], ◌∷◌, drop}
 use Rattle.std.specs.Prelude.{length, take}
 use Rattle.std.specs.List.{All, AllZip}
-use Rattle.texting_robots.specs.{Callers.PlacedRule}
 use Rattle.c_calls.specs.{Verdicts.HasVerdict, Verdicts.HasVerdicts, Status.IsWhyNoVerdicts}
-use Rattle.c_calls.specs.{declared.error.Error.Error}
+use Rattle.c_calls.specs.{declared.error.Error.Error, declared.reading.OpenRobot.OpenRobot}
 use Rattle.c_calls.specs.declared.error.Error.TheVariants.{BufferTooSmall, InvalidEnds, Memory, NotUtf8}
 
 -- the parts of the text that end at these places, the first from `start` on
@@ -18,10 +17,10 @@ Ascend least [] limit = Unit {0}
 Ascend least (end ∷ ends) limit = (least ≤ end) × (end ≤ limit) × Ascend end ends limit
 
 -- the verdicts for the URLs that end at these places, or else for those that LFs separate
-abbrev pub AreVerdicts : List PlacedRule → List ℕ → List ℕ → Bool → List ℤ → Type 0
-AreVerdicts rules text ends true numbers =
-    Ascend 0 ends (length text) × AllZip (HasVerdict rules) (pieces text 0 ends) numbers
-AreVerdicts rules text ends false numbers = HasVerdicts rules text numbers
+abbrev pub AreVerdicts : OpenRobot → List ℕ → List ℕ → Bool → List ℤ → Type 0
+AreVerdicts robot text ends true numbers =
+    Ascend 0 ends (length text) × AllZip (HasVerdict robot) (pieces text 0 ends) numbers
+AreVerdicts robot text ends false numbers = HasVerdicts robot text numbers
 
 -- the places are checked first, then the URLs, then the capacity, and then an allocation can fail
 abbrev pub IsWhyNone : List ℕ → List ℕ → Bool → ℕ → Error → Type 0

@@ -8,8 +8,8 @@ use denote.Struct.Lending.{lent_at}
 use Rattle.std.specs.{Ptr.if_non_null, declared.alloc.Global.Global}
 use Rattle.std.specs.contracts.impls.GlobalAllocator.{TheImpl.ghosts}
 use Rattle.std_alloc.specs.Box.{Ownership.box_owns}
-use Rattle.texting_robots.specs.contracts.robot.Robot as Robot-type
-use Rattle.texting_robots.specs.contracts.site.Site as Site-type
+use Rattle.c_calls.specs.contracts.reading.OpenRobot as Robot-type
+use Rattle.c_calls.specs.contracts.reading.OpenSite as Site-type
 
 abbrev pub Robots : RattleType
 Robots = Robot-type.the_row

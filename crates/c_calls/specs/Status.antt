@@ -1,9 +1,9 @@
 -- The statuses that C functions return, and their causes.
 use Rattle.std.specs.Prelude.{◌≡◌, ◌⊎◌, ℕ, ◌*◌, ◌<◌, ◌≤◌, ℤ, pos, negsuc, List, Ok, Err, IsUtf8, length}
-use Rattle.texting_robots.specs.Callers.{IsFirstOverlong, file_lines, PlacedRule}
-use Rattle.texting_robots.specs.Callers.{cost_of, placed_rules, prepared, robots_address}
+use Rattle.texting_robots.specs.Callers.{IsFirstOverlong, cost_of, file_lines, placed_rules, robots_address}
 use Rattle.url.specs.declared.error.{ParseError.ParseError}
-use Rattle.c_calls.specs.{Verdicts.items_in, declared.error.Error.Error}
+use Rattle.c_calls.specs.{File.target_in, Verdicts.items_in, declared.error.Error.Error}
+use Rattle.c_calls.specs.{declared.reading.OpenRobot.OpenRobot}
 use Rattle.c_calls.specs.declared.error.Error.TheVariants.{Memory, NoRobotsUrl, NoDelay, BufferTooSmall}
 use Rattle.texting_robots.specs.declared.error.RobotError.{RobotError}
 use Rattle.texting_robots.specs.declared.error.RobotError.TheVariants as rejection
@@ -42,13 +42,13 @@ HasErrorAt Why status old new = ((status ≡ pos 0) × (new ≡ old))
 
 -- the number, counted from 1, of the first line with a rule for the crawler that is too long
 abbrev pub IsOverlongLine : List ℕ → List ℕ → ℕ → Type 0
-IsOverlongLine agent site line = IsFirstOverlong (placed_rules agent (file_lines site)) line
+IsOverlongLine agent text line = IsFirstOverlong (placed_rules agent (file_lines text)) line
 
 abbrev pub IsWhyNoRobot : List ℕ → List ℕ → Error → Type 0
-IsWhyNoRobot agent site NotUtf8 = ¬ IsUtf8 agent
-IsWhyNoRobot agent site Memory = IsUtf8 agent
-IsWhyNoRobot agent site (Overlong line) = IsUtf8 agent × IsOverlongLine agent site line
-IsWhyNoRobot agent site _ = ⊥
+IsWhyNoRobot agent text NotUtf8 = ¬ IsUtf8 agent
+IsWhyNoRobot agent text Memory = IsUtf8 agent
+IsWhyNoRobot agent text (Overlong line) = IsUtf8 agent × IsOverlongLine agent text line
+IsWhyNoRobot agent text _ = ⊥
 
 abbrev pub IsWhyNoSite : Error → Type 0
 IsWhyNoSite error = error ≡ Memory
@@ -84,12 +84,12 @@ IsWhyNoVerdict url Memory = IsUtf8 url
 IsWhyNoVerdict url _ = ⊥
 
 -- the verdict for one URL within this budget, whose match target is allocated
-abbrev pub IsWhyNotWithin : List PlacedRule → List ℕ → ℕ → Error → Type 0
-IsWhyNotWithin rules url budget NotUtf8 = ¬ IsUtf8 url
-IsWhyNotWithin rules url budget Memory = IsUtf8 url
-IsWhyNotWithin rules url budget TooCostly =
-    IsUtf8 url × (budget < cost_of rules (length (prepared url)))
-IsWhyNotWithin rules url budget _ = ⊥
+abbrev pub IsWhyNotWithin : OpenRobot → List ℕ → ℕ → Error → Type 0
+IsWhyNotWithin robot url budget NotUtf8 = ¬ IsUtf8 url
+IsWhyNotWithin robot url budget Memory = IsUtf8 url
+IsWhyNotWithin robot url budget TooCostly =
+    IsUtf8 url × (budget < cost_of robot.robot.rules (length (target_in robot.by_rfc9309 url)))
+IsWhyNotWithin robot url budget _ = ⊥
 
 abbrev pub IsRobotsUrl : List ℕ → List ℕ → Type 0
 IsRobotsUrl url text = IsUtf8 url × (robots_address url ≡ Ok text)

@@ -1,10 +1,12 @@
 -- The numbers that C gets for URLs.
 use Rattle.std.specs.Prelude.{◌≡◌, ◌⊎◌, ℕ, suc, zero, ◌-◌, ◌<◌, ◌==◌, ◌^◌, Bool, true, false, ℤ, pos, negsuc}
 use Rattle.std.specs.Prelude.{neg_ℤ, IsUtf8, List, [], ◌∷◌, ◌++◌, length, map, replicate, Option, Some, None}
+use Rattle.std.specs.Prelude.{is_some}
 use Rattle.std.specs.List.{AllZip, slice_split}
 use Rattle.texting_robots.specs.Callers.{IsDecidingLine, IsFileRejected, IsRobotOfFile, IsVerdict, PlacedRule}
-use Rattle.texting_robots.specs.Callers.{RobotValue, prepared, unplaced}
-use Rattle.c_calls.specs.Text.{IsPutIn}
+use Rattle.texting_robots.specs.Callers.{RobotValue, unplaced}
+use Rattle.c_calls.specs.{File.read_text, File.target_in, Text.IsPutIn}
+use Rattle.c_calls.specs.declared.reading.{OpenRobot.OpenRobot, OpenSite.OpenSite}
 
 abbrev pub lf : ℕ
 lf = 10
@@ -29,14 +31,14 @@ pub record IsVerdictOn (rules : List PlacedRule) (target : List ℕ) (number : �
   pub verdict : IsVerdict (unplaced rules) target (is_allowed number)
   pub deciding : IsDecidingLine rules target (line_named number)
 
-abbrev pub IsVerdictFor : List PlacedRule → List ℕ → ℤ → Type 0
-IsVerdictFor rules url number = IsVerdictOn rules (prepared url) number
+abbrev pub IsVerdictFor : OpenRobot → List ℕ → ℤ → Type 0
+IsVerdictFor robot url number = IsVerdictOn robot.robot.rules (target_in robot.by_rfc9309 url) number
 
-abbrev pub HasVerdict : List PlacedRule → List ℕ → ℤ → Type 0
-HasVerdict rules url number = IsUtf8 url × IsVerdictFor rules url number
+abbrev pub HasVerdict : OpenRobot → List ℕ → ℤ → Type 0
+HasVerdict robot url number = IsUtf8 url × IsVerdictFor robot url number
 
-abbrev pub HasVerdicts : List PlacedRule → List ℕ → List ℤ → Type 0
-HasVerdicts rules text numbers = IsUtf8 text × AllZip (IsVerdictFor rules) (items_in text) numbers
+abbrev pub HasVerdicts : OpenRobot → List ℕ → List ℤ → Type 0
+HasVerdicts robot text numbers = IsUtf8 text × AllZip (IsVerdictFor robot) (items_in text) numbers
 
 -- numbers with the property P are written to the start of the buffer, in order
 abbrev pub ArePutIn : (List ℤ → Type 0) → List ℤ → List ℤ → Type 0
@@ -44,27 +46,28 @@ ArePutIn P old new = (numbers : List ℤ) × P numbers × IsPutIn old new number
 
 -- ---- The verdicts of many crawlers: a row for each crawler with a number for each URL
 
--- the number in the row of a crawler for which the site is rejected
+-- the number in the row of a crawler for which the text is rejected
 abbrev pub no_verdict : ℤ
 no_verdict = negsuc (2 ^ 63 - 1)
 
--- the crawler's verdicts for the match targets, in order; or the site is rejected for it, and there are none
+-- the crawler's verdicts for the match targets, in order; or the text is rejected for it, and there are none
 abbrev pub IsRow : List ℕ → List (List ℕ) → List ℕ → List ℤ → Type 0
-IsRow site targets agent row =
-    ((robot : RobotValue) × IsRobotOfFile agent site robot × AllZip (IsVerdictOn robot.rules) targets row)
-    ⊎ (IsFileRejected agent site × (row ≡ replicate (length targets) no_verdict))
+IsRow read targets agent row =
+    ((robot : RobotValue) × IsRobotOfFile agent read robot × AllZip (IsVerdictOn robot.rules) targets row)
+    ⊎ (IsFileRejected agent read × (row ≡ replicate (length targets) no_verdict))
 
 abbrev pub AreRows : List ℕ → List (List ℕ) → List (List ℕ) → List ℤ → Type 0
-AreRows site targets [] numbers = numbers ≡ []
-AreRows site targets (agent ∷ agents) numbers =
-    (row : List ℤ) × (later : List ℤ) × IsRow site targets agent row × AreRows site targets agents later
+AreRows read targets [] numbers = numbers ≡ []
+AreRows read targets (agent ∷ agents) numbers =
+    (row : List ℤ) × (later : List ℤ) × IsRow read targets agent row × AreRows read targets agents later
     × (numbers ≡ row ++ later)
 
 -- the rows of the crawlers for the URLs, all in order
-pub record HasMatrix (site agents urls : List ℕ) (numbers : List ℤ) : Type 0 where
+pub record HasMatrix (site : OpenSite) (agents urls : List ℕ) (numbers : List ℤ) : Type 0 where
   pub agents_utf8 : IsUtf8 agents
   pub urls_utf8 : IsUtf8 urls
-  pub rows : AreRows site (map prepared (items_in urls)) (items_in agents) numbers
+  pub rows : AreRows (read_text site) (map (target_in (is_some site.text)) (items_in urls)) (items_in agents)
+      numbers
 
 abbrev pub number_of : Bool → Option ℕ → ℤ
 number_of allowed None = pos 0

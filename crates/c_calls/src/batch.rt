@@ -7,9 +7,9 @@ ghost use Rattle.c_calls.specs.Verdicts.{ArePutIn, HasVerdict};
 
 use crate::error::Error;
 use crate::file::text_of;
+use crate::reading::OpenRobot;
 use crate::urls::{verdict_for, verdicts_of};
 use std::alloc::Global;
-use texting_robots::Robot;
 
 /// Whether the places don't decrease, and none is after the limit.
 fn ascend(ends: &[usize], limit: usize) -> bool
@@ -41,11 +41,16 @@ fn are_utf8(text: &[u8], ends: &[usize]) -> bool
 }
 
 /// The verdict for each URL, up to its place in `ends`.
-fn numbers_at(alloc: Global, robot: &Robot, text: &[u8], ends: &[usize]) -> Result<Vec<i64>, Error>
+fn numbers_at(
+    alloc: Global,
+    robot: &OpenRobot,
+    text: &[u8],
+    ends: &[usize],
+) -> Result<Vec<i64>, Error>
     requires robot { IsRobotOfSomeFile robot.now }
     requires ends { Ascend 0 ends.now (length text.now) }
     requires utf8 { All IsUtf8 (pieces text.now 0 ends.now) }
-    ensures ok { IfOk result (λ numbers. AllZip (HasVerdict robot.now.rules) (pieces text.now 0 ends.now) numbers.items) }
+    ensures ok { IfOk result (λ numbers. AllZip (HasVerdict robot.now) (pieces text.now 0 ends.now) numbers.items) }
     ensures count { IfOk result (λ numbers. length numbers.items ≡ length ends.now) }
     ensures error { IfErr result (λ error. error ≡ Error.Memory) }
 {
@@ -62,7 +67,7 @@ fn numbers_at(alloc: Global, robot: &Robot, text: &[u8], ends: &[usize]) -> Resu
 /// The verdicts that [`write_verdicts`] writes, or the first error.
 fn verdicts_in(
     alloc: Global,
-    robot: &Robot,
+    robot: &OpenRobot,
     text: &[u8],
     ends: &[usize],
     are_ended: bool,
@@ -70,7 +75,7 @@ fn verdicts_in(
 ) -> Result<Vec<i64>, Error>
     requires { IsRobotOfSomeFile robot.now }
     ensures ok { IfOk result (λ numbers.
-        AreVerdicts robot.now.rules text.now ends.now are_ended numbers.items) }
+        AreVerdicts robot.now text.now ends.now are_ended numbers.items) }
     ensures capacity { IfOk result (λ numbers. length numbers.items ≤ capacity) }
     ensures error { IfErr result (IsWhyNone text.now ends.now are_ended capacity) }
 {
@@ -93,7 +98,7 @@ fn verdicts_in(
 /// Writes a verdict for each URL. They end at these places if `are_ended`, else LF separates them.
 pub fn write_verdicts(
     alloc: Global,
-    robot: &Robot,
+    robot: &OpenRobot,
     text: &[u8],
     ends: &[usize],
     are_ended: bool,
@@ -101,7 +106,7 @@ pub fn write_verdicts(
 ) -> i32
     requires { IsRobotOfSomeFile robot.now }
     ensures written { result ≡ pos 0
-        → ArePutIn (AreVerdicts robot.now.rules text.now ends.now are_ended) out.old out.new }
+        → ArePutIn (AreVerdicts robot.now text.now ends.now are_ended) out.old out.new }
     ensures kept { result ≢ pos 0 → out.new ≡ out.old }
     ensures why { HasError (IsWhyNone text.now ends.now are_ended (length out.old)) result }
 {

@@ -1,8 +1,10 @@
 //! What a file means for a crawler, and bytes as strings.
-ghost use Rattle.std.specs.Prelude.{◌≡◌, IfErr, IfOk, IsUtf8};
-ghost use Rattle.c_calls.specs.{File.IsRobotFor, File.bytes_read, Status.IsWhyNoRobot};
+ghost use Rattle.std.specs.Prelude.{◌≡◌, ◌*◌, IfErr, IfOk, IsUtf8, false};
+ghost use Rattle.c_calls.specs.{File.IsRobotFor, File.bytes_read, File.site_of, Status.IsWhyNoRobot};
+ghost use Rattle.texting_robots.specs.Callers.{IsRobotWithoutSitemaps};
 
 use crate::error::Error;
+use crate::reading::OpenRobot;
 use std::alloc::Global;
 use texting_robots::{Error as LibraryError, Robot, Site};
 
@@ -16,9 +18,22 @@ pub(crate) fn text_of<'a>(bytes: &'a [u8]) -> Result<&'a str, Error>
     }
 }
 
-/// The crawler's robot, without sitemaps.
-pub(crate) fn robot_of(alloc: Global, agent: &[u8], file: &[u8]) -> Result<Robot, Error>
-    ensures ok { IfOk result (IsRobotFor agent.now (bytes_read file.now)) }
+/// The crawler's robot in the default reading, without sitemaps.
+pub(crate) fn robot_of(alloc: Global, agent: &[u8], file: &[u8]) -> Result<OpenRobot, Error>
+    ensures ok { IfOk result (IsRobotFor agent.now (site_of false file.now)) }
+    ensures error { IfErr result (IsWhyNoRobot agent.now (bytes_read file.now)) }
+{
+    let robot = library_robot(alloc, agent, file)?;
+    Ok(OpenRobot {
+        delay: robot.delay,
+        robot,
+        by_rfc9309: false,
+    })
+}
+
+fn library_robot(alloc: Global, agent: &[u8], file: &[u8]) -> Result<Robot, Error>
+    ensures ok { IfOk result (λ robot.
+        IsUtf8 agent.now × IsRobotWithoutSitemaps agent.now (bytes_read file.now) robot) }
     ensures error { IfErr result (IsWhyNoRobot agent.now (bytes_read file.now)) }
 {
     let agent = text_of(agent)?;

@@ -1,15 +1,16 @@
 //! A robot that C keeps between calls.
-ghost use Rattle.std.specs.Prelude.{◌≡◌, ◌≢◌, ◌<◌, Some, None, IfErr, IfOk, pos};
-ghost use Rattle.c_calls.specs.{File.GivesRobot, File.IsRobotFor, File.bytes_read, Number.IsNumber};
+ghost use Rattle.std.specs.Prelude.{◌≡◌, ◌≢◌, ◌<◌, Some, None, IfErr, IfOk, false, pos};
+ghost use Rattle.c_calls.specs.File.{GivesRobot, IsRobotFor, bytes_read, site_of};
+ghost use Rattle.c_calls.specs.{Number.IsNumber};
 ghost use Rattle.c_calls.specs.Status.{HasErrorAt, IsWhyNoRobot, status_of};
 
 use crate::error::Error;
 use crate::file::robot_of;
 use crate::kept::{Handle, Kept};
+use crate::reading::OpenRobot;
 use std::alloc::Global;
-use texting_robots::Robot;
 
-pub fn close(robot: Handle<Robot>) {
+pub fn close(robot: Handle<OpenRobot>) {
     drop(robot.into_box());
 }
 
@@ -17,8 +18,8 @@ pub fn close(robot: Handle<Robot>) {
 pub(crate) fn for_any_thread<T: Send + Sync>(_: &T) {}
 
 /// A robot for any thread: `robots.h` says what threads of C may do.
-fn open(alloc: Global, agent: &[u8], file: &[u8]) -> Result<Box<Robot>, Error>
-    ensures ok { IfOk result (λ robot. IsRobotFor agent.now (bytes_read file.now) robot.value) }
+fn open(alloc: Global, agent: &[u8], file: &[u8]) -> Result<Box<OpenRobot>, Error>
+    ensures ok { IfOk result (λ robot. IsRobotFor agent.now (site_of false file.now) robot.value) }
     ensures error { IfErr result (IsWhyNoRobot agent.now (bytes_read file.now)) }
 {
     let robot = Box::new(alloc, robot_of(alloc, agent, file)?)?;
@@ -32,11 +33,11 @@ pub fn opened(
     alloc: Global,
     agent: &[u8],
     file: &[u8],
-    at: *mut Robot,
+    at: *mut OpenRobot,
     line: &mut usize,
-) -> Kept<Robot>
+) -> Kept<OpenRobot>
     ensures opened { result.status ≡ pos 0
-        → GivesRobot agent.now (bytes_read file.now) (λ robot. result.value ≡ Some robot) }
+        → GivesRobot agent.now (site_of false file.now) (λ robot. result.value ≡ Some robot) }
     ensures kept { result.status ≢ pos 0 → result.at ≡ at }
     ensures why { HasErrorAt (IsWhyNoRobot agent.now (bytes_read file.now)) result.status line.old line.new }
 {
@@ -48,14 +49,14 @@ pub fn opened(
 
 /// Writes a number: for 0 what a verdict within a budget costs at most for a match target of this
 /// length, for 1 how many bytes of memory the robot takes, and else its delay in microseconds.
-pub fn number(robot: &Robot, which: usize, length: usize, out: &mut u64) -> i32
+pub fn number(robot: &OpenRobot, which: usize, length: usize, out: &mut u64) -> i32
     ensures written { result ≡ pos 0 → IsNumber robot.now which length out.new }
     ensures kept { result ≢ pos 0 → out.new ≡ out.old }
     ensures no_delay { result ≢ pos 0
         → (1 < which) × (robot.now.delay ≡ None) × (result ≡ status_of Error.NoDelay) }
 {
     if which == 0 {
-        *out = robot.cost(length);
+        *out = robot.robot.cost(length);
         return 0;
     }
     if which == 1 {

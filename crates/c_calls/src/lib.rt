@@ -8,6 +8,7 @@ mod file;
 pub mod handle;
 pub mod kept;
 pub mod matrix;
+pub mod reading;
 pub mod response;
 pub mod site;
 pub mod texts;

@@ -1,26 +1,29 @@
 //! The verdicts of many crawlers for many URLs.
 ghost use Rattle.std.specs.Prelude.{◌≡◌, ◌≢◌, ◌<◌, ◌≤◌, ◌*◌, IfErr, IfOk, IfSome, IsUtf8, MatchBool, codes};
-ghost use Rattle.std.specs.Prelude.{length, map, pos, string_bytes};
+ghost use Rattle.std.specs.Prelude.{is_some, length, map, pos, string_bytes};
 ghost use Rattle.std.specs.List.{AllZip};
-ghost use Rattle.c_calls.specs.{File.IsSiteOfSomeFile, Status.HasError, Status.IsWhyNoMatrix, Verdicts.IsRow};
+ghost use Rattle.c_calls.specs.File.{HasFewLines, IsSiteOfSomeFile, read_text, target_in};
+ghost use Rattle.c_calls.specs.{Status.HasError, Status.IsWhyNoMatrix, Verdicts.IsRow};
 ghost use Rattle.c_calls.specs.Verdicts.{ArePutIn, AreRows, HasMatrix, IsVerdictOn, LinesFit, items_in};
-ghost use Rattle.texting_robots.specs.Callers.{prepared};
 
 use crate::error::Error;
 use crate::file::text_of;
-use crate::urls::{count_items, number_on};
+use crate::reading::{OpenSite, target};
+use crate::urls::{count_items, items_of, number_on};
 use std::alloc::{AllocError, Global};
-use texting_robots::{Robot, RobotError, Site, match_target};
+use texting_robots::{Robot, RobotError, Site};
 
 /// The number in the row of a crawler for which the file is rejected.
 pub const NO_VERDICT: i64 = i64::MIN;
 
-fn targets_of(alloc: Global, urls: &str) -> Result<Vec<String>, AllocError>
-    ensures { IfOk result (λ targets. map string_bytes targets.items ≡ map prepared (items_in urls.now)) }
+fn targets_of(alloc: Global, by_rfc9309: bool, urls: &str) -> Result<Vec<String>, AllocError>
+    ensures { IfOk result (λ targets.
+        map string_bytes targets.items ≡ map (target_in by_rfc9309) (items_in urls.now)) }
 {
+    let urls = items_of(alloc, urls)?;
     let mut targets = Vec::new(alloc);
-    for url in urls.split('\n') {
-        targets.push(match_target(alloc, url)?)?;
+    for url in &urls {
+        targets.push(target(alloc, by_rfc9309, url)?)?;
     }
     Ok(targets)
 }
@@ -45,7 +48,7 @@ fn row_of(
     agent: &str,
     targets: &[String],
 ) -> Result<Vec<i64>, AllocError>
-    requires { IsSiteOfSomeFile site.now }
+    requires { HasFewLines site.now }
     ensures { IfOk result (λ row. IsRow site.now (map string_bytes targets.now) agent.now row.items) }
 {
     match site.robot_without_sitemaps(alloc, agent) {
@@ -65,7 +68,7 @@ fn shared_row(
     targets: &[String],
     shared: Option<Vec<i64>>,
 ) -> Result<Vec<i64>, AllocError>
-    requires site { IsSiteOfSomeFile site.now }
+    requires site { HasFewLines site.now }
     requires shared { IfSome shared (λ row. IsRow site.now (map string_bytes targets.now) (codes "*") row.items) }
     ensures { IfOk result (λ row. IsRow site.now (map string_bytes targets.now) (codes "*") row.items) }
 {
@@ -82,12 +85,13 @@ fn rows_of(
     agents: &str,
     targets: &[String],
 ) -> Result<Vec<i64>, AllocError>
-    requires { IsSiteOfSomeFile site.now }
+    requires { HasFewLines site.now }
     ensures { IfOk result (λ numbers. AreRows site.now (map string_bytes targets.now) (items_in agents.now) numbers.items) }
 {
+    let agents = items_of(alloc, agents)?;
     let mut numbers = Vec::new(alloc);
     let mut shared = None;
-    for agent in agents.split('\n') {
+    for agent in &agents {
         if site.is_named(agent) {
             let row = row_of(alloc, site, agent, targets)?;
             numbers.extend_from_slice(&row)?;
@@ -101,13 +105,14 @@ fn rows_of(
 }
 
 /// The rows of the crawlers for the URLs, both separated by LF.
-fn matrix(alloc: Global, site: &Site, agents: &str, urls: &str) -> Result<Vec<i64>, AllocError>
+fn matrix(alloc: Global, site: &OpenSite, agents: &str, urls: &str) -> Result<Vec<i64>, AllocError>
     requires { IsSiteOfSomeFile site.now }
-    ensures rows { IfOk result (λ numbers. AreRows site.now (map prepared (items_in urls.now)) (items_in agents.now) numbers.items) }
+    ensures rows { IfOk result (λ numbers. AreRows (read_text site.now)
+        (map (target_in (is_some site.now.text)) (items_in urls.now)) (items_in agents.now) numbers.items) }
     ensures count { IfOk result (λ numbers. length numbers.items ≡ length (items_in agents.now) * length (items_in urls.now)) }
 {
-    let targets = targets_of(alloc, urls)?;
-    let numbers = rows_of(alloc, site, agents, &targets)?;
+    let targets = targets_of(alloc, site.text.is_some(), urls)?;
+    let numbers = rows_of(alloc, site.read_site(), agents, &targets)?;
     Ok(numbers)
 }
 
@@ -143,7 +148,7 @@ fn texts_of<'a>(
 /// The verdicts that [`matrix_by`] writes, or the first error.
 fn matrix_in(
     alloc: Global,
-    site: &Site,
+    site: &OpenSite,
     agents: &[u8],
     urls: &[u8],
     capacity: usize,
@@ -159,7 +164,7 @@ fn matrix_in(
 }
 
 /// Writes the verdicts of each crawler for each URL, and returns the status.
-pub fn matrix_by(alloc: Global, site: &Site, agents: &[u8], urls: &[u8], out: &mut [i64]) -> i32
+pub fn matrix_by(alloc: Global, site: &OpenSite, agents: &[u8], urls: &[u8], out: &mut [i64]) -> i32
     requires { IsSiteOfSomeFile site.now }
     ensures written { result ≡ pos 0 → ArePutIn (HasMatrix site.now agents.now urls.now) out.old out.new }
     ensures kept { result ≢ pos 0 → out.new ≡ out.old }

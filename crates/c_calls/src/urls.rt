@@ -1,16 +1,20 @@
 //! The verdicts for URLs.
-ghost use Rattle.std.specs.Prelude.{◌≡◌, ◌≢◌, ◌<◌, ◌≤◌, ◌==◌, ◌^◌, IfErr, IfOk, IfSome, IsUtf8, count_by, length, pos};
+ghost use Rattle.std.specs.Prelude.{◌≡◌, ◌≢◌, ◌<◌, ◌≤◌, ◌==◌, ◌^◌, IfErr, IfOk, IfSome, IsUtf8, count_by};
+ghost use Rattle.std.specs.Prelude.{false, length, map, pos};
 ghost use Rattle.std.specs.List.{AllZip};
-ghost use Rattle.c_calls.specs.File.{GivesRobot, IsRobotOfSomeFile, bytes_read};
-ghost use Rattle.c_calls.specs.Verdicts.{HasVerdict, HasVerdicts, IsVerdictFor, IsVerdictOn, LinesFit, number_of};
-ghost use Rattle.c_calls.specs.Verdicts.{items_in, lf};
-ghost use Rattle.c_calls.specs.Status.{HasError, IsWhyNoVerdict, IsWhyNoVerdicts, IsWhyNotWithin, IsWhyUndecided};
+ghost use Rattle.c_calls.specs.File.{GivesRobot, IsRobotOfSomeFile, bytes_read, site_of};
+ghost use Rattle.c_calls.specs.Verdicts.{HasVerdict, HasVerdicts, IsVerdictFor, IsVerdictOn, LinesFit};
+ghost use Rattle.c_calls.specs.Verdicts.{items_in, lf, number_of};
+ghost use Rattle.c_calls.specs.Status.{HasError, IsWhyNoVerdict, IsWhyNoVerdicts, IsWhyNotWithin};
+ghost use Rattle.c_calls.specs.Status.{IsWhyUndecided};
 
 use crate::error::Error;
 use crate::file::{robot_of, text_of};
+use crate::reading::{OpenRobot, target};
+use rfc9309::StandardTarget;
 use std::alloc::{AllocError, Global};
 use texting_robots::view::View;
-use texting_robots::{Decision, Robot, TooCostly, match_target};
+use texting_robots::{Decision, Robot, TooCostly};
 
 /// The number of the deciding line, negative if the crawler may not fetch the URL, and 0 if no line decides.
 fn number_of(decision: Decision) -> i64
@@ -32,17 +36,21 @@ pub(crate) fn number_on(robot: &Robot, target: &str) -> i64
 }
 
 /// The verdict for a URL that is UTF-8.
-fn number_for(alloc: Global, robot: &Robot, url: &str) -> Result<i64, AllocError>
-    requires { LinesFit robot.now.rules }
-    ensures { IfOk result (IsVerdictFor robot.now.rules url.now) }
+fn number_for(alloc: Global, robot: &OpenRobot, url: &str) -> Result<i64, AllocError>
+    requires { LinesFit robot.now.robot.rules }
+    ensures { IfOk result (IsVerdictFor robot.now url.now) }
 {
-    let decision = robot.decide(alloc, url)?;
+    if robot.by_rfc9309 {
+        let target = StandardTarget::new(alloc, url)?;
+        return Ok(number_on(&robot.robot, target.as_str()));
+    }
+    let decision = robot.robot.decide(alloc, url)?;
     Ok(number_of(decision))
 }
 
-pub(crate) fn verdict_for(alloc: Global, robot: &Robot, url: &[u8]) -> Result<i64, Error>
+pub(crate) fn verdict_for(alloc: Global, robot: &OpenRobot, url: &[u8]) -> Result<i64, Error>
     requires { IsRobotOfSomeFile robot.now }
-    ensures ok { IfOk result (HasVerdict robot.now.rules url.now) }
+    ensures ok { IfOk result (HasVerdict robot.now url.now) }
     ensures error { IfErr result (IsWhyNoVerdict url.now) }
 {
     let url = text_of(url)?;
@@ -53,27 +61,38 @@ pub(crate) fn verdict_for(alloc: Global, robot: &Robot, url: &[u8]) -> Result<i6
 }
 
 /// The verdict for a URL, unless that may take more looks than the budget.
-fn verdict_within(alloc: Global, robot: &Robot, url: &[u8], budget: u64) -> Result<i64, Error>
+fn verdict_within(alloc: Global, robot: &OpenRobot, url: &[u8], budget: u64) -> Result<i64, Error>
     requires { IsRobotOfSomeFile robot.now }
-    ensures ok { IfOk result (HasVerdict robot.now.rules url.now) }
-    ensures error { IfErr result (IsWhyNotWithin robot.now.rules url.now budget) }
+    ensures ok { IfOk result (HasVerdict robot.now url.now) }
+    ensures error { IfErr result (IsWhyNotWithin robot.now url.now budget) }
 {
-    let target = match_target(alloc, text_of(url)?)?;
+    let target = target(alloc, robot.by_rfc9309, text_of(url)?)?;
     let text = target.as_str();
-    match robot.decision_of_target(text, &mut View::new(text), budget) {
+    match robot
+        .robot
+        .decision_of_target(text, &mut View::new(text), budget)
+    {
         Ok(decision) => Ok(number_of(decision)),
         Err(TooCostly) => Err(Error::TooCostly),
     }
 }
 
+/// The parts of a text that LF separates.
+pub(crate) fn items_of(alloc: Global, text: &str) -> Result<Vec<&str>, AllocError>
+    ensures { IfOk result (λ items. map (λ item. item.now) items.items ≡ items_in text.now) }
+{
+    text.split('\n').collect(alloc)
+}
+
 /// The verdicts for URLs that LF separates.
-fn verdicts_for(alloc: Global, robot: &Robot, urls: &str) -> Result<Vec<i64>, AllocError>
+fn verdicts_for(alloc: Global, robot: &OpenRobot, urls: &str) -> Result<Vec<i64>, AllocError>
     requires { IsRobotOfSomeFile robot.now }
-    ensures verdicts { IfOk result (λ numbers. AllZip (IsVerdictFor robot.now.rules) (items_in urls.now) numbers.items) }
+    ensures verdicts { IfOk result (λ numbers. AllZip (IsVerdictFor robot.now) (items_in urls.now) numbers.items) }
     ensures count { IfOk result (λ numbers. length numbers.items ≡ length (items_in urls.now)) }
 {
+    let urls = items_of(alloc, urls)?;
     let mut numbers = Vec::new(alloc);
-    for url in urls.split('\n') {
+    for url in &urls {
         numbers.push(number_for(alloc, robot, url)?)?;
     }
     Ok(numbers)
@@ -112,8 +131,8 @@ pub fn verdicts_of_file(
     urls: &[u8],
     capacity: usize,
 ) -> Result<Vec<i64>, Error>
-    ensures ok { IfOk result (λ numbers. GivesRobot agent.now (bytes_read file.now) (λ robot.
-        HasVerdicts robot.rules urls.now numbers.items)) }
+    ensures ok { IfOk result (λ numbers. GivesRobot agent.now (site_of false file.now) (λ robot.
+        HasVerdicts robot urls.now numbers.items)) }
     ensures capacity { IfOk result (λ numbers. length numbers.items ≤ capacity) }
     ensures error { IfErr result (IsWhyUndecided agent.now (bytes_read file.now) urls.now capacity) }
 {
@@ -126,12 +145,12 @@ pub fn verdicts_of_file(
 
 pub(crate) fn verdicts_of(
     alloc: Global,
-    robot: &Robot,
+    robot: &OpenRobot,
     urls: &[u8],
     capacity: usize,
 ) -> Result<Vec<i64>, Error>
     requires { IsRobotOfSomeFile robot.now }
-    ensures ok { IfOk result (λ numbers. HasVerdicts robot.now.rules urls.now numbers.items) }
+    ensures ok { IfOk result (λ numbers. HasVerdicts robot.now urls.now numbers.items) }
     ensures capacity { IfOk result (λ numbers. length numbers.items ≤ capacity) }
     ensures error { IfErr result (IsWhyNoVerdicts urls.now capacity) }
 {
@@ -141,9 +160,9 @@ pub(crate) fn verdicts_of(
 }
 
 /// Writes the verdict for a URL, and returns the status.
-pub fn write_verdict(alloc: Global, robot: &Robot, url: &[u8], out: &mut i64) -> i32
+pub fn write_verdict(alloc: Global, robot: &OpenRobot, url: &[u8], out: &mut i64) -> i32
     requires { IsRobotOfSomeFile robot.now }
-    ensures written { result ≡ pos 0 → HasVerdict robot.now.rules url.now out.new }
+    ensures written { result ≡ pos 0 → HasVerdict robot.now url.now out.new }
     ensures kept { result ≢ pos 0 → out.new ≡ out.old }
     ensures why { HasError (IsWhyNoVerdict url.now) result }
 {
@@ -159,15 +178,15 @@ pub fn write_verdict(alloc: Global, robot: &Robot, url: &[u8], out: &mut i64) ->
 /// Writes what [`write_verdict`] does, unless that may take more looks than the budget.
 pub fn write_verdict_within(
     alloc: Global,
-    robot: &Robot,
+    robot: &OpenRobot,
     url: &[u8],
     budget: u64,
     out: &mut i64,
 ) -> i32
     requires { IsRobotOfSomeFile robot.now }
-    ensures written { result ≡ pos 0 → HasVerdict robot.now.rules url.now out.new }
+    ensures written { result ≡ pos 0 → HasVerdict robot.now url.now out.new }
     ensures kept { result ≢ pos 0 → out.new ≡ out.old }
-    ensures why { HasError (IsWhyNotWithin robot.now.rules url.now budget) result }
+    ensures why { HasError (IsWhyNotWithin robot.now url.now budget) result }
 {
     match verdict_within(alloc, robot, url, budget) {
         Ok(number) => {

@@ -1,23 +1,19 @@
 -- The tests of lines find the first line that isn't in the extended grammar, and only then one.
 use Rattle.std.proofs.Common.{◌≡◌, ◌≢◌, ◌≤◌, ◌↔◌, ℕ, ◌+◌, ◌==◌, ◌&&◌, Bool, true, false, not, inl, inr, List}
-use Rattle.std.proofs.Common.{[], ◌∷◌, ◌++◌, All, Contains, Option, None, Some, ap, arith, codes}
-use Rattle.std.proofs.Common.{if◌then◌else◌, length, map, nat_eq, nat_le, refl, ◌⊎◌, subst, sym, take}
+use Rattle.std.proofs.Common.{[], ◌∷◌, ◌++◌, All, Option, None, Some, ap, arith, if◌then◌else◌, length, map}
+use Rattle.std.proofs.Common.{nat_eq, nat_le, refl, ◌⊎◌, subst, sym}
 use Rattle.std.specs.List.{AllByRecursion as Each, AllZip, list_any, starts_with}
 use Rattle.std.proofs.lemmas.Bool.{and_from, and_parts, both_ways, eqb-true, false≢true, le-leb, leb-true}
 use Rattle.std.proofs.lemmas.Bool.{not-true, or_cases, or_left, or_right}
-use Rattle.std.proofs.lemmas.{Grind.common_steps, List.take_all}
+use Rattle.std.proofs.lemmas.{Grind.common_steps}
 use Rattle.std.proofs.lemmas.List.Elements.{recursion_from_All}
 use Rattle.texting_robots.specs.Line.{nul_as_lf, without, without_bom}
-use Rattle.texting_robots.specs.Callers.{IsFileRejected, IsRobotOfFile, IsVerdict, RobotValue, agents_in}
-use Rattle.texting_robots.specs.Callers.{file_limit, lines_read, placed_rules, unplaced}
-use Rattle.texting_robots.specs.{Cut.IsBodyByte, Cut.lf, Executable.file_bodies}
+use Rattle.texting_robots.specs.{Callers.file_limit, Cut.IsBodyByte, Cut.lf, Executable.file_bodies}
 use Rattle.rfc9309.specs.LineTest.{has_form}
 use Rattle.rfc9309.specs.LineForms.{AreRulesBelowAgents as AreFree, Form, HasForm, Agent, Delay, Empty, Other}
 use Rattle.rfc9309.specs.LineForms.{Rule, Sitemap}
 use Rattle.rfc9309.specs.Conformance.{by_lines, conformance_of, first_other, has_mark_or_none, has_syntax}
-use Rattle.rfc9309.specs.Conformance.{has_verdicts, is_line_below, is_read_whole, line_apart, mark}
-use Rattle.rfc9309.specs.Matching.{IsRfcVerdict, all_stay, normal_uri, octets}
-use Rattle.rfc9309.proofs.ApartLemmas.{accepted, verdict_is}
+use Rattle.rfc9309.specs.Conformance.{is_line_below, is_read_whole, mark}
 use Rattle.rfc9309.proofs.LineFormLemmas.{bodies_bytes, file_has_forms, forms_make_file}
 use Rattle.rfc9309.proofs.{HasFormLemmas.form_passes, OtherLemmas.form_tested}
 use Rattle.rfc9309.specs.declared.conformance.Conformance.TheVariants.{OtherFile}
@@ -165,79 +161,40 @@ nul_not_found (b ∷ text) all = grind (arith, common_steps, nul_not_found text 
 abbrev IsInGrammar : List ℕ → Type 0
 IsInGrammar file = (length file ≤ file_limit) × ((groups : List rfc.Group) × rfc.IsFile groups file)
 
-has_syntax_by : (whole : Bool) (other apart : Option ℕ)
-    → has_syntax (if whole then by_lines other apart else OtherFile) ≡ true → (whole ≡ true) × (other ≡ None)
-has_syntax_by whole other apart h = grind arith
+decided : (whole : Bool) (other : Option ℕ)
+    → (has_syntax (if whole then by_lines other else OtherFile) ≡ true) ↔ ((whole ≡ true) × (other ≡ None))
+decided whole other = grind arith
 
-by_has_syntax : (whole : Bool) (other apart : Option ℕ) → whole ≡ true → other ≡ None
-    → has_syntax (if whole then by_lines other apart else OtherFile) ≡ true
-by_has_syntax whole other apart h h2 = grind arith
+module _ (file : List ℕ) where
+  abbrev other : Option ℕ
+  other = first_other false 1 (file_bodies file)
 
-has_verdicts_by : (whole : Bool) (other apart : Option ℕ)
-    → has_verdicts (if whole then by_lines other apart else OtherFile) ≡ true
-    → (whole ≡ true) × (apart ≡ None)
-has_verdicts_by whole other apart h = grind arith
+  only : is_read_whole file ≡ true → other ≡ None → IsInGrammar file
+  only whole none =
+      let (read, start) = and_parts _ (has_mark_or_none file) whole in
+      let (size, nul) = and_parts (nat_le (length file) file_limit) _ read in
+      let (forms, each, free) = lines_formed false 1 (file_bodies file) none in (
+        leb-true (length file) file_limit size,
+        forms_make_file file forms (record {
+          no_nul = no_nul file (not-true _ nul);
+          bom = marked file start;
+          each = each;
+          below = free refl;
+        }),
+      )
 
--- the whole file is read
-read_whole : (file : List ℕ) → is_read_whole file ≡ true → length file ≤ file_limit
-read_whole file is = grind (arith, and_parts, leb-true)
-
-no_line_apart : (file : List ℕ) → has_verdicts (conformance_of file) ≡ true
-    → (take file_limit file ≡ file) × (line_apart (take file_limit file) ≡ None)
-no_line_apart file is =
-    let (whole, near) = has_verdicts_by (is_read_whole file)
-    (first_other false 1 (file_bodies (take file_limit file))) (line_apart (take file_limit file)) is in
-    (take_all file_limit file (read_whole file whole), near)
-
-pub files_decided : (file : List ℕ) → (has_syntax (conformance_of file) ≡ true) ↔ IsInGrammar file
-files_decided file = (only, every)
-  where
-    only : has_syntax (conformance_of file) ≡ true → IsInGrammar file
-    only is =
-        let (whole, none) = has_syntax_by (is_read_whole file)
-        (first_other false 1 (file_bodies (take file_limit file))) (line_apart (take file_limit file)) is in
-        let (read, start) = and_parts _ (has_mark_or_none file) whole in
-        let (size, nul) = and_parts (nat_le (length file) file_limit) _ read in
-        let fits = read_whole file whole in
-        let same = take_all file_limit file fits in
-        let (forms, each, free) = lines_formed false 1 (file_bodies file)
-        (subst (λ text. first_other false 1 (file_bodies text) ≡ None) same none) in (
-          fits,
-          forms_make_file file forms (record {
-            no_nul = no_nul file (not-true _ nul);
-            bom = marked file start;
-            each = each;
-            below = free refl;
-          }),
-        )
-
-    every : IsInGrammar file → has_syntax (conformance_of file) ≡ true
-    every (fits, (groups, is)) =
-        let (forms, are) = file_has_forms file groups is in
-        let same = take_all file_limit file fits in
-        let none : first_other false 1 (file_bodies (take file_limit file)) ≡ None =
-        subst (λ text. first_other false 1 (file_bodies text) ≡ None) (sym same)
-        (none_other false 1 forms (file_bodies file) (bodies_bytes (without_bom (map nul_as_lf file)))
-        are.each (λ e. are.below)) in
-        let whole : is_read_whole file ≡ true =
+  every : IsInGrammar file → (is_read_whole file ≡ true) × (other ≡ None)
+  every (fits, (groups, is)) =
+      let (forms, are) = file_has_forms file groups is in (
         and_from _ _ (and_from _ _ (le-leb (length file) file_limit fits)
-        (ap not (nul_not_found file (recursion_from_All (λ b. b ≢ 0) file are.no_nul))))
-        (test_passed file are.bom) in
-        by_has_syntax (is_read_whole file) (first_other false 1 (file_bodies (take file_limit file)))
-        (line_apart (take file_limit file)) whole none
+            (ap not (nul_not_found file (recursion_from_All (λ b. b ≢ 0) file are.no_nul))))
+            (test_passed file are.bom),
+        none_other false 1 forms (file_bodies file) (bodies_bytes (without_bom (map nul_as_lf file)))
+            are.each (λ e. are.below),
+      )
 
--- the crawler has the rules of one that the file names, or of `*`
-module _ (file agent name : List ℕ) (groups : List rfc.Group)
-    (has : has_verdicts (conformance_of file) ≡ true) (is : rfc.IsFile groups file)
-    (listed : Contains (codes "*" ∷ agents_in (lines_read file)) name)
-    (same : placed_rules agent (lines_read file) ≡ placed_rules name (lines_read file)) where
-  read : rfc.IsFile groups (take file_limit file)
-  read = subst (rfc.IsFile groups) (sym (no_line_apart file has).0) is
-
-  pub verdicts_are : (uri : List ℕ) (robot : RobotValue) (answer : Bool) → normal_uri all_stay uri ≡ uri
-      → IsRobotOfFile agent (take file_limit file) robot → IsVerdict (unplaced robot.rules) uri answer
-      ↔ IsRfcVerdict all_stay (octets all_stay) (rfc.standard_rules agent groups) uri answer
-  verdicts_are = verdict_is _ (no_line_apart file has).1 groups read agent name listed same
-
-  pub accepted_file : ¬ IsFileRejected agent (take file_limit file)
-  accepted_file = accepted _ (no_line_apart file has).1 groups read agent name listed same
+  pub files_decided : (has_syntax (conformance_of file) ≡ true) ↔ IsInGrammar file
+  files_decided = (
+    λ is. let (whole, none) = (decided (is_read_whole file) other).0 is in only whole none,
+    λ is. (decided (is_read_whole file) other).1 (every is),
+  )

@@ -19,7 +19,7 @@ use Rattle.rfc9309.proofs.{ReadLemmas.lines_in}
 use Rattle.rfc9309.specs.Rfc9309 as rfc
 
 -- the user-agent lines of a group, with the name among them or not
-abbrev naming : Bool → GroupTracker
+abbrev pub naming : Bool → GroupTracker
 naming named = record { captured = named; named = named }
 
 abbrev pub closed : Bool → GroupTracker
@@ -41,10 +41,6 @@ module _ {X : Type 0} (given : LineValue → Option X) (wanted : Member → Bool
     -- the members that are wanted mean these values
     abbrev pub AreFound : List Member → List X → Type 0
     AreFound members found = AllZip R (filter wanted members) found
-
-    pub one_found : (member : Member) (found : Option X) (members : List Member) (rest : List X)
-        → Gives member found → AreFound members rest → AreFound (member ∷ members) (cons_option found rest)
-    one_found member found members rest h h2 = grind arith
 
 pub rules_given : IsGiven rule_in is_rule IsReadAs
 rules_given = grind (arith, allowed_in, member_in)
@@ -79,7 +75,7 @@ module _ (name : List ℕ) where
       ≡ captured (naming (is_named token || walk.named)) members groups
   captured_after walk token members groups = grind arith
 
-  any_put : (token : List ℕ) (members : List Member) (groups : List Group)
+  pub any_put : (token : List ℕ) (members : List Member) (groups : List Group)
       → (is_named token || list_any has groups)
       ≡ list_any has (put_before (token ∷ []) members groups)
   any_put token members groups = grind arith
@@ -134,7 +130,7 @@ module _ {X : Type 0} (given : LineValue → Option X) (wanted : Member → Bool
       (λ group. is_given.some line text group is) (is_given.none line)
       (walk_finds (after (is_member line) walk) sources all)
 
-named_groups : (agent : List ℕ) (groups : List Group) (lines : List LineValue) (some : Bool)
+pub named_groups : (agent : List ℕ) (groups : List Group) (lines : List LineValue) (some : Bool)
     → list_any (is_agent_named (str_to_ascii_lowercase agent)) lines ≡ some
     → list_any (has_token agent) groups ≡ some
     → filter (has (group_name agent lines)) groups ≡ groups_for agent groups

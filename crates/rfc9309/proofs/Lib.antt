@@ -12,14 +12,13 @@ pub mod EntryLemmas
 pub mod ReadLemmas
 pub mod KeyedLemmas
 pub mod GroupLemmas
-pub mod DelayLemmas
 pub mod LineFormLemmas
 pub mod FileLemmas
 pub mod RobotLemmas
 pub mod NormalLemmas
 pub mod VerdictLemmas
+pub mod PatternLemmas
+pub mod TextLemmas
+pub mod StandardLemmas
 pub mod EditLemmas
-pub mod ConformanceLemmas
 pub mod DecidedLemmas
-pub mod PlainLemmas
-pub mod ApartLemmas

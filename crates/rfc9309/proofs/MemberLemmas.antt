@@ -62,7 +62,7 @@ pub record MemberRead (member : rfc.Member) (text : List ℕ) : Type 0 where
   pub written : (parts : Parts) → with_source source parts ≡ with_member member parts
   pub unlisted : (following : List (List ℕ)) → with_address source following ≡ following
 
-disallowed : (read body : List ℕ) → read ≢ [] → line_with kind.Disallow read body ≡ Disallow read
+pub disallowed : (read body : List ℕ) → read ≢ [] → line_with kind.Disallow read body ≡ Disallow read
 disallowed read body h = grind arith
 
 pub trim_is_utf8 : (text : List ℕ) → IsCharText text → is_utf8 (trimmed text) ≡ true

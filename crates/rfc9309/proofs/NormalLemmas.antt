@@ -20,7 +20,7 @@ hex_low b is = grind (arith, nat_tests)
 hex_octet : (b : ℕ) → is_ascii_hexdigit b ≡ true → is_uri_octet b ≡ true
 hex_octet b is = let letter : is_ascii_alphanumeric b ≡ true = grind (arith, nat_tests) in rw letter
 
-pub hex_not : (test : ℕ → Bool) (b : ℕ)
+hex_not : (test : ℕ → Bool) (b : ℕ)
     → agree_below (λ c. is_ascii_hexdigit c && test c) (λ c. false) 128 ≡ true
     → is_ascii_hexdigit b ≡ true → test b ≡ false
 hex_not test b none is = grind (arith, agree_below_at, hex_low)
@@ -57,7 +57,7 @@ octet_first stays in_query b [] isnt = sym (append-nil _)
 octet_first stays in_query b (c ∷ []) isnt = refl
 octet_first stays in_query b (high ∷ low ∷ text) isnt = rw isnt
 
-abbrev pub has_odd_digits : ℕ → ℕ → Bool
+abbrev has_odd_digits : ℕ → ℕ → Bool
 has_odd_digits high low =
     (is_ascii_lowercase high || is_ascii_lowercase low)
     || is_unreserved (digit_value high * 16 + digit_value low)
@@ -69,7 +69,7 @@ module _ (high low : ℕ) (text : List ℕ) (one : is_ascii_hexdigit high ≡ tr
   unfolding normal_from
   escape_first stays in_query = rw (one, two)
 
-  pub escape_odd : has_odd_escape (37 ∷ high ∷ low ∷ text) ≡ (has_odd_digits high low || has_odd_escape text)
+  escape_odd : has_odd_escape (37 ∷ high ∷ low ∷ text) ≡ (has_odd_digits high low || has_odd_escape text)
   escape_odd = rw (one, two, hex_not (λ c. c == 37) _ refl one, hex_not (λ c. c == 37) low refl two)
 
 octet_stays : (stays : Reading) (in_query : Bool) (b : ℕ) (rest text : List ℕ)
@@ -129,7 +129,7 @@ fixed =
     let (all, even) = later rest in
     (rw (hex_octet high one, hex_octet low two, all), escape_odd high low text one two ∙ rw (digits, even)))
 
-pub escape_same : (high low : ℕ) → has_odd_digits high low ≡ false
+escape_same : (high low : ℕ) → has_odd_digits high low ≡ false
     → normal_escape high low ≡ 37 ∷ high ∷ low ∷ []
 escape_same high low even = grind (arith, or_parts, uppercase)
 
@@ -152,7 +152,7 @@ normal_same =
 pub normal_uris : (uri : List ℕ) → (normal_uri all_stay uri ≡ uri) ↔ (is_normal uri ≡ true)
 normal_uris uri = grind (arith, and_parts, fixed, normal_same, not-true)
 
-filling : (q tail t : List ℕ) → has_dollar q ≡ false → MatchesWith true (q ++ tail) t
+pub filling : (q tail t : List ℕ) → has_dollar q ≡ false → MatchesWith true (q ++ tail) t
     ↔ ((strings : List (List ℕ)) × (rest : List ℕ) × (t ≡ filled q strings ++ rest)
     × MatchesWith true tail rest)
 unfolding MatchesWith filled
@@ -193,11 +193,12 @@ escaped_parts [] = refl
 escaped_parts (b ∷ []) = grind (arith, append-nil, cases_Bool, eqb-true)
 escaped_parts (b ∷ c ∷ path) = grind (arith, append_assoc, escaped_parts (c ∷ path))
 
-restricts : (ended : Bool) (rest : List ℕ) → MatchesWith true (end_of ended) rest ↔ (ended ≡ true → rest ≡ [])
+pub restricts : (ended : Bool) (rest : List ℕ)
+    → MatchesWith true (end_of ended) rest ↔ (ended ≡ true → rest ≡ [])
 unfolding MatchesWith
 restricts ended rest = grind arith
 
-glyph_plain : (d : ℕ) → (digit_glyph true d == dollar) ≡ false
+pub glyph_plain : (d : ℕ) → (digit_glyph true d == dollar) ≡ false
 glyph_plain d = grind (arith, nat_tests)
 
 pub escaped_plain : (q : List ℕ) → has_dollar q ≡ false → has_dollar (escaped q) ≡ false

@@ -94,7 +94,7 @@ members_put : (members : List rfc.Member) (parts : Parts)
 members_put [] parts = refl
 members_put (member ∷ members) parts = ap (with_member _) (members_put members _)
 
-pub put_both : (tokens more : List (List ℕ)) (members : List rfc.Member) (later : List rfc.Group)
+put_both : (tokens more : List (List ℕ)) (members : List rfc.Member) (later : List rfc.Group)
     → rfc.put_before tokens [] (rfc.put_before more members later)
     ≡ rfc.put_before (tokens ++ more) members later
 put_both tokens more members later = grind (arith, append_assoc)

@@ -14,7 +14,7 @@ use Rattle.rfc9309.proofs.NormalLemmas.{end_of, escaped_parts, matches_so}
 use Rattle.rfc9309.proofs.{FileLemmas.file_with, RobotLemmas.robot_as}
 use Rattle.rfc9309.specs.Rfc9309 as rfc
 
-zip_swap : {A B : Type 0} (R : A → B → Type 0) (xs : List A) (ys : List B) → AllZip R xs ys
+pub zip_swap : {A B : Type 0} (R : A → B → Type 0) (xs : List A) (ys : List B) → AllZip R xs ys
     → AllZip (λ y x. R x y) ys xs
 zip_swap R [] [] zip = zip
 zip_swap R [] (y ∷ ys) zip = zip
@@ -31,7 +31,7 @@ zip_has R (x ∷ xs) (z ∷ ys) y (is, zip) (suc k, below, at) =
     let (other, (j, low, here), also) = zip_has R xs ys y zip (k, omega arith, at) in
     (other, (suc j, omega arith, here), also)
 
-pub zip_right : (members : List rfc.Member) (rules : List Rule) (member : rfc.Member)
+zip_right : (members : List rfc.Member) (rules : List Rule) (member : rfc.Member)
     → AllZip IsReadAs members rules → Contains members member
     → (rule : Rule) × Contains rules rule × IsReadAs member rule
 zip_right members rules member zip =
@@ -43,10 +43,10 @@ read (rfc.Allow path) = (escaped path, true)
 read (rfc.Disallow (b ∷ path)) = (escaped (b ∷ path), false)
 read _ = (codes "/", true)
 
-kind_of : (rule other : Rule) → ◌≡◌ {A = Rule} rule other → rule.1 ≡ other.1
+pub kind_of : (rule other : Rule) → ◌≡◌ {A = Rule} rule other → rule.1 ≡ other.1
 kind_of rule other e = ap (λ (r : Rule). r.1) e
 
-pattern_of : (rule other : Rule) → ◌≡◌ {A = Rule} rule other → rule.0 ≡ other.0
+pub pattern_of : (rule other : Rule) → ◌≡◌ {A = Rule} rule other → rule.0 ≡ other.0
 pattern_of rule other e = ap (λ (r : Rule). r.0) e
 
 pub each_contains : {X : Type 0} (P : X → Type 0) (xs : List X) (x : X) → Each P xs → Contains xs x → P x

@@ -8,3 +8,6 @@ pub mod Matching
 pub mod Comparable
 pub mod Examples
 pub mod Edits
+pub mod StandardReading
+pub mod StandardTarget
+pub mod EmptyDisallow

@@ -315,8 +315,7 @@ above_groups (Sitemap address ∷ entries) = above_groups entries
 above_groups (Nothing ∷ entries) = above_groups entries
 
 -- Each token begins a group, with the members up to the next token. Tokens with no member between them are
--- those of one group. A delay is a member here, so it ends a list of tokens, as in this library;
--- `standard_groups` has the groups as the standard sees them.
+-- those of one group. A delay is a member here, so it ends a list of tokens, as in this library.
 abbrev pub groups_of : List Entry → List Group
 groups_of [] = []
 groups_of (Agent token ∷ entries) =
@@ -431,24 +430,3 @@ groups_for agent groups =
 -- the rules of these groups, in order, without their delays
 abbrev pub rules_for : List ℕ → List Group → List Member
 rules_for agent groups = filter is_rule (flat_map (λ group. group.members) (groups_for agent groups))
-
--- ---- groups and rules as the standard sees them, with delays skipped
-
--- A Crawl-delay is another record for the standard: "Crawlers MAY interpret other records that are not part
--- of the robots.txt protocol", but "parsing of other records MUST NOT interfere with the parsing of
--- explicitly defined records" (section 2.2.4, from memory). So a delay between two lines with product tokens
--- doesn't separate their groups.
-abbrev pub without_delays : List Group → List Group
-without_delays groups =
-    map (λ group. record { tokens = group.tokens; members = filter is_rule group.members }) groups
-
-abbrev pub standard_rules : List ℕ → List Group → List Member
-standard_rules agent groups = rules_for agent (merged (without_delays groups))
-
-abbrev pub is_no_delay : Entry → Bool
-is_no_delay (InGroup (Delay number)) = false
-is_no_delay entry = true
-
--- the groups of a file's lines, delays left out; these are `merged (without_delays (groups_of entries))`
-abbrev pub standard_groups : List Entry → List Group
-standard_groups entries = groups_of (filter is_no_delay entries)

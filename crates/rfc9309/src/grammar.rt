@@ -28,7 +28,7 @@ const NAMES: &[&str] = &[
 ];
 
 /// The value of a line, between the first colon and a comment, trimmed.
-pub(crate) fn value_in<'a>(body: &'a [u8]) -> &'a [u8]
+fn value_in<'a>(body: &'a [u8]) -> &'a [u8]
     ensures { result.now ≡ value_in body.now }
 {
     trim_blanks(before_byte(b'#', after_byte(b':', body)))
@@ -154,7 +154,7 @@ pub(crate) fn is_agent_line(body: &[u8]) -> bool
     is_keyed("user-agent", body) && is_product_token(value_in(body))
 }
 
-pub(crate) fn is_rule_line(body: &[u8]) -> bool
+fn is_rule_line(body: &[u8]) -> bool
     ensures { result ≡ has_form Rule body.now }
 {
     (is_keyed("allow", body) || is_keyed("disallow", body)) && is_pattern(value_in(body))

@@ -1,10 +1,16 @@
 //! The grammar of RFC 9309, section 2.2, and what this library does with a file that follows it: theorems
-//! about the specification, each written as the contract of an empty function.
+//! about the specification, each written as the contract of an empty function. Any other file, too, has its
+//! verdicts by the standard: [`StandardSite`] and [`StandardRobot`] read it so.
 #![tactic(auto)]
 
 pub mod conformance;
 pub mod edits;
 mod grammar;
+pub mod normal;
+pub mod site;
+pub mod standard;
+pub mod target;
+pub mod text;
 pub mod verdict;
 
 ghost use Rattle.std.specs.Prelude.{◌≡◌, ℕ, All, true, List, codes, take};
@@ -17,6 +23,9 @@ ghost use Rattle.texting_robots.specs.Robot.{IsFileRejected, IsRobotOfFile, Robo
 ghost use Rattle.texting_robots.specs.{Cut.IsBodyByte, Trim.IsTrimOf};
 ghost use Rattle.rfc9309.specs.Rfc9309 as rfc;
 ghost use Rattle.rfc9309.specs.Sample as sample;
+
+pub use site::{StandardRobot, StandardSite};
+pub use target::StandardTarget;
 
 /// Files that follow the extended grammar `IsFile`:
 ///
@@ -98,14 +107,9 @@ pub fn line_forms_make_files()
 ///
 /// - `lines`: each file of the grammar is one by lines, with its groups merged.
 /// - `printed`: each file by lines is one of the grammar, with the same groups.
-/// - `delays`: if groups are those of a file's lines, leaving out the delays and merging them gives those of
-/// the lines without delays.
 pub fn grammar_is_by_lines()
     ensures lines { (groups : List rfc.Group) (text : List ℕ) → rfc.IsRobotstxt groups text
         → rfc.IsRobotstxtByLines (rfc.merged groups) text }
     ensures printed { (groups : List rfc.Group) (text : List ℕ) → rfc.IsRobotstxtByLines groups text
         → rfc.IsRobotstxt groups text }
-    ensures delays { (groups : List rfc.Group) (entries : List rfc.Entry)
-        → groups ≡ rfc.groups_of entries
-        → rfc.merged (rfc.without_delays groups) ≡ rfc.standard_groups entries }
 {}

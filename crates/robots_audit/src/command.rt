@@ -19,11 +19,15 @@ The report goes to standard output; as text, its warnings go to standard error. 
 line 2 denies /a, and \"allow - /b\" that no line decides about /b, so it is allowed. With one --agent, the
 lines of the file come first: + before one of the crawler's group, - before one of another.
 
+\"(by RFC 9309: deny 10)\" follows a verdict if RFC 9309 has another one. \"RFC 9309 reads this file alike\"
+means with the same verdicts on all URLs in normal form (%20 for a space, not %41 for A). A URL is denied, and
+a file rejected, if it is in one of the readings.
+
 In a line of --expect, AGENT is a crawler's name, * (those without a group of their own) or \"any\" (*, those
 that FILE names, and known ones whose vendor applies another group). PATTERN means all paths that begin with
 it, or, with a $ at its end, all that end there, except /robots.txt; a * in it is any text. One that matches a
-single path means that path. A crawler that ignores *, as AdsBot-Google does, has to pass with that group and
-without.
+single path means that path. An expectation has to hold in both readings, for the group that the crawler's
+vendor applies; a crawler that ignores *, as AdsBot-Google does, is denied nothing.
 
 With --expect, give only FILE; with --compare only FILE, URLs, --urls-from, --agent, --known-crawlers and
 --only-verdicts; with either also --json, --github or --format; with --list-warnings or --explain nothing

@@ -5,18 +5,19 @@
 //! long, if they fail for this reason.
 #![tactic(auto)]
 
-ghost use Rattle.std.specs.Prelude.{◌≡◌, ◌≢◌, ◌<◌, ◌⊎◌, None, if◌then◌else◌, length, pos, unwrap_or};
+ghost use Rattle.std.specs.Prelude.{◌≡◌, ◌≢◌, ◌<◌, ◌⊎◌, None, false, if◌then◌else◌, length};
+ghost use Rattle.std.specs.Prelude.{pos, unwrap_or};
 ghost use Rattle.std.specs.Borrow.{sem};
 ghost use base.Fml.{Lft, Share, flft};
 ghost use Rattle.c_calls.specs.Batch.{AreVerdicts, IsWhyNone};
-ghost use Rattle.c_calls.specs.File.{GivesRobot, IsRobotFor, IsRobotOfSomeFile, bytes_read};
+ghost use Rattle.c_calls.specs.File.{GivesRobot, IsRobotFor, IsRobotOfSomeFile, bytes_read, site_of};
 ghost use Rattle.c_calls.specs.Kept.{Robots, lends, opens, owned_or_null};
 ghost use Rattle.c_calls.specs.{Number.IsNumber, Response.SaysMeaning, Text.IsTooLong, Text.IsWritten};
 ghost use Rattle.c_calls.specs.Verdicts.{ArePutIn, HasVerdict, HasVerdicts, is_allowed, line_named};
 ghost use Rattle.c_calls.specs.Verdicts.{no_verdict};
 ghost use Rattle.c_calls.specs.Status.{HasError, HasErrorAt, IsRobotsUrl, IsWhyNoRobotsUrl, IsWhyNoVerdict};
 ghost use Rattle.c_calls.specs.Status.{IsWhyNoRobot, IsWhyNotWithin, IsWhyUndecided, status_of};
-ghost use Rattle.texting_robots.specs.Callers.{RobotValue};
+ghost use Rattle.c_calls.specs.declared.reading.{OpenRobot.OpenRobot};
 
 mod site;
 
@@ -25,11 +26,11 @@ use c_calls::error::Error;
 use c_calls::handle::{close, number, opened};
 use c_calls::kept::{Handle, Kept};
 use c_calls::matrix::NO_VERDICT;
+use c_calls::reading::OpenRobot;
 use c_calls::response::meaning;
 use c_calls::texts::{self, put};
 use c_calls::urls::{verdicts_of_file, write_verdict, write_verdict_within};
 use std::alloc::Global;
-use texting_robots::Robot;
 
 /// The library's version as a number: 10,000 × major + 100 × minor + patch.
 #[unsafe(no_mangle)]
@@ -51,7 +52,8 @@ pub extern "C" fn robots_verdicts_of_file(
     line: &mut usize,
 ) -> i32
     ensures written { result ≡ pos 0
-        → GivesRobot agent.now (bytes_read file.now) (λ robot. ArePutIn (HasVerdicts robot.rules urls.now) out.old out.new) }
+        → GivesRobot agent.now (site_of false file.now) (λ robot.
+        ArePutIn (HasVerdicts robot urls.now) out.old out.new) }
     ensures kept { result ≢ pos 0 → out.new ≡ out.old }
     ensures why { HasErrorAt (IsWhyUndecided agent.now (bytes_read file.now) urls.now (length out.old)) result line.old line.new }
 {
@@ -88,11 +90,11 @@ pub extern "C" fn robots_open(
     out: &mut *mut u8,
     line: &mut usize,
 ) -> i32
-    ensures* opened { sem 𝓛 (opens Robots (IsRobotFor agent.now (bytes_read file.now)) result out.new) }
+    ensures* opened { sem 𝓛 (opens Robots (IsRobotFor agent.now (site_of false file.now)) result out.new) }
     ensures kept { result ≢ pos 0 → out.new ≡ out.old }
     ensures why { HasErrorAt (IsWhyNoRobot agent.now (bytes_read file.now)) result line.old line.new }
 {
-    let Kept { status, at } = opened(alloc, agent, file, *out as *mut Robot, line);
+    let Kept { status, at } = opened(alloc, agent, file, *out as *mut OpenRobot, line);
     *out = at as *mut u8;
     status
 }
@@ -106,15 +108,15 @@ pub unsafe extern "C" fn robots_verdict(
     url: &[u8],
     out: &mut i64,
 ) -> i32
-    ghost g: { Lft × Share × RobotValue }
+    ghost g: { Lft × Share × OpenRobot }
     requires* lent { sem 𝓛 (lends Robots robot g) }
     requires robot { IsRobotOfSomeFile g.2 }
     ensures* lent { sem 𝓛 (flft g.0 g.1) }
-    ensures written { result ≡ pos 0 → HasVerdict g.2.rules url.now out.new }
+    ensures written { result ≡ pos 0 → HasVerdict g.2 url.now out.new }
     ensures kept { result ≢ pos 0 → out.new ≡ out.old }
     ensures why { HasError (IsWhyNoVerdict url.now) result }
 {
-    write_verdict(alloc, &*(robot as *const Robot), url, out)
+    write_verdict(alloc, &*(robot as *const OpenRobot), url, out)
 }
 
 /// Writes the verdict for one URL, as `robots_verdict` does, unless that may take more looks than the budget.
@@ -126,15 +128,15 @@ pub unsafe extern "C" fn robots_verdict_within(
     budget: u64,
     out: &mut i64,
 ) -> i32
-    ghost g: { Lft × Share × RobotValue }
+    ghost g: { Lft × Share × OpenRobot }
     requires* lent { sem 𝓛 (lends Robots robot g) }
     requires robot { IsRobotOfSomeFile g.2 }
     ensures* lent { sem 𝓛 (flft g.0 g.1) }
-    ensures written { result ≡ pos 0 → HasVerdict g.2.rules url.now out.new }
+    ensures written { result ≡ pos 0 → HasVerdict g.2 url.now out.new }
     ensures kept { result ≢ pos 0 → out.new ≡ out.old }
-    ensures why { HasError (IsWhyNotWithin g.2.rules url.now budget) result }
+    ensures why { HasError (IsWhyNotWithin g.2 url.now budget) result }
 {
-    write_verdict_within(alloc, &*(robot as *const Robot), url, budget, out)
+    write_verdict_within(alloc, &*(robot as *const OpenRobot), url, budget, out)
 }
 
 /// Writes the verdicts for many URLs: those that end at these places in the text, each from the end before
@@ -148,16 +150,23 @@ pub unsafe extern "C" fn robots_verdict_list(
     are_ended: bool,
     out: &mut [i64],
 ) -> i32
-    ghost g: { Lft × Share × RobotValue }
+    ghost g: { Lft × Share × OpenRobot }
     requires* lent { sem 𝓛 (lends Robots robot g) }
     requires robot { IsRobotOfSomeFile g.2 }
     ensures* lent { sem 𝓛 (flft g.0 g.1) }
     ensures written { result ≡ pos 0
-        → ArePutIn (AreVerdicts g.2.rules urls.now ends.now are_ended) out.old out.new }
+        → ArePutIn (AreVerdicts g.2 urls.now ends.now are_ended) out.old out.new }
     ensures kept { result ≢ pos 0 → out.new ≡ out.old }
     ensures why { HasError (IsWhyNone urls.now ends.now are_ended (length out.old)) result }
 {
-    write_verdicts(alloc, &*(robot as *const Robot), urls, ends, are_ended, out)
+    write_verdicts(
+        alloc,
+        &*(robot as *const OpenRobot),
+        urls,
+        ends,
+        are_ended,
+        out,
+    )
 }
 
 /// Writes a number: for 0 what `robots_verdict_within` costs at most for a match target of this length, for 1
@@ -170,7 +179,7 @@ pub unsafe extern "C" fn robots_number(
     length: usize,
     out: &mut u64,
 ) -> i32
-    ghost g: { Lft × Share × RobotValue }
+    ghost g: { Lft × Share × OpenRobot }
     requires* lent { sem 𝓛 (lends Robots robot g) }
     ensures* lent { sem 𝓛 (flft g.0 g.1) }
     ensures written { result ≡ pos 0 → IsNumber g.2 which length out.new }
@@ -178,20 +187,20 @@ pub unsafe extern "C" fn robots_number(
     ensures no_delay { result ≢ pos 0
         → (1 < which) × (g.2.delay ≡ None) × (result ≡ status_of Error.NoDelay) }
 {
-    number(&*(robot as *const Robot), which, length, out)
+    number(&*(robot as *const OpenRobot), which, length, out)
 }
 
 /// Frees what `robots_open` or `robots_site_robot` opened. A null pointer is ignored.
 #[unsafe(no_mangle)]
 pub unsafe extern "C" fn robots_close(alloc: Global, robot: *mut u8)
-    ghost value: { RobotValue }
+    ghost value: { OpenRobot }
     requires* owned { sem 𝓛 (owned_or_null Robots robot value) }
 {
     if robot.is_null() {
         return;
     }
     close(Handle {
-        at: robot as *mut Robot,
+        at: robot as *mut OpenRobot,
         alloc,
     })
 }

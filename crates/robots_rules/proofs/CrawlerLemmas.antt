@@ -45,12 +45,6 @@ pub rules_of_star : (agent : List ℕ) (lines : List LineValue) → is_named age
     → placed_rules agent lines ≡ placed_rules (codes "*") lines
 rules_of_star agent lines isnt = rules_of_group agent (codes "*") lines (group_of_star agent lines isnt)
 
-pub rules_in_any_case : (agent other : List ℕ) (lines : List LineValue)
-    → str_to_ascii_lowercase agent ≡ str_to_ascii_lowercase other
-    → placed_rules agent lines ≡ placed_rules other lines
-rules_in_any_case agent other lines same =
-    rules_of_group agent other lines (group_in_any_case agent other lines same)
-
 high_byte : (a b : ℕ) → to_ascii_lowercase a ≡ to_ascii_lowercase b → 128 ≤ b → a ≡ b
 high_byte a b same high = grind (arith, lowercase_is, lowercase_ascii)
 
@@ -135,16 +129,6 @@ name_of agent lines utf8 is =
     let alike = (bytes_eq-Decides _ (str_to_ascii_lowercase agent)).0 passes in
     let utf8 = is_utf8-from_IsUtf8 one (utf8_in_any_case one agent utf8 alike) in
     grind (arith, in_cons, to_filter)
-
-pub star_or_named : (agent : List ℕ) (lines : List LineValue) → IsUtf8 agent
-    → (name : List ℕ) × Contains (codes "*" ∷ agents_in lines) name
-    × (placed_rules agent lines ≡ placed_rules name lines)
-star_or_named agent lines utf8 = elim (cases_Bool (is_named agent lines)) [
-  | inr isnt ↦ (codes "*", (0, omega arith, refl), rules_of_star agent lines isnt)
-  | inl is ↦
-      let (name, has, same) = name_of agent lines utf8 is in
-      (name, has, rules_in_any_case agent name lines same)
-]
 
 -- ---- Lines that mean the same for `*` and the crawlers that they name do so for each crawler.
 

@@ -14,7 +14,7 @@ use Rattle.texting_robots.specs.Internal.{Line.line_of}
 use Rattle.robots_rules.specs.declared.needless.{NeedlessRule.NeedlessRule, Reason.Reason}
 use Rattle.robots_rules.specs.Blocks.{AreFoundIn, KeepBlocks, begin_with_mark, left_from}
 use Rattle.robots_rules.specs.Search.{IsSameWithout, IsSettled, Reasons, SettledValue, is_found, names_of}
-use Rattle.robots_rules.specs.Needless.{MeanTheSame, lines_without, numbers_of}
+use Rattle.robots_rules.specs.Needless.{AreDeletable, MeanTheSame, lines_without, numbers_of}
 use Rattle.robots_rules.proofs.BlockLemmas.{among, left_are}
 use Rattle.robots_rules.proofs.LeftLemmas.{map_left}
 use Rattle.robots_rules.proofs.TogetherLemmas.{in_named, named_in, of_map}
@@ -69,15 +69,19 @@ module _ (found : Reasons) (list : List NeedlessRule) (are : list ≡ map rule_a
         (All-contains (λ (one : SettledValue). MeanTheSame one.agent (file_lines file) (file_lines is.left))
         settled one is.alike listed)
 
+    pub are_deletable : ((agent : List ℕ) → Contains (codes "*" ∷ agents_in (file_lines file)) agent
+        → Contains (names_of settled) agent) → AreDeletable (numbers_of list) (file_lines file)
+    are_deletable named = record {
+      alike = agent_alike named;
+      sitemaps = ap sitemaps_in (sym left_lines) ∙ sym is.sitemaps;
+    }
+
     pub are_found_in : ((agent : List ℕ) → Contains (codes "*" ∷ agents_in (file_lines file)) agent
         → Contains (names_of settled) agent) → KeepBlocks (is_found found) (file_lines file)
         → begin_with_mark (left_from (is_found found) 0 (file_bodies file)) ≡ false → AreFoundIn file list
     are_found_in named blocks front = record {
       deletable = λ some. record {
-        lines = record {
-          alike = agent_alike named;
-          sitemaps = ap sitemaps_in (sym left_lines) ∙ sym is.sitemaps;
-        };
+        lines = are_deletable named;
         blocks = subst (λ (gone : ℕ → Bool). KeepBlocks gone (file_lines file)) (sym are_keys) blocks;
         front = ap begin_with_mark (lines_left (file_bodies file)) ∙ front;
       };

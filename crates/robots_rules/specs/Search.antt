@@ -1,10 +1,10 @@
 -- What the search for needless rules (`needless`, `lines`, `same`) keeps true: it takes rules away from a
 -- crawler's, and the verdicts stay. The search for states, in `search`, has its own in `Internal`.
 use Rattle.std.specs.Prelude.{◌≡◌, ◌≢◌, ◌+◌, ◌<◌, ◌≤◌, ◌⊎◌, ℕ, All, Bool, List, [], ◌++◌, drop, if◌then◌else◌}
-use Rattle.std.specs.Prelude.{length, map, take}
+use Rattle.std.specs.Prelude.{Contains, ◌∷◌, codes, length, map, take}
 use Rattle.std.specs.{BTreeMap.BTreeMap, BTreeMap.get, Option.is_some, Ordering.nat_cmp}
 use Rattle.texting_robots.specs.Callers.{IsRejected, LineValue, Matches, PlacedRule, Rule, file_bodies}
-use Rattle.texting_robots.specs.Callers.{file_lines, robots_file, rules_for, sitemaps_in, unplaced}
+use Rattle.texting_robots.specs.Callers.{agents_in, file_lines, robots_file, rules_for, sitemaps_in, unplaced}
 use Rattle.robots_rules.specs.Same.{HaveSameVerdicts}
 use Rattle.robots_rules.specs.{Internal.rank_of, Blocks.left_from, Needless.MeanTheSame}
 use Rattle.robots_rules.specs.declared.needless.{Reason.Reason, NeedlessRule.NeedlessRule, Outcome.Outcome}
@@ -72,6 +72,12 @@ pub record IsSettled (lines : List LineValue) (settled : SettledValue) : Type 0 
 
 abbrev pub names_of : List SettledValue → List (List ℕ)
 names_of all = map (λ (settled : SettledValue). settled.agent) all
+
+-- what is left of the rules of `*` and of each crawler that the file names
+pub record AreSettled (file : List ℕ) (settled : List SettledValue) : Type 0 where
+  pub each : All (IsSettled (file_lines file)) settled
+  pub names : (agent : List ℕ) → Contains (codes "*" ∷ agents_in (file_lines file)) agent
+      → Contains (names_of settled) agent
 
 -- there is a file with exactly the other lines, and it means the same for these crawlers
 pub record IsSameWithout (found : Reasons) (settled : List SettledValue) (file : List ℕ) : Type 0 where

@@ -38,8 +38,8 @@ fn split<'a>(
     Ok((first, second))
 }
 
-/// Changes these rules in one of the lists, if that changes no verdict. Else both lists may differ on the text
-/// that was found.
+/// Changes these rules in one of the lists, if that changes no verdict. Else both lists may differ on the
+/// text that was found.
 #[tactic(auto, using(crate::proofs::PoolLemmas::old_leads, crate::proofs::PoolLemmas::new_leads))]
 fn step<'a>(
     alloc: Global,

@@ -12,7 +12,7 @@ pub mod needless;
 mod pool;
 mod refine;
 pub mod rule;
-mod same;
+pub mod same;
 mod search;
 mod side;
 mod state;

@@ -1,11 +1,11 @@
 //! Which lines of a file have rules that are needless for every crawler.
-ghost use Rattle.std.specs.Prelude.{◌≡◌, ◌∷◌, All, Contains, IfOk, IsTrue, List, bytes_eq, codes, false, map};
-ghost use Rattle.std.specs.Prelude.{ℕ};
+ghost use Rattle.std.specs.Prelude.{◌≡◌, ◌≢◌, ◌∷◌, ℕ, [], All, Contains, IfOk, IsTrue, List, bytes_eq, codes};
+ghost use Rattle.std.specs.Prelude.{false, map};
 ghost use Rattle.std.specs.List.{list_any};
 ghost use Rattle.texting_robots.specs.Callers.{agents_in, file_bodies, file_lines};
 ghost use Rattle.robots_rules.specs.Blocks.{AreFoundIn, KeepBlocks, begin_with_mark, left_from};
-ghost use Rattle.robots_rules.specs.Search.{IsSettled, is_found, names_of, rule_at};
-ghost use Rattle.robots_rules.specs.Needless.{nothing};
+ghost use Rattle.robots_rules.specs.Search.{AreSettled, IsSettled, is_found, names_of, rule_at};
+ghost use Rattle.robots_rules.specs.Needless.{AreDeletable, nothing, numbers_of};
 
 use crate::blocks::{add_lost, keep_blocks};
 use crate::needless::{BUDGET, LineNumbers, NeedlessRule, Progress, Reason, settle};
@@ -59,18 +59,19 @@ fn crawlers_of(alloc: Global, site: &Site) -> Result<Vec<&str>, AllocError>
     Ok(agents)
 }
 
-/// Whether the crawlers have more rules in all than are kept. A rule counts for each that has it.
-fn have_too_many(site: &Site, crawlers: &[&str]) -> bool {
+/// How many rules the crawlers have in all, or one more than are kept. A rule counts for each that has it.
+fn rule_count(alloc: Global, site: &Site) -> Result<usize, AllocError> {
+    let crawlers = crawlers_of(alloc, site)?;
     let mut count: usize = 0;
-    for agent in crawlers {
+    for agent in &crawlers {
         for _ in site.rules(agent) {
             count = count.saturating_add(1);
         }
         if count > MOST_RULES {
-            return true;
+            return Ok(count);
         }
     }
-    false
+    Ok(count)
 }
 
 /// The rules in the lines that stay are needed.
@@ -93,6 +94,48 @@ fn all_settled<'a>(
         }
     }
     Ok(all)
+}
+
+/// Each crawler of the file, with the rules that are left of its own.
+fn settled_in<'a>(
+    alloc: Global,
+    site: &'a Site,
+    budget: &mut usize,
+    progress: &mut Progress,
+) -> Result<Vec<Settled<'a>>, RobotError>
+    ensures { IfOk result (λ all. AreSettled site.now all.items) }
+{
+    let crawlers = crawlers_of(alloc, site)?;
+    let all = all_settled(alloc, site, crawlers.as_slice(), budget, progress)?;
+    Ok(all)
+}
+
+/// The same of the other file. Its rules that stay are needed, too; what was found, and why, is that of the
+/// file.
+fn settled_beside<'a>(
+    alloc: Global,
+    other: &'a Site,
+    budget: &mut usize,
+    progress: Progress,
+) -> Result<(Vec<Settled<'a>>, Progress), RobotError>
+    ensures { IfOk result (λ settled. AreSettled other.now settled.0.items) }
+{
+    let found = progress.found;
+    let mut beside = Progress {
+        found: BTreeMap::new(alloc),
+        stays: progress.stays,
+        undecided: progress.undecided,
+    };
+    let settled = settled_in(alloc, other, budget, &mut beside)?;
+    let (stays, undecided) = (beside.stays, beside.undecided);
+    Ok((
+        settled,
+        Progress {
+            found,
+            stays,
+            undecided,
+        },
+    ))
 }
 
 fn listed(alloc: Global, found: &BTreeMap<usize, Reason>) -> Result<Vec<NeedlessRule>, AllocError>
@@ -159,53 +202,63 @@ pub fn nothing(alloc: Global) -> Needless
     }
 }
 
-/// What was found, if a file without it means the same, as it does unless the search has a fault.
+/// What was found, if both files without it mean the same, as they do unless the search has a fault.
 fn checked(
     alloc: Global,
     site: &Site,
     settled: &[Settled<'_>],
+    other: &Site,
+    others: &[Settled<'_>],
     progress: &Progress,
     rules: Vec<NeedlessRule>,
 ) -> Result<Needless, RobotError>
-    requires settled { All (IsSettled (file_lines site.now)) settled.now }
-    requires names { (agent : List ℕ) → Contains (codes "*" ∷ agents_in (file_lines site.now)) agent
-        → Contains (names_of settled.now) agent }
+    requires settled { AreSettled site.now settled.now }
+    requires others { AreSettled other.now others.now }
     requires rules { rules.items ≡ map rule_at progress.now.found.entries }
     requires blocks { KeepBlocks (is_found progress.now.found) (file_lines site.now) }
     requires front { begin_with_mark (left_from (is_found progress.now.found) 0 (file_bodies site.now))
         ≡ false }
-    ensures { IfOk result (λ found. AreFoundIn site.now found.rules) }
+    ensures found { IfOk result (λ found. AreFoundIn site.now found.rules) }
+    ensures other { IfOk result (λ found. found.rules ≢ []
+        → AreDeletable (numbers_of found.rules) (file_lines other.now)) }
 {
     let undecided = numbers_in(alloc, &progress.undecided)?;
     if rules.is_empty() {
         return Ok(Needless { rules, undecided });
     }
-    if is_same_without(alloc, site, &progress.found, settled)? {
-        return Ok(Needless { rules, undecided });
+    if !is_same_without(alloc, site, &progress.found, settled)? {
+        return Ok(nothing(alloc));
     }
-    Ok(nothing(alloc))
+    if !is_same_without(alloc, other, &progress.found, others)? {
+        return Ok(nothing(alloc));
+    }
+    Ok(Needless { rules, undecided })
 }
 
 /// None if lines are still found to be needed in the last round.
-fn settled_lines(alloc: Global, site: &Site) -> Result<Needless, RobotError>
-    ensures { IfOk result (λ found. AreFoundIn site.now found.rules) }
+fn settled_lines(alloc: Global, site: &Site, other: &Site) -> Result<Needless, RobotError>
+    ensures found { IfOk result (λ found. AreFoundIn site.now found.rules) }
+    ensures other { IfOk result (λ found. found.rules ≢ []
+        → AreDeletable (numbers_of found.rules) (file_lines other.now)) }
 {
-    let mut budget = BUDGET;
-    let mut stays = BTreeSet::new(alloc);
-    let crawlers = crawlers_of(alloc, site)?;
-    if have_too_many(site, &crawlers) {
+    let count = rule_count(alloc, site)?.max(rule_count(alloc, other)?);
+    if count > MOST_RULES {
         return Ok(nothing(alloc));
     }
+    let (mut budget, mut left) = (BUDGET, BUDGET);
+    let mut stays = BTreeSet::new(alloc);
     for _ in 0..ROUNDS {
-        let mut progress = Progress {
+        let mut here = Progress {
             found: BTreeMap::new(alloc),
             stays,
             undecided: BTreeSet::new(alloc),
         };
-        let settled = all_settled(alloc, site, crawlers.as_slice(), &mut budget, &mut progress)?;
+        let settled = settled_in(alloc, site, &mut budget, &mut here)?;
+        let (others, progress) = settled_beside(alloc, other, &mut left, here)?;
         let rules = listed(alloc, &progress.found)?;
         if can_be_removed(&rules, &progress, site.text()) {
-            return checked(alloc, site, settled.as_slice(), &progress, rules);
+            let (settled, others) = (settled.as_slice(), others.as_slice());
+            return checked(alloc, site, settled, other, others, &progress, rules);
         }
         stays = progress.stays;
         add_lost(site.text(), &progress.found, &mut stays)?;
@@ -214,15 +267,17 @@ fn settled_lines(alloc: Global, site: &Site) -> Result<Needless, RobotError>
 }
 
 /// The rules that are needless for every crawler that gets them, and can be removed together without changing
-/// a verdict. The last rule of a block isn't found, and `Allow: /` and an empty Disallow aren't, which are
-/// meant as they are. None is found if a rule is too long, if the crawlers have more than 1,000,000 rules in
-/// all, if they need each other's rules in too many ways, or if the first line that stays begins with a byte
-/// of the byte order mark. If the file is larger than the site's limit, deleting lines from it lets others be
-/// read.
-pub fn needless_lines(alloc: Global, site: &Site) -> Result<Needless, AllocError>
-    ensures { IfOk result (λ found. AreFoundIn site.now found.rules) }
+/// a verdict, also from another file with the same line numbers: the same file as it is read otherwise. The
+/// last rule of a block isn't found; nor are `Allow: /` and an empty Disallow, which are meant as they are.
+/// None is found if a rule is too long, if the crawlers have more than 1,000,000 rules in all, if they need
+/// each other's rules in too many ways, or if the first line that stays begins with a byte of the byte order
+/// mark. If the file is larger than the site's limit, deleting lines from it lets others be read.
+pub fn needless_lines(alloc: Global, site: &Site, other: &Site) -> Result<Needless, AllocError>
+    ensures found { IfOk result (λ found. AreFoundIn site.now found.rules) }
+    ensures other { IfOk result (λ found. found.rules ≢ []
+        → AreDeletable (numbers_of found.rules) (file_lines other.now)) }
 {
-    match settled_lines(alloc, site) {
+    match settled_lines(alloc, site, other) {
         Ok(found) => Ok(found),
         Err(RobotError::Overlong(_)) => Ok(nothing(alloc)),
         Err(RobotError::Memory) => Err(AllocError),

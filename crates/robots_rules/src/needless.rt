@@ -1,5 +1,5 @@
-//! Looks for needless rules of a crawler. Only that the verdicts stay is proved of it; `same` checks the whole
-//! file without the lines that are found.
+//! Looks for needless rules of a crawler. Only that the verdicts stay is proved of it; `same` checks the
+//! whole file without the lines that are found.
 ghost use Rattle.std.specs.Prelude.{◌≡◌, ◌≢◌, ◌++◌, ◌<◌, [], All, IfOk, IsPermutation, IsTrue, OnOk, false};
 ghost use Rattle.std.specs.Prelude.{length};
 ghost use Rattle.texting_robots.specs.Pattern.{dollar, star};
@@ -428,8 +428,8 @@ fn add_lines(numbers: &mut LineNumbers, rules: &[Rule]) -> Result<(), AllocError
     Ok(())
 }
 
-/// The rules without those that are needless, of which each is tried among those that are left. After one that
-/// isn't decided, none is tried.
+/// The rules without those that are needless, of which each is tried among those that are left. After one
+/// that isn't decided, none is tried.
 fn reduced(
     alloc: Global,
     budget: &mut usize,
@@ -468,8 +468,8 @@ fn by_line(rules: Vec<Rule>) -> Vec<Rule>
     sorted
 }
 
-/// The rules of a crawler, in file order, without those that are found to be needless. The lines of the others
-/// stay.
+/// The rules of a crawler, in file order, without those that are found to be needless. The lines of the
+/// others stay.
 pub(crate) fn settle(
     alloc: Global,
     budget: &mut usize,

@@ -91,7 +91,8 @@ fn is_same_rule(one: &Rule, other: &Rule) -> bool
     one.is_allow == other.is_allow && one.pattern.as_str() == other.pattern.as_str()
 }
 
-fn are_same_rules(rules: &[Rule], others: &[Rule]) -> bool
+/// Whether the rules are the same, in whatever lines.
+pub fn are_same_rules(rules: &[Rule], others: &[Rule]) -> bool
     ensures { IsTrue result → unplaced rules.now ≡ unplaced others.now }
 {
     if rules.len() != others.len() {

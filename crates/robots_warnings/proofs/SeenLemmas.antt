@@ -1,36 +1,11 @@
--- How names and the values of rules are remembered, and how lines are found by them.
-use Rattle.std.specs.Prelude.{All, Some, slice_get, slice_index}
-use Rattle.std.proofs.Common.{[], ◌≡◌, ℕ, ◌+◌, ◌<◌, Bool, true, false, List, ◌∷◌, ◌++◌, ◌∙◌, ap, arith, drop}
-use Rattle.std.proofs.Common.{if◌then◌else◌, length, refl, suc, sym, zero, add-one, append-nil, ◌||◌}
+-- How numbers of lines are taken, and lines found past the size limit.
+use Rattle.std.specs.Prelude.{All, Some, slice_get}
+use Rattle.std.proofs.Common.{[], ◌≡◌, ℕ, ◌+◌, Bool, true, false, List, ◌∷◌, ◌++◌, ◌∙◌, ap, drop}
+use Rattle.std.proofs.Common.{if◌then◌else◌, refl, suc, sym, zero, add-one, append-nil, ◌||◌}
 use Rattle.std.{proofs.lemmas.List.Elements.All-push, specs.BTreeSet.BTreeSet}
 use Rattle.texting_robots.specs.Callers.{LineValue, file_lines}
-use Rattle.robots_warnings.specs.{declared.spellings.Spelling.Spelling, Crawlers.IsPastLimit}
-use Rattle.robots_warnings.specs.Spellings.{is_escape, spelled, spelled_escape}
+use Rattle.robots_warnings.specs.{Crawlers.IsPastLimit}
 use Rattle.robots_warnings.specs.Internal.Names.{Key, AddsLine, HasNames}
-
-pub next_escape : (spelling : Spelling) (text : List ℕ) → 2 < length text
-    → is_escape (slice_index text 0) (slice_index text 1) (slice_index text 2) ≡ true
-    → spelled spelling text
-    ≡ spelled_escape spelling (slice_index text 1) (slice_index text 2) ++ spelled spelling (drop 3 text)
-unfolding spelled
-next_escape spelling [] long is = absurd (omega arith)
-next_escape spelling (b ∷ []) long is = absurd (omega arith)
-next_escape spelling (b ∷ high ∷ []) long is = absurd (omega arith)
-next_escape spelling (b ∷ high ∷ low ∷ text) long is = rw is refl
-
-pub next_byte : (spelling : Spelling) (text : List ℕ) → 0 < length text
-    → is_escape (slice_index text 0) (slice_index text 1) (slice_index text 2) ≡ false
-    → spelled spelling text ≡ slice_index text 0 ∷ spelled spelling (drop 1 text)
-unfolding spelled
-next_byte spelling [] long isnt = absurd (omega arith)
-next_byte spelling (b ∷ []) long isnt = refl
-next_byte spelling (b ∷ high ∷ []) long isnt = refl
-next_byte spelling (b ∷ high ∷ low ∷ text) long isnt = rw isnt refl
-
-pub no_bytes : (spelling : Spelling) (text : List ℕ) → length text ≡ 0 → spelled spelling text ≡ []
-unfolding spelled
-no_bytes spelling [] none = refl
-no_bytes spelling (b ∷ text) none = absurd (omega arith)
 
 -- loop step: a number was taken if something holds
 pub all_pushed : (P : ℕ → Type 0) (old : List ℕ) (is : Bool) (number : ℕ) {new : List ℕ} → All P old

@@ -1,10 +1,10 @@
 -- Rules that contradict each other, and empty Disallows.
 use Rattle.std.specs.Prelude.{[], ℕ, Bool, false, filter, slice_get, Contains, bytes_eq, if◌then◌else◌}
-use Rattle.std.specs.Prelude.{length, ◌≡◌, ◌+◌, ◌==◌, not, ◌||◌, ◌&&◌, List, ◌∷◌, Some, true, codes}
-use Rattle.std.specs.{Str.byte, List.list_any}
-use Rattle.texting_robots.specs.Callers.{Allow, Label, LineValue, PlacedRule, AreRulesFor, placed_rules}
+use Rattle.std.specs.Prelude.{length, ◌≡◌, ◌+◌, ◌==◌, not, ◌&&◌, List, Some, true, codes}
+use Rattle.std.specs.{List.list_any}
+use Rattle.texting_robots.specs.Callers.{Label, LineValue, PlacedRule, AreRulesFor, placed_rules}
 use Rattle.texting_robots.specs.{Statement.IsStatement, declared.parser.statement.Kind.TheVariants.Disallow}
-use Rattle.safe_output.specs.{Bytes.trim_blanks_start}
+use Rattle.rfc9309.specs.{EmptyDisallow.is_empty_disallow}
 use Rattle.robots_warnings.specs.{Closed.is_whole_site}
 
 -- ---- Empty Disallows. Each is an Allow of `/` here, and no rule for RFC 9309 and Google.
@@ -19,21 +19,11 @@ IsEmptyDisallow bodies number =
 abbrev pub stated_rules : (is_empty : ℕ → Bool) → List PlacedRule → List PlacedRule
 stated_rules is_empty rules = filter (λ placed. not (is_empty placed.line)) rules
 
-abbrev pub begins_with_d : List ℕ → Bool
-begins_with_d [] = false
-begins_with_d (b ∷ text) = b == byte "d" || b == byte "D"
-
--- the line is read as an Allow, but its field name begins with a `d`; by the theorem `empty_disallows` of
--- `warning_theorems` this agrees with `IsEmptyDisallow`
-abbrev pub is_empty_disallow : LineValue → List ℕ → Bool
-is_empty_disallow (Allow value) body = begins_with_d (trim_blanks_start body)
-is_empty_disallow _ body = false
-
--- the line with this number is one
+-- the line with this number is one; by the theorem `empty_disallows` of `warning_theorems` this agrees with
+-- `IsEmptyDisallow`
 abbrev pub is_empty_at : List Label → ℕ → Bool
-is_empty_at [] number = false
-is_empty_at (label ∷ labels) number =
-    (is_empty_disallow label.line label.body && label.number == number) || is_empty_at labels number
+is_empty_at labels number =
+    list_any (λ label. is_empty_disallow label.line label.body && label.number == number) labels
 
 -- `/` in place of `*`, which matches the same paths and is as long, so that an Allow of one wins over a
 -- Disallow of the other

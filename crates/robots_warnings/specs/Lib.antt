@@ -9,7 +9,6 @@ pub mod Targets
 pub mod Conflicts
 pub mod Closed
 pub mod Crawlers
-pub mod Spellings
 pub mod Repeated
 pub mod Warnings
 pub mod Message

@@ -1,6 +1,6 @@
 -- Conditions on the value of an Allow or a Disallow line.
-use Rattle.std.specs.Prelude.{[], ℕ, ◌==◌, Bool, false, not, ◌||◌, ◌&&◌, List, ◌∷◌, codes, slice_index}
-use Rattle.safe_output.specs.Bytes.{after_byte, has}
+use Rattle.std.specs.Prelude.{[], ℕ, ◌==◌, Bool, false, not, ◌||◌, ◌&&◌, List, ◌∷◌, slice_index}
+use Rattle.safe_output.specs.{Bytes.after_byte}
 use Rattle.std.specs.{List.list_any, Char.is_ascii_hexdigit, Str.byte}
 
 -- not empty, and without a slash or a star at its start
@@ -18,8 +18,3 @@ begins_lone_percent text =
 abbrev pub has_dollar_inside : List ℕ → Bool
 has_dollar_inside value =
     list_any (λ b. not (b == byte "*" || b == byte "$")) (after_byte (byte "$") value)
-
--- a reserved character of RFC 3986, but not `*` or `$`, which are special in a rule, nor `#`, which no path
--- or query has, nor `'`, which is written `%27` in the query of a URL
-abbrev pub is_delimiter : ℕ → Bool
-is_delimiter b = has b (codes ":/?[]@!&()+,;=")

@@ -14,7 +14,8 @@ use crate::rules::{
 use crate::several_values::{has_tag, several_values};
 use crate::table::Cause;
 use crate::tokens::{is_product_token, is_usual_name};
-use crate::urls::{begins_as_url, has_odd_host, is_absolute_url};
+use crate::urls::{has_odd_host, is_absolute_url};
+use rfc9309::target::begins_as_url;
 use safe_output::bytes::{has, is_utf8, somewhere};
 use std::alloc::{AllocError, Global};
 use texting_robots::labels::{LabeledLine, Membership};

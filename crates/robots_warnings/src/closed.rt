@@ -211,8 +211,8 @@ pub fn is_closed(alloc: Global, site: &Site, agent: &str) -> Result<bool, AllocE
     Ok(line_closing_site(alloc, &exempt, site, agent)?.is_some())
 }
 
-/// The line of the first Disallow of the home page that no Allow of it, at least as long, is a rival of.
-fn first_closing_home(rules: &[SiteRule<'_>]) -> Option<usize> {
+/// The length that a Disallow of the home page must have at least to have no rival among these rules.
+fn needed_for_home(rules: &[SiteRule<'_>]) -> usize {
     let mut needed = 0;
     for rule in rules {
         let value = rule.value.as_bytes();
@@ -221,6 +221,12 @@ fn first_closing_home(rules: &[SiteRule<'_>]) -> Option<usize> {
             needed = value.len() + 1;
         }
     }
+    needed
+}
+
+/// The line of the first Disallow of the home page that no Allow of it, at least as long, is a rival of.
+fn first_closing_home(rules: &[SiteRule<'_>]) -> Option<usize> {
+    let needed = needed_for_home(rules);
     for rule in rules {
         let value = rule.value.as_bytes();
         if !rule.is_allow && is_home(value) && value.len() >= needed {
@@ -230,9 +236,47 @@ fn first_closing_home(rules: &[SiteRule<'_>]) -> Option<usize> {
     None
 }
 
+/// The line that closes the site to the crawler, or leaves it only what Allows of other pages than the home
+/// page match.
+fn line_closing_most(
+    alloc: Global,
+    exempt: &Patterns,
+    site: &Site,
+    agent: &str,
+) -> Result<Option<usize>, AllocError> {
+    let rules = own_rules(alloc, site, agent)?;
+    if let Some(line) = first_closing(alloc, exempt, &rules)? {
+        return Ok(Some(line));
+    }
+    let needed = needed_for_home(&rules);
+    for rule in &rules {
+        if is_closing(rule) && rule.value.len() >= needed {
+            return Ok(Some(rule.line));
+        }
+    }
+    Ok(None)
+}
+
+/// The lines that close all or most of the site to the crawler in the file, and in the text that stands for it
+/// in RFC 9309's reading.
+pub fn lines_closing_both(
+    alloc: Global,
+    site: &Site,
+    text: &Site,
+    agent: &str,
+) -> Result<(Option<usize>, Option<usize>), AllocError> {
+    if is_elsewhere(alloc, site, agent)? {
+        return Ok((None, None));
+    }
+    let exempt = exempt_patterns(alloc, site)?;
+    let here = line_closing_most(alloc, &exempt, site, agent)?;
+    let there = line_closing_most(alloc, &exempt, text, agent)?;
+    Ok((here, there))
+}
+
 /// Closing the site to the crawler is probably a mistake. `let_in`: a group of a large search engine doesn't
 /// close all of it.
-fn is_major(let_in: bool, site: &Site, agent: &str) -> bool {
+pub fn is_major(let_in: bool, site: &Site, agent: &str) -> bool {
     let name = token_front(agent.as_bytes());
     SEARCH_ENGINES
         .iter()

@@ -1,25 +1,14 @@
 //! Empty Disallows, which are read as an Allow of `/`.
 ghost use Rattle.std.specs.Prelude.{◌≡◌, ℕ, IfOk, map};
 ghost use Rattle.std.specs.{BTreeSet.contains, Ordering.nat_cmp};
-ghost use Rattle.texting_robots.specs.Callers.{by_value, label_by_value};
-ghost use Rattle.robots_warnings.specs.Conflicts.{is_empty_at, is_empty_disallow};
+ghost use Rattle.texting_robots.specs.Callers.{label_by_value};
+ghost use Rattle.robots_warnings.specs.Conflicts.{is_empty_at};
 
 use crate::numbers::{LineNumbers, insert_if};
-use safe_output::bytes::trim_blanks_start;
+use rfc9309::text::is_empty_disallow;
 use std::alloc::{AllocError, Global};
 use std::collections::BTreeSet;
 use texting_robots::labels::LabeledLine;
-use texting_robots::parser::Line;
-
-/// Whether this is an empty Disallow.
-pub fn is_empty_disallow(line: Line<'_>, body: &[u8]) -> bool
-    ensures { result ≡ is_empty_disallow (by_value line.entry) body.now }
-{
-    match line {
-        Line::Allow(_) => matches!(trim_blanks_start(body), [b'd' | b'D', ..]),
-        _ => false,
-    }
-}
 
 pub(crate) fn empty_disallows(
     alloc: Global,

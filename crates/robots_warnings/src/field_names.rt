@@ -2,7 +2,7 @@
 use crate::several_values::begins_unseen;
 use crate::table::Cause;
 use crate::tokens::is_token_byte;
-use crate::urls::begins_as_url;
+use rfc9309::target::begins_as_url;
 use safe_output::bytes::{
     after_byte, before_byte, first, has, somewhere, trim_blanks, trim_blanks_start,
 };

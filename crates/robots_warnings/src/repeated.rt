@@ -6,9 +6,9 @@ ghost use Rattle.robots_warnings.specs.Internal.Values.{AddsLine, HasSeen};
 ghost use Rattle.robots_warnings.specs.{File.lines_of, Repeated.IsRepeat};
 
 use crate::checks::is_in_scope_of;
-use crate::empty_disallows::is_empty_disallow;
 use crate::numbers::push_if;
 use crate::values::{Value, Values};
+use rfc9309::text::is_empty_disallow;
 use std::alloc::{AllocError, Global};
 use std::collections::HashSet;
 use texting_robots::labels::{LabeledLine, Membership};

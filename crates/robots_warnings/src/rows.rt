@@ -2,11 +2,14 @@
 //! what happens, and what to do, an example, the example without the warning, and for `--explain` when it is given.
 //! The last two may be empty: a condition is with the first warning of a name.
 
-pub(crate) const COUNT: usize = 98;
+pub(crate) const COUNT: usize = 101;
 
-/// The rows, for a macro that takes a column of them.
+/// How many of the rows are the first ones.
+pub(crate) const FIRST_COUNT: usize = 56;
+
+/// The first rows and others, for a macro that takes a column of them.
 #[rattlefmt::skip]
-macro_rules! every_row { ($column:ident) => { $column![
+macro_rules! first_rows { ($column:ident $($more:tt)*) => { $column![
     HtmlPage Error "html-page"
         "no usable line found; the text starts with <, so it may be an HTML page; serve a plain-text robots.txt instead"
         "<html>\n</html>"
@@ -153,7 +156,7 @@ macro_rules! every_row { ($column:ident) => { $column![
         "User-agent: *\nDisallow: /a"
         "the value of a directive with a colon, except a delay, has white space other than spaces and tabs around it",
     InvalidProductToken Warning "invalid-product-token"
-        "not a valid product token (ASCII letters, _ and - only, or a single *); crawlers disagree on how to match it; write one name per User-agent line, without version, quotes or *"
+        "not a valid product token (ASCII letters, _ and - only, or a single *); here no crawler gets the rules below by this line, and crawlers disagree on how to match it; write one name per User-agent line, without version, quotes or *"
         "User-agent: *\nUser-agent: Bot/1.0\nDisallow: /a"
         "User-agent: *\nUser-agent: Bot\nDisallow: /a"
         "the name isn't a product token, nor like names that crawlers have: ASCII letters, digits, _, -, dots and spaces, possibly with a single * at the end; several names in one line aren't such a name either; not with several-directives",
@@ -257,6 +260,12 @@ macro_rules! every_row { ($column:ident) => { $column![
         "User-agent: *\nDisallow: /../a"
         "User-agent: *\nDisallow: /a"
         "the path of a rule has a segment . or .. before its first ?",
+    $($more)*
+] }; }
+
+/// The other rows. A proof about all messages in one table would take too long.
+#[rattlefmt::skip]
+macro_rules! later_rows { ($macro:ident $($column:ident)?) => { $macro![$($column)?
     SpaceInValue Warning "several-values"
         "all of this is read as one value, with the white space or control character in it; write one value per line, %20 for a space, and comments after #"
         "User-agent: *\nDisallow: /a/ /b/"
@@ -381,11 +390,23 @@ macro_rules! every_row { ($column:ident) => { $column![
         "may fetch nothing, or only what Allows for the home page, sitemaps or files such as style sheets match; if search engines should read the site, delete this rule or add a longer Allow"
         "User-agent: *\nDisallow: /"
         "User-agent: *\nDisallow: /private/"
-        "a Disallow matches every path, and each Allow at least as long is /$, /robots.txt or the path of a sitemap of the file, begins with /.well-known or /sitemap, ends as static files do (/*.js, which also matches /a.jsp), or matches no path; not if the vendor applies another group, or the name is in the file and gives misspelled-name. A warning for large search engines, and for * and crawlers without a group if no group lets a large search engine in; else a note",
+        "a Disallow matches every path, and each Allow at least as long is /$, /robots.txt or the path of a sitemap of the file, begins with /.well-known or /sitemap, ends as static files do (/*.js, which also matches /a.jsp), or matches no path; not if the vendor applies another group, or the name is in the file and gives misspelled-name. A warning for large search engines, and for * and crawlers without a group if no group lets a large search engine in; else a note. If only one of two readings, here and RFC 9309's, leaves a crawler nothing of the site, or only what Allows of other pages than the home page match: an error for Googlebot, and a warning or a note for other crawlers, if it is RFC 9309's",
     ClosedSiteToOthers Note "closed-site"
-        "may fetch nothing, or only what Allows for the home page, sitemaps or files such as style sheets match; if that isn't meant, delete this rule or add a longer Allow"
+        "may fetch nothing, or only what Allows for the home page, sitemaps or files such as style sheets match; if that isn't meant, correct this rule or add a longer Allow"
         "User-agent: GPTBot\nDisallow: /"
         "User-agent: GPTBot\nDisallow: /\nAllow: /public/" "",
+    ClosedInOneReading Error "closed-site"
+        "may fetch nothing, or only what a few Allows match, in one of two readings of this file: that of RFC 9309 and Google, and the one here, in which a Crawl-delay ends a list of names, and an empty Disallow is an Allow of /; write the file so that both agree"
+        "User-agent: *\nCrawl-delay: 10\nUser-agent: GPTBot\nDisallow: /"
+        "User-agent: *\nCrawl-delay: 10\nDisallow:\nUser-agent: GPTBot\nDisallow: /" "",
+    ClosedByStandard Warning "closed-site"
+        "may fetch nothing, or only what a few Allows match, as RFC 9309 reads this file, but more as it is read here; write the file so that both agree"
+        "User-agent: *\nCrawl-delay: 10\nUser-agent: GPTBot\nDisallow: /"
+        "" "",
+    ClosedByStandardToOthers Note "closed-site"
+        "may fetch nothing, or only what a few Allows match, as RFC 9309 reads this file, but more as it is read here; if that isn't meant, write the file so that both agree"
+        "User-agent: Applebot\nCrawl-delay: 10\nUser-agent: GPTBot\nDisallow: /"
+        "" "",
     ClosedHomePage Warning "closed-home-page"
         "may fetch only what this rule doesn't match or an Allow at least as long names, so not the home page; if search engines should read that, delete this rule or add a longer Allow"
         "User-agent: *\nDisallow: /\nAllow: /blog/"
@@ -430,10 +451,10 @@ macro_rules! every_row { ($column:ident) => { $column![
         "another rule matches everything that this one matches and takes precedence, so this one never decides for a crawler that gets both, and no other crawler needs it; correct it if it should decide, or delete all needless rules"
         "# robots_audit robots.txt --needless\nUser-agent: *\nDisallow: /*b\nDisallow: /b"
         "# robots_audit robots.txt --needless\nUser-agent: *\nDisallow: /*b"
-        "with --needless: no verdict changes here if all these rules are deleted, but one may if only some are; that groups could be joined isn't looked for. Allow: / and empty Disallows stay. None is given if the file has over 512,000 bytes or is rejected for a crawler. Crawlers that apply the first matching rule, read an empty Disallow otherwise, compare normal forms of escapes, ignore delays, or join groups such as those of Googlebot and Googlebot/2.1, may need them, so mend empty-disallow first",
+        "with --needless: no verdict changes, here or by RFC 9309, if all these rules are deleted, but one may if only some are; that groups could be joined isn't looked for. Allow: / and empty Disallows stay. None is given if the file has over 512,000 bytes, or is rejected for a crawler in one of these readings. Crawlers that apply the first matching rule, or join groups such as those of Googlebot and Googlebot/2.1, may need them",
     MatchesNothing Note "needless-rule"
         "this rule matches nothing, except perhaps /robots.txt, which is always allowed; correct it, or delete all needless rules"
-        "# robots_audit robots.txt --needless\nUser-agent: *\nDisallow: /a\nDisallow: /$b"
+        "# robots_audit robots.txt --needless\nUser-agent: *\nDisallow: /a\nDisallow: /robots.txt$"
         "# robots_audit robots.txt --needless\nUser-agent: *\nDisallow: /a" "",
     AllowedAnyway Note "needless-rule"
         "this rule isn't needed: if all needless rules are deleted, what it allows stays allowed; correct it, or delete all of them"
@@ -448,4 +469,13 @@ macro_rules! every_row { ($column:ident) => { $column![
         "with --needless: comparing a crawler's rules with and without this one would take too long; neither it nor those that are tried after it are reported as needless-rule",
 ] }; }
 
+/// All rows, for a macro that takes a column of them.
+macro_rules! every_row {
+    ($column:ident) => {
+        later_rows![first_rows $column]
+    };
+}
+
 pub(crate) use every_row;
+pub(crate) use first_rows;
+pub(crate) use later_rows;

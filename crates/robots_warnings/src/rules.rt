@@ -1,9 +1,8 @@
 //! Conditions on the value of an Allow or a Disallow line.
-ghost use Rattle.std.specs.Prelude.{◌≡◌, true};
+ghost use Rattle.std.specs.{Prelude.◌≡◌};
 ghost use Rattle.robots_warnings.specs.Rules.{begins_lone_percent, begins_oddly, has_dollar_inside};
-ghost use Rattle.robots_warnings.specs.{Rules.is_delimiter};
 
-use crate::urls::begins_as_url;
+use rfc9309::target::begins_as_url;
 use safe_output::bytes::{
     after_byte, before_byte, from_first, has, hex_value, needs_no_escape, somewhere,
 };
@@ -55,9 +54,7 @@ pub(crate) fn is_quoted(value: &[u8]) -> bool {
     matches!(value, [b'"', .., b'"'] | [b'\'', .., b'\'']) || begins_quote(value)
 }
 
-pub(crate) fn has_odd_start(value: &[u8]) -> bool
-    ensures { result ≡ true → begins_oddly value.now ≡ true }
-{
+pub(crate) fn has_odd_start(value: &[u8]) -> bool {
     begins_oddly(value) && !(begins_as_url(value) || is_quoted(value))
 }
 
@@ -124,9 +121,9 @@ pub(crate) fn has_more_after_dollar(value: &[u8]) -> bool {
     !after_byte(b'$', value).is_empty() && !has_dollar_inside(value)
 }
 
-pub(crate) fn is_delimiter(byte: u8) -> bool
-    ensures { result ≡ is_delimiter byte }
-{
+/// A reserved character of RFC 3986, but not `*` or `$`, which are special in a rule, nor `#`, which no path or
+/// query has, nor `'`, which is written `%27` in the query of a URL.
+pub(crate) fn is_delimiter(byte: u8) -> bool {
     has(byte, b":/?[]@!&()+,;=")
 }
 

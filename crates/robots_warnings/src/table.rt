@@ -6,8 +6,8 @@ ghost use Rattle.std.specs.Prelude.{◌≡◌, ◌<◌, length, map};
 ghost use Rattle.robots_warnings.specs.{Internal.IsRowAt, declared.table.TheConstants.WARNINGS};
 ghost use Rattle.robots_warnings.specs.Table.{all_levels, all_names, level_of, name_of};
 
-use crate::rows::{COUNT, every_row};
-use crate::texts::{examples, messages};
+use crate::rows::{COUNT, FIRST_COUNT, every_row, first_rows, later_rows};
+use crate::texts::{examples, first_messages, later_messages};
 use safe_output::level::Level;
 use std::alloc::{AllocError, Global};
 
@@ -111,6 +111,9 @@ pub enum Cause {
     IgnoredDelay,
     ClosedSite,
     ClosedSiteToOthers,
+    ClosedInOneReading,
+    ClosedByStandard,
+    ClosedByStandardToOthers,
     ClosedHomePage,
     ClosedHomePageToOthers,
     GroupWithoutStarRules,
@@ -197,7 +200,10 @@ impl Cause {
     }
 
     pub fn text(self) -> &'static str {
-        text_at(messages(), self as usize)
+        match (self as usize).checked_sub(FIRST_COUNT) {
+            Some(number) => text_at(later_messages(), number),
+            None => text_at(first_messages(), self as usize),
+        }
     }
 
     pub fn example(self) -> &'static str {

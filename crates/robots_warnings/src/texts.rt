@@ -1,5 +1,5 @@
 //! The texts of the warnings, in their order.
-use crate::rows::{COUNT, every_row};
+use crate::rows::{COUNT, FIRST_COUNT, every_row, first_rows, later_rows};
 use crate::table::Cause;
 
 macro_rules! messages {
@@ -30,7 +30,9 @@ macro_rules! conditions {
     };
 }
 
-static MESSAGES: [(Cause, &str); COUNT] = every_row!(messages);
+static FIRST_MESSAGES: [(Cause, &str); FIRST_COUNT] = first_rows!(messages);
+
+static LATER_MESSAGES: [(Cause, &str); COUNT - FIRST_COUNT] = later_rows!(messages);
 
 static EXAMPLES: [(Cause, &str); COUNT] = every_row!(examples);
 
@@ -38,8 +40,12 @@ static CORRECTIONS: [(Cause, &str); COUNT] = every_row!(corrections);
 
 static CONDITIONS: [(Cause, &str); COUNT] = every_row!(conditions);
 
-pub(crate) fn messages() -> &'static [(Cause, &'static str)] {
-    &MESSAGES
+pub(crate) fn first_messages() -> &'static [(Cause, &'static str)] {
+    &FIRST_MESSAGES
+}
+
+pub(crate) fn later_messages() -> &'static [(Cause, &'static str)] {
+    &LATER_MESSAGES
 }
 
 pub(crate) fn examples() -> &'static [(Cause, &'static str)] {

@@ -3,13 +3,8 @@ ghost use Rattle.std.specs.Prelude.{◌≡◌, ◌≤◌, length};
 ghost use Rattle.std.specs.List.{before_first, position_or_len};
 ghost use Rattle.robots_warnings.specs.Crawlers.{ends_token, is_token_byte};
 
-use crate::urls::begins_in_any_case;
+use rfc9309::target::begins_in_any_case;
 use safe_output::bytes::somewhere;
-
-/// White space at the start or the end.
-pub fn has_space_around(text: &str) -> bool {
-    text.trim() != text
-}
 
 pub(crate) fn is_token_byte(byte: u8) -> bool
     ensures { result ≡ is_token_byte byte }
@@ -41,10 +36,6 @@ fn is_name_byte(byte: u8) -> bool {
     is_token_byte(byte) || byte.is_ascii_digit() || byte == b'.' || byte == b' '
 }
 
-pub fn are_name_bytes(bytes: &[u8]) -> bool {
-    bytes.iter().all(|byte| is_name_byte(*byte))
-}
-
 fn begins_crawler_word(text: &[u8]) -> bool {
     begins_in_any_case(b"bot", text)
         || begins_in_any_case(b"crawler", text)
@@ -67,5 +58,7 @@ pub(crate) fn is_usual_name(value: &[u8]) -> bool {
         [name @ .., b'*'] => name,
         _ => value,
     };
-    !value.is_empty() && are_name_bytes(name) && !somewhere(value, begins_names)
+    !value.is_empty()
+        && name.iter().all(|byte| is_name_byte(*byte))
+        && !somewhere(value, begins_names)
 }

@@ -1,23 +1,12 @@
 //! Conditions on URLs and paths.
 ghost use Rattle.std.specs.Prelude.{◌≡◌, ◌&&◌, IfOk, not};
-ghost use Rattle.robots_warnings.specs.Urls.{begins_as_url, begins_in_any_case, is_unparsable};
+ghost use Rattle.rfc9309.specs.StandardTarget.{begins_as_url};
+ghost use Rattle.robots_warnings.specs.Urls.{is_unparsable};
 
-use safe_output::bytes::{as_text, first};
+use rfc9309::target::{begins_as_url, begins_in_any_case};
+use safe_output::bytes::as_text;
 use std::alloc::{AllocError, Global};
 use url::{ParseError, Url};
-
-pub(crate) fn begins_in_any_case(front: &[u8], text: &[u8]) -> bool
-    ensures { result ≡ begins_in_any_case front.now text.now }
-{
-    first(front.len(), text).eq_ignore_ascii_case(front)
-}
-
-/// Whether the text starts with `http://` or `https://`.
-pub fn begins_as_url(text: &[u8]) -> bool
-    ensures { result ≡ begins_as_url text.now }
-{
-    begins_in_any_case(b"http://", text) || begins_in_any_case(b"https://", text)
-}
 
 fn is_unparsable(alloc: Global, text: &str) -> Result<bool, AllocError>
     ensures { IfOk result (λ answer. answer ≡ is_unparsable text.now) }

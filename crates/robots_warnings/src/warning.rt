@@ -62,6 +62,9 @@ impl<'a> Warning<'a> {
         match self.cause {
             Cause::ClosedSite
             | Cause::ClosedSiteToOthers
+            | Cause::ClosedInOneReading
+            | Cause::ClosedByStandard
+            | Cause::ClosedByStandardToOthers
             | Cause::ClosedHomePage
             | Cause::ClosedHomePageToOthers
             | Cause::VendorGroup

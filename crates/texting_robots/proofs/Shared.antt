@@ -15,7 +15,7 @@ pub use Rattle.texting_robots.proofs.CapturedLemmas.{IsWalkAt, drop_cons, captur
 pub use Rattle.texting_robots.proofs.CapturedLemmas.{delays_walked, given_captured, is_captured_decides}
 pub use Rattle.texting_robots.proofs.CapturedLemmas.{walk_first, walk_next, named_is_agent, rules_walked}
 pub use Rattle.texting_robots.proofs.CapturedLemmas.{some_passes, taken_decides}
-pub use Rattle.texting_robots.proofs.RulesLemmas.{any_unplaced, before_agent, before_agents, first_or_cons}
+pub use Rattle.texting_robots.proofs.RulesLemmas.{before_agent, before_agents, first_or_cons}
 pub use Rattle.texting_robots.proofs.RulesLemmas.{option_or_none}
 pub use Rattle.texting_robots.proofs.SiteOwnLemmas.{same_group_robot}
 pub use Rattle.texting_robots.proofs.SegmentLemmas.{in_front, only_wildcards_match, plain_segment}
@@ -27,10 +27,10 @@ pub use Rattle.texting_robots.proofs.MainTheoremLemmas.{lines_satisfy, rules_per
 pub use Rattle.texting_robots.proofs.MainTheoremLemmas.{read_robot, rejection_is_computed, rules_are_computed}
 pub use Rattle.texting_robots.proofs.BestLemmas.{Either, allowed_by, rule_answers, deciding_rule}
 pub use Rattle.texting_robots.proofs.BestLemmas.{each_text_answered, matches, matches_decides}
-pub use Rattle.texting_robots.proofs.BestLemmas.{allowed_if_none, placed_of, verdict_by_rule}
+pub use Rattle.texting_robots.proofs.BestLemmas.{placed_of}
 pub use Rattle.texting_robots.proofs.ExampleLemmas.{any_overlong_decides, matches_sound, not_matching}
 pub use Rattle.texting_robots.proofs.{CutFromFront.bodies_nil, CountLemmas.parsed_within}
 pub use Rattle.texting_robots.proofs.{LabelLemmas.labels_hold, LaneLemmas.found_or_end}
 pub use Rattle.texting_robots.proofs.{TheoremLemmas.raw_changes_nothing, NormalizedLemmas.escaped_plain}
-pub use Rattle.texting_robots.proofs.{CollapseLemmas.collapsed_within, ExecutableLemmas.delay_is_computed}
+pub use Rattle.texting_robots.proofs.ExecutableLemmas.{delay_is_computed}
 pub use Rattle.texting_robots.proofs.{ExecutableLemmas.sitemaps_are_computed}

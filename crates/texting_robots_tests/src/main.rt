@@ -14,6 +14,7 @@ mod calls;
 mod example;
 mod flush;
 mod show;
+mod standard;
 
 use calls::{CALLS, Call, answer};
 use show::{Given, shows};

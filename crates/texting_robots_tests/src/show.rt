@@ -1,5 +1,6 @@
 //! Prints what calls return. `tests/test_calls.py` has inputs and outputs.
 use crate::example::visit;
+use crate::standard::{shows_standard, shows_standard_text};
 use robots_rules::compare::compare_sites;
 use texting_robots::labels::{is_named, labeled_lines};
 use texting_robots::minregex::MinRegex;
@@ -31,6 +32,8 @@ pub(crate) fn shows(
         b"robot of a site" => shows_by_site(rt, given, text),
         b"pattern" => shows_patterns(rt, text, given.word),
         b"text" => shows_text(rt, text),
+        b"standard" => shows_standard(rt, given, text),
+        b"standard text" => shows_standard_text(rt, given),
         b"same" => shows_comparison(rt, given, text),
         b"visit" => {
             let plan = visit(rt.alloc(), given.file, text)?;

@@ -7,24 +7,18 @@ use Rattle.std.proofs.Common.{rules, Some, bytes_eq, if◌then◌else◌, ◌∙
 use Rattle.std.proofs.Common.{false, List, ◌∷◌, Contains, append-nil, ap, arith, inl, inr, length, not, refl}
 use Rattle.std.proofs.Common.{subst, sym, ◌⊎◌, None, Option, ◌≢◌, ◌<◌, ◌++◌, All, nat_eq, nat_le}
 use Rattle.std.proofs.lemmas.Bool.{and_parts, not-true, or_cases, eq-eqb, false≢true}
-use Rattle.texting_robots.specs.Callers.{AreRulesFor, LineValue, Matches, PlacedRule, Rule, escaped, IsDenied}
+use Rattle.texting_robots.specs.Callers.{AreRulesFor, LineValue, Matches, PlacedRule, Rule, IsDenied}
 use Rattle.texting_robots.specs.Callers.{placed_rules, HoldsRule, IsDecidingLine, robots_file, unplaced}
 use Rattle.robots_warnings.specs.Closed.{closes, is_exempt, is_literally, is_star_or_dollar, is_whole_site}
 use Rattle.robots_warnings.specs.Closed.{is_rival, line_closing_site, matches_no_path, opened_paths}
 use Rattle.robots_warnings.specs.Closed.{leaves_closed, opens_little, first_line, first_of, line_if}
-use Rattle.robots_warnings.specs.{Conflicts.IsConflict, Conflicts.compared, Contents.is_cut_to_root}
-use Rattle.robots_warnings.proofs.ClosedLemmas.{whole_site_stays}
+use Rattle.robots_warnings.specs.{Conflicts.IsConflict, Conflicts.compared}
 use Rattle.texting_robots.proofs.Shared.{placed_are_rules, placed_of, in_front, plain_segment}
 use Rattle.audit_core.proofs.ReachLemmas.{whole_site_matches}
 use Rattle.robots_rules.proofs.TogetherLemmas.{unplaced_of}
 use Rattle.warning_theorems.proofs.WarningLemmas.{without_path}
 
 -- ---- What `hash-in-rule` and `allowed-and-disallowed` imply.
-
-pub cut_to_root_matches : (value tail comment path : List ℕ) → is_cut_to_root value tail comment ≡ true
-    → Matches (escaped value) (byte "/" ∷ path)
-cut_to_root_matches value tail comment path is =
-    search (rules, and_parts, whole_site_stays, whole_site_matches)
 
 pub also_listed : {agent : List ℕ} {lines : List LineValue} {rules others : List PlacedRule}
     → AreRulesFor agent lines rules → AreRulesFor agent lines others → (placed : PlacedRule)

@@ -1,10 +1,10 @@
 -- Which lines are empty Disallows, what `empty-disallow` says of rules, and what it means if no line has it.
 use Rattle.std.specs.{Prelude.option_map, Option.IsSomeAnd, List.AllZip, List.list_any}
 use Rattle.std.proofs.lemmas.Bool.{and_parts, cases_lt, false≢true, cases_Bool, eq-eqb, eqb-true, not-true}
-use Rattle.std.proofs.lemmas.Bool.{or_cases}
-use Rattle.std.proofs.lemmas.Option.{same_Some, slice_get-map}
+use Rattle.std.proofs.lemmas.Option.{same_Some, slice_get-map, slice_get_read}
+use Rattle.std.proofs.lemmas.{Map.Keys.any_passes_from_place}
 use Rattle.std.proofs.lemmas.List.Folds.{Any-from_list_any, list_any-from_Any}
-use Rattle.std.proofs.Common.{◌≡◌, ◌↔◌, ◌==◌, ◌&&◌, ℕ, Bool, true, false, List, [], ◌∷◌, Some, ap, arith}
+use Rattle.std.proofs.Common.{◌≡◌, ◌↔◌, ℕ, Bool, true, false, List, [], ◌∷◌, Some, ap, arith}
 use Rattle.std.proofs.Common.{codes, inl, inr, refl, slice_get, subst, suc, sym, zero, ◌∙◌, ◌<◌, Contains}
 use Rattle.std.proofs.Common.{Option, length, not}
 use Rattle.std.proofs.lemmas.Slice.Zip.{AllZip-left}
@@ -14,42 +14,13 @@ use Rattle.texting_robots.specs.Callers.{IsVerdict, Matches, PlacedRule, Rule}
 use Rattle.texting_robots.specs.Pattern.{MatchesWith}
 use Rattle.texting_robots.specs.Internal.Line.{line_of}
 use Rattle.texting_robots.proofs.Shared.{placed_are_rules, lines_of_file_bodies, placed_of}
-use Rattle.robots_warnings.specs.Conflicts.{IsEmptyDisallow, is_empty_at, is_empty_disallow, closes_all}
-use Rattle.robots_warnings.specs.Conflicts.{is_empty_rule, is_of_all, is_overruling, opens_all, stated_rules}
+use Rattle.rfc9309.specs.{EmptyDisallow.is_empty_disallow}
+use Rattle.robots_warnings.specs.Conflicts.{IsEmptyDisallow, closes_all, is_empty_at, is_empty_rule}
+use Rattle.robots_warnings.specs.Conflicts.{is_of_all, is_overruling, opens_all, stated_rules}
 use Rattle.audit_core.proofs.EmptyLemmas.{empty_allows, empty_stated, stated_empty}
 use Rattle.audit_core.proofs.ReachLemmas.{whole_site_matches}
 use Rattle.robots_rules.proofs.TogetherLemmas.{in_filter, to_filter, unplaced_of}
 use Rattle.warning_theorems.proofs.ConflictLemmas.{also_listed}
-
-abbrev IsFound : List Label → ℕ → Type 0
-IsFound labels number = (i : ℕ) × (label : Label) × (slice_get labels i ≡ Some label)
-    × (label.number ≡ number) × (is_empty_disallow label.line label.body ≡ true)
-
-found_at : (labels : List Label) (number : ℕ) → is_empty_at labels number ≡ true → IsFound labels number
-found_at [] number is = cc
-found_at (label ∷ labels) number is =
-    let here = is_empty_disallow label.line label.body && label.number == number in
-    elim (or_cases here (is_empty_at labels number) is) [
-      | inl first ↦
-          let (empty, same) = and_parts _ _ first in
-          (0, label, refl, eqb-true label.number number same, empty)
-      | inr later ↦ let (i, one, at, same, empty) = found_at labels number later in
-          (suc i, one, at, same, empty)
-    ]
-
-at_found : (labels : List Label) (number i : ℕ) (label : Label) → slice_get labels i ≡ Some label
-    → label.number ≡ number → is_empty_disallow label.line label.body ≡ true
-    → is_empty_at labels number ≡ true
-at_found [] number i label at same empty = cc
-at_found (first ∷ labels) number zero label at same empty = grind arith
-at_found (first ∷ labels) number (suc i) label at same empty =
-    grind (arith, at_found labels number i label at same empty)
-
-body_at : (labels : List Label) (i : ℕ) (label : Label) → slice_get labels i ≡ Some label
-    → slice_get (bodies_in labels) i ≡ Some label.body
-body_at [] i label at = cc
-body_at (first ∷ labels) zero label at = cc
-body_at (first ∷ labels) (suc i) label at = body_at labels i label at
 
 label_at : (labels : List Label) (i : ℕ) (body : List ℕ) → slice_get (bodies_in labels) i ≡ Some body
     → (label : Label) × (slice_get labels i ≡ Some label) × (label.body ≡ body)
@@ -67,22 +38,26 @@ pub empty_disallows : (name file : List ℕ) (labels : List Label) (number : ℕ
     → (is_empty_at labels number ≡ true) ↔ IsEmptyDisallow (bodies_read file) number
 empty_disallows name file labels number are hold = (
   λ is.
-      let (i, label, at, same, empty) = found_at labels number is in (
+      let (i, label, below, found, both) = Any-from_list_any _ labels is in
+      let at = slice_get_read labels _ i label refl below (sym found) in
+      let (empty, same) = and_parts (is_empty_disallow label.line label.body) _ both in (
         i,
         label.body,
-        sym same ∙ (are.each i label at).0,
+        sym (eqb-true label.number number same) ∙ (are.each i label at).0,
         there i label at,
         empty_stated label.body (rw (line i label at) at empty),
       ),
   λ (i, body, is, beside, stated).
       let (label, at, same) = label_at labels i body (rw hold beside) in
-      at_found labels number i label at ((are.each i label at).0 ∙ sym is)
-      (rw (line i label at) (stated_empty label.body (rw same stated))),
+      let empty = stated_empty label.body (rw same stated) in
+      any_passes_from_place _ labels i label at
+      (rw (line i label at, empty, eq-eqb label.number number ((are.each i label at).0 ∙ sym is)) refl),
 )
   where
     there : (i : ℕ) (label : Label) → slice_get labels i ≡ Some label
         → slice_get (bodies_read file) i ≡ Some label.body
-    there i label at = rw (← hold) (body_at labels i label at)
+    there i label at = rw (← hold) (slice_get-map (λ (label : Label). label.body) labels i
+        ∙ ap (option_map (λ (label : Label). label.body)) at)
 
     line : (i : ℕ) (label : Label) → slice_get labels i ≡ Some label → label.line ≡ line_of label.body
     line i label at =

@@ -3,29 +3,28 @@
 use Rattle.std.proofs.lemmas.{Option.slice_get-map}
 use Rattle.std.proofs.Common.{rules, codes, inl, inr, refl, subst, sym, ◌≤◌, ◌-◌, ◌≡◌, ◌+◌, ℕ}
 use Rattle.std.proofs.Common.{◌∙◌, suc, zero, Bool, true, false, not, List, [], ◌∷◌, All, Contains, map}
-use Rattle.std.proofs.Common.{Option, None, Some, drop, filter, slice_get, take, ap, arith, length}
-use Rattle.std.specs.List.{enumerate_from, fold, list_any, count_by}
+use Rattle.std.proofs.Common.{Option, None, Some, drop, filter, slice_get, take, ap, arith}
+use Rattle.std.specs.List.{enumerate_from, fold, list_any}
 use Rattle.std.proofs.lemmas.Bool.{and_parts, cases_Bool, false≢true, cases_lt, not-true, or_cases, or_right}
-use Rattle.std.proofs.lemmas.List.{Elements.Contains-append_cases, Sorted.sum_by-IsPermutation}
+use Rattle.std.proofs.lemmas.List.{Elements.Contains-append_cases}
 use Rattle.texting_robots.specs.Callers.{AreLabelsOf, Label, LineValue, UserAgent, delay_for}
-use Rattle.texting_robots.specs.Callers.{file_bodies, file_limit, lines_read}
-use Rattle.texting_robots.specs.Callers.{group_name, AreRulesFor, HoldsRule, PlacedRule, Rule, placed_rules}
+use Rattle.texting_robots.specs.Callers.{group_name, HoldsRule, Rule, placed_rules}
 use Rattle.texting_robots.specs.Executable.{captured_delays, delay_before_agents}
 use Rattle.texting_robots.specs.Group.{is_agent, passes_at, is_member}
 use Rattle.texting_robots.specs.Internal.Group.{if_captured, start_of, step}
 use Rattle.texting_robots.proofs.Shared.{delays_walked, given_captured, taken_decides, before_agent}
-use Rattle.texting_robots.proofs.Shared.{before_agents, first_or_cons, placed_are_rules, rules_permuted}
+use Rattle.texting_robots.proofs.Shared.{before_agents, first_or_cons, placed_are_rules}
 use Rattle.robots_warnings.specs.Positions.{are_different, begin_with_one, first_delay, is_other_delay}
 use Rattle.robots_warnings.specs.Positions.{later_delays, later_delays_from}
-use Rattle.warning_theorems.proofs.RepeatedLemmas.{IsFrom, here, holds_among, same_left}
+use Rattle.warning_theorems.proofs.RepeatedLemmas.{IsFrom, here, holds_among}
 use Rattle.warning_theorems.proofs.{WarningLemmas.below_agent}
 use Rattle.std.proofs.lemmas.List.Folds.{Any-from_list_any, list_any-from_Any}
 use Rattle.texting_robots.specs.{Labels.AreOneGroup, Labels.IsInOwnGroup, Line.delay_in}
-use Rattle.robots_warnings.specs.Closed.{IsReplacing, is_lacking, lacks_all, name_lacking, star_count}
+use Rattle.robots_warnings.specs.Closed.{is_lacking, lacks_all, name_lacking}
 use Rattle.std.specs.{Option.option_or, Str.str_to_ascii_lowercase}
 use Rattle.std.proofs.lemmas.Slice.{Eq.bytes_eq-Decides}
 use Rattle.texting_robots.specs.declared.groups.{GroupTracker.GroupTracker}
-use Rattle.robots_rules.specs.{Blocks.IsLeftOf, Blocks.begin_with_mark, Needless.lines_without}
+use Rattle.robots_rules.specs.{Needless.lines_without}
 use Rattle.robots_rules.proofs.{BlockLemmas.among}
 use Rattle.robots_warnings.specs.{File.lines_of}
 
@@ -204,7 +203,7 @@ module _ {name : List ℕ} {labels : List Label} (labeled : AreLabelsOf name (li
       (first_left gone (group_name agent all_lines) 0 None None (start_of all_lines) labels others tt) in
       cc (early_left gone all_lines agents below)
 
-delay_as_before : (name agent : List ℕ) (lines : List LineValue) (labels : List Label)
+pub delay_as_before : (name agent : List ℕ) (lines : List LineValue) (labels : List Label)
     (numbers : List ℕ) → AreLabelsOf name lines labels
     → All (Contains (later_delays labels)) numbers
     → delay_for agent (lines_without numbers lines) ≡ delay_for agent lines
@@ -212,16 +211,6 @@ delay_as_before name agent lines labels numbers labeled all =
     let same = labeled.lines_are in
     subst (λ of. delay_for agent (lines_without numbers of) ≡ delay_for agent of) same
     (delay_stays (subst (λ of. AreLabelsOf name of labels) (sym same) labeled) numbers all agent)
-
-pub repeated_delays_can_be_deleted : (name agent file left : List ℕ) (labels : List Label)
-    (numbers : List ℕ)
-    → length file ≤ file_limit → AreLabelsOf name (lines_read file) labels
-    → All (Contains (later_delays labels)) numbers
-    → IsLeftOf numbers file left → begin_with_mark (lines_without numbers (file_bodies file)) ≡ false
-    → delay_for agent (lines_read left) ≡ delay_for agent (lines_read file)
-repeated_delays_can_be_deleted name agent file left labels numbers short labeled all is front =
-    (same_left numbers file left agent short is front).0.delay
-    ∙ delay_as_before name agent (lines_read file) labels numbers labeled all
 
 -- no Disallow of the crawler has the pattern of a Disallow of `*`
 abbrev pub HasNone : List ℕ → List LineValue → Type 0
@@ -287,7 +276,7 @@ one_group {lines} {position} {rest} from is k group = elim (cases_lt k position)
   ]
 ]
 
-from_drop : (lines : List LineValue) (position i : ℕ)
+pub from_drop : (lines : List LineValue) (position i : ℕ)
     → slice_get lines (position + i) ≡ slice_get (drop position lines) i
 from_drop lines zero i = let same : 0 + i ≡ i = omega arith in ap (slice_get lines) same
 from_drop [] (suc position) i = refl
@@ -295,41 +284,28 @@ from_drop (line ∷ lines) (suc position) i =
     let same : suc position + i ≡ suc (position + i) = omega arith in
     ap (slice_get (line ∷ lines)) same ∙ from_drop lines position i
 
-pub group_without_star_rules : (agents : List (List ℕ)) (lines : List LineValue) (number : ℕ)
-    → IsReplacing agents lines lines number
-    → (position : ℕ) × (value agent : List ℕ) × (number ≡ position + 1)
-    × (slice_get lines position ≡ Some (UserAgent value)) × Contains agents agent
+-- a user-agent line whose list of names has that of a crawler without a Disallow of `*`
+pub replacing : (agents : List (List ℕ)) (lines : List LineValue) (position : ℕ) (rest : List LineValue)
+    → IsFrom lines position rest → name_lacking agents lines rest ≡ true
+    → (value agent : List ℕ) × (slice_get lines position ≡ Some (UserAgent value)) × Contains agents agent
     × IsInOwnGroup (str_to_ascii_lowercase agent) lines position × HasNone agent lines
-group_without_star_rules agents lines number (position, number_is, passes) =
-    at (drop position lines) (record { each = from_drop lines position }) passes
-  where
-    at : (rest : List LineValue) → IsFrom lines position rest → name_lacking agents lines rest ≡ true
-        → (position : ℕ) × (value agent : List ℕ) × (number ≡ position + 1)
-        × (slice_get lines position ≡ Some (UserAgent value)) × Contains agents agent
-        × IsInOwnGroup (str_to_ascii_lowercase agent) lines position × HasNone agent lines
-    at (UserAgent value ∷ rest) from names =
-        let test : List ℕ → Bool = λ name. is_lacking agents lines (str_to_ascii_lowercase name) in
-        let by = named test (UserAgent value ∷ rest) names in
-        let (k, agent, below, there, passes) = Any-from_list_any _ agents by.passes in
-        let (same, lacks) = and_parts _ _ passes in
-        let spelling = str_to_ascii_lowercase by.value in
-        let on = here from in (
-          position,
-          value,
-          agent,
-          number_is,
-          on,
-          (k, below, there),
-          inr (
-            rw on refl,
-            position + by.position,
-            grind (arith, bytes_eq-Decides, spelling),
-            one_group from by,
-          ),
-          has_none agent lines lacks,
-        )
-    at rest from names = cc
-
-pub star_disallows : (lines : List LineValue) (rules : List PlacedRule) → AreRulesFor (codes "*") lines rules
-    → star_count lines ≡ count_by (λ (placed : PlacedRule). not placed.rule.1) rules
-star_disallows lines rules are = search (rules_permuted, placed_are_rules, sum_by-IsPermutation)
+replacing agents lines position (UserAgent value ∷ rest) from names =
+    let test : List ℕ → Bool = λ name. is_lacking agents lines (str_to_ascii_lowercase name) in
+    let by = named test (UserAgent value ∷ rest) names in
+    let (k, agent, below, there, passes) = Any-from_list_any _ agents by.passes in
+    let (same, lacks) = and_parts _ _ passes in
+    let spelling = str_to_ascii_lowercase by.value in
+    let on = here from in (
+      value,
+      agent,
+      on,
+      (k, below, there),
+      inr (
+        rw on refl,
+        position + by.position,
+        grind (arith, bytes_eq-Decides, spelling),
+        one_group from by,
+      ),
+      has_none agent lines lacks,
+    )
+replacing agents lines position rest from names = cc

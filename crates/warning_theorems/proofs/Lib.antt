@@ -1,5 +1,4 @@
 -- Theorems about warnings and audits.
-pub mod PathLemmas
 pub mod ConflictLemmas
 pub mod EmptyDisallowLemmas
 pub mod RepeatedLemmas

@@ -1,10 +1,9 @@
 -- A rule with `repeated-rule` decides no verdict, and can be deleted.
-use mathlib.Core.Logic.Iff
 use Rattle.std.proofs.lemmas.Bool.{cases_Bool, false_from_ne_true}
 use Rattle.std.proofs.Common.{◌≡◌, ◌∙◌, ◌+◌, ℕ, suc, zero, Bool, true, false, List, [], ◌∷◌, Contains, Some}
 use Rattle.std.proofs.Common.{arith, if◌then◌else◌, inl, inr, refl, slice_get, subst, sym, ◌<◌, ◌≤◌, ◌↔◌, All}
 use Rattle.std.proofs.Common.{length, subst₂, take_all}
-use Rattle.texting_robots.specs.Callers.{LineValue, AreRulesFor, Rule, IsCaptured, IsDecidingLine, IsDenied}
+use Rattle.texting_robots.specs.Callers.{LineValue, AreRulesFor, Rule, IsCaptured, IsDenied}
 use Rattle.texting_robots.specs.Callers.{IsVerdict, PlacedRule, group_name, placed_rules, rules_for, unplaced}
 use Rattle.texting_robots.specs.Callers.{file_bodies, file_limit, file_lines, lines_read}
 use Rattle.texting_robots.specs.{Theorems.Same, Group.is_agent}
@@ -37,7 +36,7 @@ captured_above : {lines : List LineValue} {position : ℕ} {line : LineValue} (n
     (is : IsAbove lines position line) → IsCaptured name lines position → IsCaptured name lines is.other
 captured_above name is h = grind arith
 
-rule_above : {agent : List ℕ} {lines : List LineValue} {rules : List PlacedRule}
+pub rule_above : {agent : List ℕ} {lines : List LineValue} {rules : List PlacedRule}
     → AreRulesFor agent lines rules → (placed : PlacedRule) → Contains rules placed
     → IsRepeat lines placed.line
     → (line : ℕ) × (line < placed.line) × Contains rules (record { rule = placed.rule; line = line })
@@ -62,13 +61,6 @@ rule_above {agent} {lines} are placed has is =
         },
       ),
     )
-
-pub repeated_never_decides : (agent : List ℕ) (lines : List LineValue) (rules : List PlacedRule)
-    (text : List ℕ) (number : ℕ) → IsRepeat lines number → AreRulesFor agent lines rules
-    → ¬ IsDecidingLine rules text (Some number)
-repeated_never_decides agent lines rules text number is are (differs, placed, decides, at) =
-    let (line, above, listed) = rule_above are placed decides.listed (subst (IsRepeat lines) (sym at) is) in
-    decides.best _ listed decides.matches (inr (refl, inr (refl, above)))
 
 abbrev IsFollowed : List LineValue → ℕ → Bool → Type 0
 IsFollowed lines position has_rule =
@@ -149,7 +141,7 @@ module _ (numbers : List ℕ) (lines : List LineValue)
           subst (Contains (unplaced rules)) is (unplaced_of rules placed (in_filter _ rules placed listed).0),
     )
 
-verdict_as_before : (agent : List ℕ) (lines : List LineValue) (numbers text : List ℕ) (answer : Bool)
+pub verdict_as_before : (agent : List ℕ) (lines : List LineValue) (numbers text : List ℕ) (answer : Bool)
     → All (IsRepeat lines) numbers
     → IsVerdict (rules_for agent lines) text answer
     ↔ IsVerdict (rules_for agent (lines_without numbers lines)) text answer
@@ -172,12 +164,3 @@ same_left numbers file left agent short is front =
     Same agent (file_lines more) agent (lines_without numbers (file_lines all)))
     (sym (take_all file_limit file short)) (sym (take_all file_limit left (omega arith)))
     (same_result numbers file left is front agent)
-
-pub repeated_can_be_deleted : (agent file left numbers text : List ℕ) (answer : Bool)
-    → length file ≤ file_limit → All (IsRepeat (lines_read file)) numbers
-    → IsLeftOf numbers file left → begin_with_mark (lines_without numbers (file_bodies file)) ≡ false
-    → IsVerdict (rules_for agent (lines_read file)) text answer
-    ↔ IsVerdict (rules_for agent (lines_read left)) text answer
-repeated_can_be_deleted agent file left numbers text answer short all is front =
-    let same = (same_left numbers file left agent short is front).0.verdict text answer in
-    Iff.trans (verdict_as_before agent (lines_read file) numbers text answer all) (same.1, same.0)

@@ -1,38 +1,32 @@
 //! Theorems about the specification, each written as the contract of an empty function.
 ghost use Rattle.std.specs.Prelude.{◌&&◌, ◌||◌, [], All, Bool, codes, Contains, false, if◌then◌else◌, ℕ};
-ghost use Rattle.std.specs.Prelude.{IfOk, IsTrue, List, nat_eq, not, slice_get, Some, take, true};
+ghost use Rattle.std.specs.Prelude.{IsTrue, List, nat_eq, not, slice_get, Some, take, true};
 ghost use Rattle.std.specs.Prelude.{◌+◌, ◌↔◌, ◌∷◌, ◌≡◌, ◌≢◌, ◌≤◌, length};
 ghost use Rattle.std.specs.List.{count_by, list_any, starts_with};
 ghost use Rattle.std.specs.Str.{byte, is_utf8, IsUtf8, str_to_ascii_lowercase};
 ghost use Rattle.texting_robots.specs.{Callers.Allow, Labels.IsInOwnGroup};
 ghost use Rattle.texting_robots.specs.Callers.{AreLabelsOf, AreRulesFor, Disallow, escaped, HoldsRule, Label};
 ghost use Rattle.texting_robots.specs.Callers.{file_limit, file_lines, is_named, IsDecidingLine, IsDenied};
-ghost use Rattle.texting_robots.specs.Callers.{IsFileRejected, IsRobotOfFile, IsVerdict, LineValue, Matches};
+ghost use Rattle.texting_robots.specs.Callers.{IsRobotOfFile, IsVerdict, LineValue, Matches};
 ghost use Rattle.texting_robots.specs.Callers.{Rule, PlacedRule, RobotValue, agents_in, bodies_in, delay_for};
-ghost use Rattle.texting_robots.specs.Callers.{file_bodies};
-ghost use Rattle.texting_robots.specs.Callers.{lines_read, bodies_read, placed_rules, rules_for, unplaced, UserAgent};
+ghost use Rattle.texting_robots.specs.Callers.{UserAgent, bodies_read, file_bodies, lines_read, placed_rules};
+ghost use Rattle.texting_robots.specs.Callers.{rules_for, unplaced};
 ghost use Rattle.robots_rules.specs.Blocks.{HaveSameRobot, IsLeftOf, begin_with_mark};
 ghost use Rattle.robots_rules.specs.Needless.{lines_without, numbers_of};
-ghost use Rattle.rfc9309.specs.Rfc9309.{Group, IsFile, IsProductToken};
+ghost use Rattle.rfc9309.specs.Rfc9309.{Group, IsFile};
 ghost use Rattle.rfc9309.specs.Matching.{all_stay, normal_uri};
-ghost use Rattle.warning_theorems.specs.{Syntax.IsRobotStated, Verdict.IsStandardVerdict};
-ghost use Rattle.robots_warnings.specs.Conflicts.{IsConflict, is_empty_at};
-ghost use Rattle.robots_warnings.specs.Conflicts.{IsEmptyDisallow, is_overruling, stated_rules};
-ghost use Rattle.robots_warnings.specs.Closed.{line_closing_site, opened_paths, opens_little};
-ghost use Rattle.robots_warnings.specs.Closed.{IsReplacing, star_count};
-ghost use Rattle.robots_warnings.specs.{Contents.is_cut_to_root, Crawlers.IsPastLimit};
-ghost use Rattle.robots_warnings.specs.Positions.{is_above_agents, later_delays};
-ghost use Rattle.robots_warnings.specs.{Repeated.IsRepeat, Targets.has_odd_target};
-ghost use Rattle.robots_warnings.specs.{Targets.written_target, Urls.is_unparsable, Urls.begins_as_url};
-ghost use Rattle.robots_warnings.specs.{Rules.begins_oddly};
-ghost use Rattle.robots_warnings.specs.{Rules.has_dollar_inside};
+ghost use Rattle.warning_theorems.specs.{Syntax.IsRobotStated};
+ghost use Rattle.rfc9309.specs.StandardTarget.{begins_as_url, written_target};
+ghost use Rattle.robots_warnings.specs.Conflicts.{IsConflict, IsEmptyDisallow, is_empty_at, is_overruling};
+ghost use Rattle.robots_warnings.specs.Closed.{IsReplacing, line_closing_site, opened_paths, opens_little};
+ghost use Rattle.robots_warnings.specs.{Closed.star_count, Conflicts.stated_rules, Contents.is_cut_to_root};
+ghost use Rattle.robots_warnings.specs.{Crawlers.IsPastLimit, Positions.is_above_agents};
+ghost use Rattle.robots_warnings.specs.{Positions.later_delays, Repeated.IsRepeat, Rules.begins_oddly};
+ghost use Rattle.robots_warnings.specs.{Rules.has_dollar_inside, Targets.has_odd_target, Urls.is_unparsable};
 ghost use Rattle.audit_core.specs.Audit.{AuditValue, IsAuditOf};
 ghost use Rattle.audit_core.specs.{Target.asked_target, Request.RequestValue};
-ghost use Rattle.rfc9309.specs.Conformance.{conformance_of, has_syntax, has_verdicts};
+ghost use Rattle.rfc9309.specs.Conformance.{has_syntax};
 ghost use Rattle.warning_theorems.specs.Examples as example;
-
-use std::alloc::Global;
-use texting_robots::{Error, Robot};
 
 /// The lines that an audit with `--needless` warns of as needless can be deleted together: if exactly these
 /// are deleted, every verdict is the same, on any text, for each crawler.
@@ -77,40 +71,7 @@ pub fn syntax_is_that_of_the_standard()
         → IsRobotStated agent file robot }
 {}
 
-/// If an audit says that verdicts are those of RFC 9309, the verdict of each crawler with a product token, on
-/// each path and query in normal form, is the standard's, if reserved octets stay (`verdicts`), and the file
-/// isn't rejected for it (`accepted`).
-pub fn verdicts_are_those_of_the_standard()
-    ensures verdicts { (requested : RequestValue) (file : List ℕ) (audit : AuditValue)
-        → IsAuditOf requested file audit → has_verdicts audit.syntax ≡ true → (agent : List ℕ)
-        (groups : List Group) → IsProductToken agent → IsFile groups file → (uri : List ℕ)
-        (robot : RobotValue) (answer : Bool) → normal_uri all_stay uri ≡ uri
-        → IsRobotOfFile agent (take file_limit file) robot
-        → IsVerdict (unplaced robot.rules) uri answer ↔ IsStandardVerdict groups agent uri answer }
-    ensures accepted { (requested : RequestValue) (file : List ℕ) (audit : AuditValue)
-        → IsAuditOf requested file audit → has_verdicts audit.syntax ≡ true → (agent : List ℕ)
-        (groups : List Group) → IsProductToken agent → IsFile groups file
-        → ¬ IsFileRejected agent (take file_limit file) }
-{}
-
-/// If an audit says that a file's verdicts are those of RFC 9309, this library's answer for the product token
-/// `agent`, on a path and query in normal form, is the standard's, whatever the file's bytes.
-pub fn allowed_by_the_standard(
-    alloc: Global,
-    agent: &str,
-    file: &[u8],
-    uri: &str,
-) -> Result<bool, Error>
-    ensures { IfOk result (λ answer. has_verdicts (conformance_of file.now) ≡ true → (groups : List Group)
-        → IsFile groups file.now → normal_uri all_stay uri.now ≡ uri.now
-        → IsStandardVerdict groups agent.now uri.now answer) }
-{
-    let robot = Robot::new(alloc, agent, file)?;
-    Ok(robot.allowed_prepared(uri))
-}
-
-/// Files with the verdicts of the standard, in which a line is in the way of that, or that aren't in the
-/// grammar.
+/// A file of the grammar, one with a line that isn't in it, and one that isn't looked at.
 pub fn examples_of_syntax()
     ensures { example.syntax }
 {}
@@ -238,20 +199,22 @@ pub fn rule_before_user_agent()
 {}
 
 /// A rule with `dollar-not-at-end` matches no text.
+#[tactic(auto, using(crate::proofs::WarningLemmas::dollar_inside_matches_nothing))]
 pub fn dollar_not_at_end()
     ensures { (value text : List ℕ) → has_dollar_inside value ≡ true → ¬ Matches (escaped value) text }
 {}
 
 /// A rule with `missing-slash`, `url-as-rule`, `quoted-rule` or `regex-syntax` that starts with neither a
 /// slash nor a star matches no path.
+#[tactic(auto, unfolding(texting_robots::specs::Pattern::MatchesWith))]
 pub fn missing_slash()
     ensures { (value text : List ℕ) → begins_oddly value ≡ true
         → ¬ Matches (escaped value) (byte "/" ∷ text) }
 {}
 
 /// If there is no `url-not-normal`, the match target of a path, or of an http(s) URL that can be parsed, is
-/// in normal form, and is that of the path and the query as they are written. So
-/// `verdicts_are_those_of_the_standard` applies to it.
+/// in normal form, and is that of the path and the query as they are written. So it is what the standard
+/// compares.
 pub fn url_not_normal()
     ensures { (text : List ℕ)
         → (starts_with nat_eq text (codes "/") || (begins_as_url text && not (is_unparsable text))) ≡ true

@@ -22,7 +22,7 @@ Crawlers also need to know when each file is fetched, and what to do if it can't
 `texting_robots.middleware` for Scrapy, and `texting_robots.cache`, which both use, for any other way to make requests.
 """
 
-from ._calls import FILE_LIMIT, Verdict
+from ._calls import FILE_LIMIT, Reading, Verdict
 from ._errors import AgentError, OverlongRuleError, RobotsError, TooCostlyError, UrlError
 from ._names import product_token, robots_url
 from ._responses import LIFETIME, REDIRECT_LIMIT, Meaning, meaning
@@ -37,6 +37,7 @@ __all__ = [
     "Matrix",
     "Meaning",
     "OverlongRuleError",
+    "Reading",
     "Robot",
     "Robots",
     "RobotsError",

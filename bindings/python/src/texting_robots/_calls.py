@@ -3,7 +3,7 @@
 from __future__ import annotations
 
 from collections.abc import Callable, Iterable
-from typing import TYPE_CHECKING, Final, NamedTuple, Union
+from typing import TYPE_CHECKING, Final, Literal, NamedTuple, Union
 
 from ._errors import AgentError, OverlongRuleError, TooCostlyError, UrlError
 from ._native import ffi, lib
@@ -22,6 +22,9 @@ FILE_LIMIT: Final = lib.ROBOTS_FILE_LIMIT
 NO_VERDICT: Final = lib.NO_VERDICT
 LAST_FAILURE: Final = NO_VERDICT - lib.ROBOTS_OVERLONG_RULE
 Body = Union["ReadableBuffer", str]
+Reading = Literal["crate", "rfc9309"]
+"""How a file is read: as the Rust crate ``texting_robots`` reads it, or as RFC 9309 does."""
+
 _MAY_BE: Final = {
     "url": "a str, such as 'https://example.com/a'",
     "agent": "a str, such as 'FerrisBot'",
@@ -47,6 +50,13 @@ class Verdict(NamedTuple):
 
     def __bool__(self) -> bool:
         return self.allowed
+
+
+def is_rfc9309(reading: Reading) -> bool:
+    """Whether it is the standard's reading."""
+    if reading not in ("crate", "rfc9309"):
+        raise ValueError(f"reading is {reading!r}: it has to be 'crate' or 'rfc9309'")
+    return reading == "rfc9309"
 
 
 # C is given a bytes of just this type, with its len(): no method of another type decides how much is read. `str.encode` and `str.join`

@@ -7,7 +7,7 @@ from collections.abc import Callable
 from datetime import time
 from typing import Final, Generic, NamedTuple, TypeVar
 
-from ._calls import FILE_LIMIT
+from ._calls import FILE_LIMIT, Reading
 from ._errors import AgentError, OverlongRuleError
 from ._names import product_token
 from ._robot import Robot
@@ -90,9 +90,9 @@ class _Values(Generic[T]):
 class File:
     """A robots.txt file that is asked about whole User-Agents."""
 
-    def __init__(self, body: bytes | str) -> None:
+    def __init__(self, body: bytes | str, reading: Reading = "crate") -> None:
         encoded = body.encode("utf-8", "surrogateescape") if isinstance(body, str) else body
-        self.robots = Site(encoded)
+        self.robots = Site(encoded, reading)
         self.body = bytes(encoded)[:FILE_LIMIT]
         self._names: dict[str, bytes] = {}
         self._kept: dict[str, Robot] = {}

@@ -6,6 +6,7 @@ import zlib
 from collections import OrderedDict
 from collections.abc import Callable
 
+from ._calls import Reading
 from ._rules import Rules
 from ._sites import KnownSite
 
@@ -14,8 +15,8 @@ class Memory:
     """Sites by the addresses of their files. The one that wasn't used for the longest time goes first. Parsed files take at most a quarter
     of the budget, as parsing one again takes microseconds. The last one of each kind stays."""
 
-    def __init__(self, budget: int, cost_limit: int, count: Callable[[str], object]) -> None:
-        self._budget, self._cost_limit, self._count = budget, cost_limit, count
+    def __init__(self, budget: int, cost_limit: int, reading: Reading, count: Callable[[str], object]) -> None:
+        self._budget, self._cost_limit, self._reading, self._count = budget, cost_limit, reading, count
         self.sites: OrderedDict[str, KnownSite] = OrderedDict()  # the one that was used last is at the end, in both
         self.parsed: OrderedDict[str, KnownSite] = OrderedDict()
         self._sites_memory = self._parsed_memory = 0
@@ -36,13 +37,17 @@ class Memory:
         """The site's file, parsed."""
         rules = site.rules
         if rules is None:
-            rules = Rules(zlib.decompress(site.packed), self._cost_limit)
+            rules = self.parse(site.packed)
             self._count("parsed")
             if self.sites.get(site.robots_url) is site:
                 self._keep_rules(site, rules)
         elif site.robots_url in self.parsed:
             self.parsed.move_to_end(site.robots_url)
         return rules
+
+    def parse(self, packed: bytes) -> Rules:
+        """The rules of a compressed file."""
+        return Rules(zlib.decompress(packed), self._cost_limit, self._reading)
 
     def keep(self, site: KnownSite) -> None:
         """Keeps a site in place of what was known of it."""

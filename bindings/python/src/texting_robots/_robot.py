@@ -9,6 +9,7 @@ from ._calls import (
     LAST_FAILURE,
     NO_VERDICT,
     Body,
+    Reading,
     Verdict,
     arrow,
     check,
@@ -16,6 +17,7 @@ from ._calls import (
     encoded,
     file_bytes,
     integers,
+    is_rfc9309,
     joined,
     name_bytes,
     owned,
@@ -41,15 +43,15 @@ _MISFITS: Final = {
 class Robot:
     """What a robots.txt file says to one crawler. It takes less memory than a `Site`, as it keeps no file.
 
-    ``body`` and ``agent`` are those of a `Site`, and so are the methods and their errors, but that the constructor already raises
+    ``body``, ``agent`` and ``reading`` are those of a `Site`, and so are the methods and their errors, but that the constructor already raises
     `OverlongRuleError`. Threads share it without a lock. It can't be pickled: keep the bytes.
     """
 
     __slots__ = ("__weakref__", "_opened")
 
-    def __init__(self, body: Body, agent: str) -> None:
+    def __init__(self, body: Body, agent: str, reading: Reading = "crate") -> None:
         file, name = file_bytes(body), name_bytes(agent)
-        self._open(lib.robot_of_file(file, len(file), name, len(name)))
+        self._open(lib.robot_of_file(file, len(file), is_rfc9309(reading), name, len(name)))
         if lib.robot_overlong_line(self._opened):
             check(lib.ROBOTS_OVERLONG_RULE, self._opened)
 

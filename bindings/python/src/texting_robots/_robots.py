@@ -9,10 +9,12 @@ from ._calls import (
     LAST_FAILURE,
     NO_VERDICT,
     Body,
+    Reading,
     Verdict,
     check,
     delay_of,
     file_bytes,
+    is_rfc9309,
     joined,
     name_bytes,
     owned,
@@ -48,6 +50,10 @@ class Site:
     A ``url`` is an absolute URL, or a path with its query. In a URL ``.`` and ``..`` are resolved, as by browsers, but in a path they aren't:
     a rule for ``/private`` matches ``https://example.com/a/../private``, and not ``/a/../private``.
 
+    With ``reading="rfc9309"`` the verdicts are those of RFC 9309, also for a file that is read otherwise by default, as the Rust crate
+    ``texting_robots`` reads it: see COMPATIBILITY. Then a URL is compared as it is written, so ``..`` isn't resolved. Delays, sitemaps and
+    agents are the same in both readings.
+
     Threads share it without a lock. It can be pickled, as its bytes and the attributes of a subclass.
 
     The methods raise `OverlongRuleError` if the file can't be used for the agent, and `AgentError`, also a TypeError and a ValueError,
@@ -55,13 +61,13 @@ class Site:
     surrogate a ValueError, and a failed allocation a MemoryError.
     """
 
-    def __init__(self, body: Body) -> None:
-        self._site = _Site(file_bytes(body))
+    def __init__(self, body: Body, reading: Reading = "crate") -> None:
+        self._site = _Site(file_bytes(body), reading)
 
     @classmethod
-    def parse(cls, body: Body) -> Self:
+    def parse(cls, body: Body, reading: Reading = "crate") -> Self:
         """The constructor by Protego's name."""
-        return cls(body)
+        return cls(body) if reading == "crate" else cls(body, reading)
 
     @classmethod
     def allow_all(cls) -> Self:
@@ -161,6 +167,11 @@ class Site:
         kept = 0 if site.kept is None else lib.site_memory(site.kept)
         return len(site.body) + kept + sum(robot.memory for robot in list(site.robots.values()))
 
+    @property
+    def reading(self) -> Reading:
+        """How the file is read: ``"crate"`` or ``"rfc9309"``."""
+        return "rfc9309" if self._site.by_rfc9309 else "crate"
+
     def is_named(self, agent: str) -> bool:
         """Whether a user-agent line names the crawler. All crawlers that none names have the rules and the delay of ``*``."""
         return self._site.is_named(name_bytes(agent))
@@ -172,7 +183,8 @@ class Site:
             return None
 
     def __repr__(self) -> str:
-        return f"<{type(self).__name__} of {len(self._site.body)} bytes>"
+        reading = ", reading='rfc9309'" if self._site.by_rfc9309 else ""
+        return f"<{type(self).__name__} of {len(self._site.body)} bytes{reading}>"
 
 
 Robots = Site
@@ -185,20 +197,20 @@ class _Site:
     """A file, and what it says to each agent that was asked about. C reads it for the first agent alone, and for all from the second one on,
     so that for one crawler no more is kept than its bytes and the robot. C's part is closed when nothing refers to it.
 
-    It is pickled as its bytes, and so a `Site` as any object is, with all its attributes.
+    It is pickled as its bytes and its reading, and so a `Site` as any object is, with all its attributes.
     """
 
-    __slots__ = ("body", "kept", "newest", "robots")
+    __slots__ = ("body", "by_rfc9309", "kept", "newest", "robots")
 
-    def __init__(self, body: bytes) -> None:
-        self.body = body
+    def __init__(self, body: bytes, reading: Reading = "crate") -> None:
+        self.body, self.by_rfc9309 = body, is_rfc9309(reading)
         self.kept: CData | None = None
         self.newest: tuple[object, CData] = _NONE
         self.robots: dict[str, Robot] = {}
 
     def read(self) -> CData:
         """The file as C reads it for all crawlers."""
-        return self.kept or owned(lib.site_open(self.body, len(self.body)), lib.site_close)
+        return self.kept or owned(lib.site_open(self.body, len(self.body), self.by_rfc9309), lib.site_close)
 
     @property
     def opened(self) -> CData:
@@ -226,7 +238,7 @@ class _Site:
         if self.robots or self.kept:
             opened = lib.robot_open(self.opened, name, len(name))
         else:
-            opened = lib.robot_of_file(self.body, len(self.body), name, len(name))
+            opened = lib.robot_of_file(self.body, len(self.body), self.by_rfc9309, name, len(name))
         return Robot.__new__(Robot)._open(opened)
 
     def _open(self, agent: str) -> Robot:
@@ -237,8 +249,8 @@ class _Site:
         self.robots[str(name, "utf-8")] = robot
         return robot
 
-    def __reduce__(self) -> tuple[type[_Site], tuple[bytes]]:
-        return _Site, (self.body,)
+    def __reduce__(self) -> tuple[type[_Site], tuple[bytes] | tuple[bytes, Reading]]:
+        return _Site, (self.body, "rfc9309") if self.by_rfc9309 else (self.body,)
 
 
 class Matrix:
@@ -248,16 +260,16 @@ class Matrix:
     or agents, or for a line feed in one.
     """
 
-    __slots__ = ("_agents", "_pairs", "_urls")
+    __slots__ = ("_agents", "_by_rfc9309", "_pairs", "_urls")
 
-    def __init__(self, urls: Iterable[str], agents: Iterable[str]) -> None:
+    def __init__(self, urls: Iterable[str], agents: Iterable[str], reading: Reading = "crate") -> None:
         urls, agents = several(urls, "urls"), several(agents, "agents")
         for agent in agents:
             name_bytes(agent)
         urls_text, agents_text = joined(urls, "urls"), joined(agents, "agents")
         if urls_text is None or agents_text is None:
             raise ValueError("there has to be a URL and an agent, and no line feed in one")
-        self._urls, self._agents = urls_text, agents_text
+        self._urls, self._agents, self._by_rfc9309 = urls_text, agents_text, is_rfc9309(reading)
         self._pairs = [(agent, url) for agent in agents for url in urls]
 
     def denials(self, body: ReadableBuffer) -> list[tuple[str, str, int | None]]:
@@ -268,7 +280,8 @@ class Matrix:
             raise wrong_type("body", body)
         file, length = file_bytes(body), len(self._pairs)
         out = ffi.new("int64_t[]", length)
-        check(lib.file_matrix(self._agents, len(self._agents), file, len(file), self._urls, len(self._urls), out, length))
+        agents, urls = self._agents, self._urls
+        check(lib.file_matrix(agents, len(agents), file, len(file), self._by_rfc9309, urls, len(urls), out, length))
         return [
             (agent, url, None if number == NO_VERDICT else -number)
             for (agent, url), number in zip(self._pairs, ffi.unpack(out, length))

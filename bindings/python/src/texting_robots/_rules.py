@@ -5,7 +5,7 @@ from __future__ import annotations
 from collections.abc import Iterable, Sequence
 from typing import Final, NamedTuple, Union
 
-from . import OverlongRuleError, Site, TooCostlyError, product_token
+from . import OverlongRuleError, Reading, Site, TooCostlyError, product_token
 from ._robot import Robot
 
 COST_LIMIT: Final = 20_000_000
@@ -61,8 +61,8 @@ class Rules:
 
     __slots__ = ("_file", "_known", "_limit", "learned")
 
-    def __init__(self, body: bytes, cost_limit: int = COST_LIMIT) -> None:
-        self._file = Site(body)
+    def __init__(self, body: bytes, cost_limit: int = COST_LIMIT, reading: Reading = "crate") -> None:
+        self._file = Site(body, reading)
         self._limit = cost_limit
         self.learned = 0
         """How often another crawler was asked about, as that changes the memory."""

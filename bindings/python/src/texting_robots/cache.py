@@ -22,11 +22,12 @@ from math import inf
 from typing import Final, Literal, NoReturn
 from urllib.parse import urlsplit
 
-from . import FILE_LIMIT, LIFETIME, Meaning, Site, meaning, robots_url
+from . import FILE_LIMIT, LIFETIME, Meaning, Reading, Site, meaning, robots_url
+from ._calls import is_rfc9309
 from ._contents import Headers, fields_of, max_age, seconds_of, target, unpacked
 from ._disk import Disk, Path
 from ._memory import Memory
-from ._rules import COST_LIMIT, OUT_OF_MEMORY, Agents, CacheVerdict, Decision, Rules
+from ._rules import COST_LIMIT, OUT_OF_MEMORY, Agents, CacheVerdict, Decision
 from ._settings import positive
 from ._sites import Action, Fetch, Flight, KnownSite, Look, State, Step
 
@@ -65,7 +66,8 @@ class RobotsCache:
     It takes about ``budget`` bytes of memory: a quarter for the parsed files that were used last, and the rest for all files, compressed.
     Where that doesn't suffice, the file that wasn't used for the longest time goes, and is fetched again, which the first time is a warning;
     unless ``database`` names a sqlite3 file, in which all of them are kept, also for the next start. A verdict takes at most ``cost_limit``
-    comparisons. Of hosts in ``exempt``, such as your own, no file is fetched, and everything may be.
+    comparisons, and is that of this ``reading`` (see `texting_robots.Site`), for which a database needn't be made anew. Of hosts in
+    ``exempt``, such as your own, no file is fetched, and everything may be.
 
     Several processes of one machine may share a database, but not in a network's file system. One of them then fetches a file, and the others
     wait for it. A lock of another program is waited for 0.2 seconds, at most once in a second, and while there is one, files are fetched that it
@@ -90,6 +92,7 @@ class RobotsCache:
         budget: int = 100_000_000,
         database: Path = "",
         cost_limit: int = COST_LIMIT,
+        reading: Reading = "crate",
         exempt: Iterable[str] = (),
         clock: Callable[[], float] = time.time,
         chance: Callable[[], float] | None = None,
@@ -100,9 +103,10 @@ class RobotsCache:
         self._answer_within, self._cost_limit = positive("answer_within", answer_within), positive("cost_limit", cost_limit)
         if after_30_days not in ("last file", "no file", "closed"):
             raise ValueError(f"after_30_days is {after_30_days!r}: it has to be 'last file', 'no file' or 'closed'")
+        self._by_rfc9309 = is_rfc9309(reading)
         self._after_30_days, self._clock, self._chance = after_30_days, clock, chance or random.random
         self._count, self._found = count, found
-        self._memory = Memory(positive("budget", budget), cost_limit, self._counted)
+        self._memory = Memory(positive("budget", budget), cost_limit, reading, self._counted)
         self._longest = max(lifetime, 1.1 * retry)  # until a file is asked for again
         self._flights: dict[str, Flight] = {}
         self._turns: dict[str, float] = {}  # when the next request to a site with a delay may go
@@ -252,7 +256,8 @@ class RobotsCache:
         self.close()
 
     def __repr__(self) -> str:
-        return f"<{type(self).__name__} of {len(self)} sites>"
+        reading = ", reading='rfc9309'" if self._by_rfc9309 else ""
+        return f"<{type(self).__name__} of {len(self)} sites{reading}>"
 
     def __reduce__(self) -> NoReturn:
         raise TypeError("a RobotsCache can't be pickled or copied: name a database, which several processes may share")
@@ -346,7 +351,7 @@ class RobotsCache:
         site = self._new(address, State.FILE, lifetime)
         site.packed, site.source = packed, address if source == address else source
         site.etag = etag if len(etag) <= _ETAG_LIMIT and etag.isascii() and etag.isprintable() else ""
-        site.rules = Rules(zlib.decompress(packed), self._cost_limit)
+        site.rules = self._memory.parse(packed)
         return self._settled(flight, site)
 
     def _renewed(self, flight: Flight, address: str, before: KnownSite, lifetime: float) -> KnownSite:
@@ -390,7 +395,7 @@ class RobotsCache:
         try:
             sitemaps = self._memory.rules(site).sitemaps
             old = before if sitemaps and before and before.state is State.FILE else None
-            if sitemaps and not (old and (old.packed == site.packed or Rules(zlib.decompress(old.packed)).sitemaps == sitemaps)):
+            if sitemaps and not (old and (old.packed == site.packed or self._memory.parse(old.packed).sitemaps == sitemaps)):
                 self._found(site.robots_url, sitemaps)
         except MemoryError:
             pass

@@ -153,6 +153,7 @@ class RobotsMiddleware:
     - ``TEXTING_ROBOTS_EXEMPT = []``: hosts, such as your own, of which no file is fetched, and everything may be.
     - ``TEXTING_ROBOTS_COST = 20_000_000``: how many comparisons a verdict may take. A URL that might need more is denied, with a
       warning.
+    - ``TEXTING_ROBOTS_READING = "crate"``: how files are read; with ``"rfc9309"`` as that standard does (see `texting_robots.Site`).
     - ``TEXTING_ROBOTS_MAX_DELAY = 60``: a longer delay is cut to this number of seconds. With 0 delays are ignored.
 
     The delay holds in the downloader's slots, whatever ``DOWNLOAD_DELAY``, ``download_slot`` and AutoThrottle say, which may only make it
@@ -444,6 +445,7 @@ def _cache(settings: Any, database: str, count: Callable[[str], object], found: 
         budget=int(_number(settings, "BUDGET", 100_000_000)),
         database=database,
         cost_limit=int(_number(settings, "COST", COST_LIMIT)),
+        reading=settings.get("TEXTING_ROBOTS_READING", "crate"),
         exempt=settings.getlist("TEXTING_ROBOTS_EXEMPT"),
         count=count,
         found=found,

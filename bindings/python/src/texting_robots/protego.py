@@ -6,6 +6,7 @@ import re
 from collections.abc import Iterator
 from typing import TYPE_CHECKING, Final
 
+from ._calls import Reading
 from ._facade import File, RequestRate, VisitTime
 from ._robots import Site
 
@@ -22,7 +23,7 @@ class Protego:
 
     A ``user_agent`` may be a whole one, of which the name at the front counts, and isn't looked for elsewhere in it: with its version, as
     ``FerrisBot/1.0``, if a line of the file is for just that, or else the product token. ``site`` is the same file as a `Site`, which
-    says more, such as the line that decides.
+    says more, such as the line that decides. Set ``reading`` to ``"rfc9309"`` for the verdicts of that standard.
     """
 
     def __init__(self) -> None:
@@ -32,13 +33,22 @@ class Protego:
     def parse(cls, content: str | bytes) -> Self:
         """A new instance for a file, whose bytes are best: a ``str`` has lost those that aren't UTF-8."""
         made = cls()
-        made._file = File(content)
+        made._file = File(content, made.reading)
         return made
 
     @property
     def site(self) -> Site:
         """The file as a `Site`."""
         return self._file.robots
+
+    @property
+    def reading(self) -> Reading:
+        """How the file is read, as in `Site`."""
+        return self._file.robots.reading
+
+    @reading.setter
+    def reading(self, reading: Reading) -> None:
+        self._file = File(self._file.body, reading)
 
     def can_fetch(self, url: str, user_agent: str) -> bool:
         """Whether the crawler may fetch the URL: not if the file can't be used for it, as a rule is too long."""

@@ -9,7 +9,7 @@ from collections.abc import Iterable
 from urllib.robotparser import RequestRate
 from urllib.robotparser import RobotFileParser as UrllibParser
 
-from ._calls import FILE_LIMIT
+from ._calls import FILE_LIMIT, Reading
 from ._contents import unpacked
 from ._facade import File
 from ._responses import Meaning, meaning
@@ -22,7 +22,8 @@ class RobotFileParser(UrllibParser):
     """A robots.txt file with the interface of `urllib.robotparser.RobotFileParser`, and the verdicts of this library.
 
     A ``useragent`` may be a whole one, of which the name at the front counts: with its version, as ``FerrisBot/1.0``, if a line of the file
-    is for just that, or else the product token. ``site`` is the same file as a `Site`, which says more, such as the line that decides.
+    is for just that, or else the product token. ``site`` is the same file as a `Site`, which says more, such as the line that decides. Set
+    ``reading`` to ``"rfc9309"`` for the verdicts of that standard.
     """
 
     url: str
@@ -35,6 +36,15 @@ class RobotFileParser(UrllibParser):
     def site(self) -> Site:
         """The file as a `Site`."""
         return self._file.robots
+
+    @property
+    def reading(self) -> Reading:
+        """How this file and later ones are read, as in `Site`."""
+        return self._file.robots.reading
+
+    @reading.setter
+    def reading(self, reading: Reading) -> None:
+        self._file = File(self._file.body, reading)
 
     def read(self) -> None:
         """Fetches the file, of which the first 512,000 bytes count. Without one, after a status 4xx, everything is allowed, but after 401
@@ -68,7 +78,7 @@ class RobotFileParser(UrllibParser):
         if isinstance(lines, (str, bytes)):
             raise TypeError("lines has to be several str or bytes, such as text.splitlines(), and not one")
         encoded = (line.encode("utf-8", "surrogateescape") if isinstance(line, str) else line for line in lines)
-        self._file = File(b"\n".join(line.rstrip(b"\r\n") for line in encoded))
+        self._file = File(b"\n".join(line.rstrip(b"\r\n") for line in encoded), self.reading)
         self.sitemaps = self._file.robots.sitemaps
         self.modified()
 

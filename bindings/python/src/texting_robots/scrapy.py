@@ -7,7 +7,7 @@ from typing import Any, ClassVar, Final
 
 from scrapy.robotstxt import RobotParser as ScrapyRobotParser
 
-from . import product_token
+from . import Reading, product_token
 from ._rules import COST_LIMIT, OUT_OF_MEMORY, CacheVerdict, Rules
 
 logger = logging.getLogger(__name__)
@@ -21,7 +21,8 @@ NO_TOKEN = "User-Agent %r: the group of this crawler isn't found in a robots.txt
 
 class RobotParser(ScrapyRobotParser):
     """Parses the file's bytes as received, so that damaged files keep their rules. If a file can't be used, nothing is fetched, nor if an
-    allocation fails, or if a verdict might take more than ``TEXTING_ROBOTS_COST`` comparisons.
+    allocation fails, or if a verdict might take more than ``TEXTING_ROBOTS_COST`` comparisons. With ``TEXTING_ROBOTS_READING = "rfc9309"``
+    files are read as that standard does (see `texting_robots.Site`). If a setting is no such value, nothing is fetched, with a warning.
 
     The crawler goes by the product token at the front of its User-Agent. One that begins with ``Mozilla/5.0`` sets
     ``ROBOTSTXT_USER_AGENT`` to its own; otherwise it gets the rules for ``*``, and a warning.
@@ -29,8 +30,8 @@ class RobotParser(ScrapyRobotParser):
 
     _has_warned: ClassVar[bool] = False
 
-    def __init__(self, robotstxt_body: bytes, spider: Any = None, cost_limit: int = COST_LIMIT) -> None:
-        self._rules = Rules(robotstxt_body, cost_limit)
+    def __init__(self, robotstxt_body: bytes, spider: Any = None, cost_limit: int = COST_LIMIT, reading: Reading = "crate") -> None:
+        self._rules = Rules(robotstxt_body, cost_limit, reading)
         self._spider = spider
         self._agent: str | bytes = ""  # the User-Agent that was asked about last, and
         self._name = ""  # the same as a text
@@ -41,11 +42,16 @@ class RobotParser(ScrapyRobotParser):
         """The parser of a file. After an error here Scrapy would fetch everything from the site."""
         spider = crawler.spider if crawler else None
         try:
-            cost_limit = crawler.settings.getint("TEXTING_ROBOTS_COST", COST_LIMIT) if crawler else COST_LIMIT
-            return cls(robotstxt_body, spider, cost_limit)
+            if not crawler:
+                return cls(robotstxt_body, spider)
+            settings = crawler.settings
+            cost_limit = settings.getint("TEXTING_ROBOTS_COST", COST_LIMIT)
+            return cls(robotstxt_body, spider, cost_limit, settings.get("TEXTING_ROBOTS_READING", "crate"))
         except MemoryError:
             _warn(spider, "a robots.txt file can't be parsed, out of memory: nothing is fetched from its site")
-            return _CLOSED
+        except ValueError as error:
+            _warn(spider, "a robots.txt file can't be parsed, as a setting is wrong: %s: nothing is fetched from its site", error)
+        return _CLOSED
 
     def allowed(self, url: str | bytes, user_agent: str | bytes) -> bool:
         """Whether the crawler may fetch the URL. ``user_agent`` is the whole User-Agent, or a product token."""

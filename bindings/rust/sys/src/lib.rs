@@ -63,6 +63,7 @@ extern "C" {
                                    urls: *const c_char, urls_len: usize, verdicts: *mut i64, verdicts_len: usize, line: *mut usize) -> i32;
 
     pub fn robots_site_open(file: *const c_void, file_len: usize, site: *mut *mut robots_site) -> i32;
+    pub fn robots_site_open_rfc9309(file: *const c_void, file_len: usize, site: *mut *mut robots_site) -> i32;
     pub fn robots_site_robot(site: *const robots_site, agent: *const c_char, agent_len: usize,
                              robot: *mut *mut robots_robot, line: *mut usize) -> i32;
     pub fn robots_site_matrix(site: *const robots_site, agents: *const c_char, agents_len: usize,

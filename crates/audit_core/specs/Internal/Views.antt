@@ -6,11 +6,13 @@ use Rattle.audit_core.specs.{Audit.AgentValue, declared.audit.Verdict.TheInside.
 use Rattle.audit_core.specs.{Audit.AuditValue, declared.audit.Audit.TheInside.Inside as InsideAudit}
 
 abbrev pub verdict_of : InsideVerdict → VerdictValue
-verdict_of verdict = record { url = verdict.url.now; decision = verdict.decision }
+verdict_of verdict =
+    record { url = verdict.url.now; decision = verdict.decision; standard = verdict.standard }
 
 abbrev pub agent_of : InsideAgent → AgentValue
 agent_of audit = record {
   agent = audit.agent.now;
+  asked = audit.asked.now;
   group = audit.group;
   group_line = audit.group_line;
   rules = audit.rules;
@@ -21,6 +23,7 @@ agent_of audit = record {
   delay = audit.delay;
   rejected = audit.rejected;
   verdicts = audit.verdicts.items;
+  standard = audit.standard;
 }
 
 abbrev pub audit_of : InsideAudit → AuditValue

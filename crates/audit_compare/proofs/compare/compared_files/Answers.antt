@@ -11,13 +11,13 @@ returns-clause-ok c = record {
   removed_are = rw (
     c.deref-2.ensures.value,
     c.deref-3.ensures.value,
-    c.requires.older.lines_are,
-    c.requires.newer.lines_are,
+    c.requires.older.here.lines_are,
+    c.requires.newer.here.lines_are,
   ) at c.in_ok-removed.ensures;
   added_are = rw (
     c.deref-4.ensures.value,
     c.deref-5.ensures.value,
-    c.requires.older.lines_are,
-    c.requires.newer.lines_are,
+    c.requires.older.here.lines_are,
+    c.requires.newer.here.lines_are,
   ) at c.in_ok-added.ensures;
 }

@@ -1,11 +1,11 @@
-use Rattle.std.proofs.Common.{◌≡◌, ◌∙◌, ℕ, ◌+◌, ◌<◌, ◌||◌, Bool, List, String, ap, bytes_eq, get_or, length}
+use Rattle.std.proofs.Common.{◌≡◌, ◌∙◌, ℕ, ◌+◌, ◌<◌, Bool, List, String, ap, arith, bytes_eq, get_or, length}
 use Rattle.std.proofs.Common.{refl, string_bytes, sym, take, true}
 use Rattle.std.specs.BTreeSet.{BTreeSet, Updates, contains_text}
 use Rattle.std.specs.{Global.Global, String.string_cmp}
 use Rattle.std.proofs.Math.{Bool.beq}
-use Rattle.std.proofs.lemmas.{Bool.not-false, List.Folds.list_any_more, Map.Text.btree_set_updates_text}
+use Rattle.std.proofs.lemmas.{Bool.not-false, Grind.common_steps, List.Folds.list_any_more}
+use Rattle.std.proofs.lemmas.{Map.Text.btree_set_updates_text}
 use Rattle.texting_robots.specs.{Callers.PlacedRule}
-use Rattle.robots_warnings.proofs.{ClosedLemmas.either}
 use Rattle.audit_compare.specs.Compare.{has_rule, is_same_rule}
 use Rattle.audit_compare.proofs.rule_sets.patterns_of.Goals as goal
 
@@ -17,11 +17,9 @@ added : (old new : BTreeSet (String Global)) (key : String Global) (rules : List
 added old new key rules at rule is_allow below item is kind updates before pattern =
     let test = λ (placed : PlacedRule). is_same_rule placed.rule (pattern, is_allow) in
     let same : bytes_eq (string_bytes key) pattern ≡ test rule = rw (kind, is) refl in
-    btree_set_updates_text (string_bytes key) old new true updates pattern
-    ∙ either (contains_text old pattern) (bytes_eq (string_bytes key) pattern)
-    ∙ ap (λ has. has || bytes_eq (string_bytes key) pattern) (before pattern)
-    ∙ ap (λ is. has_rule (take at rules) (pattern, is_allow) || is) (same ∙ ap test item)
-    ∙ sym (list_any_more test rules at rule below)
+    let more = btree_set_updates_text (string_bytes key) old new true updates pattern in
+    let was = before pattern in
+    rw (list_any_more test rules at rule below, ← item) (grind (arith, common_steps, more, was, same))
 
 pub loop-rule-preserved : goal.loop-rule-preserved
 loop-rule-preserved c =

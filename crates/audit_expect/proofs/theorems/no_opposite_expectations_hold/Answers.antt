@@ -1,34 +1,39 @@
-use Rattle.std.proofs.Common.{◌≡◌, ◌↔◌, ℕ, Bool, true, false, List, ap, map, not, refl, subst, sym}
-use Rattle.std.specs.Prelude.{IsTrue}
-use Rattle.std.proofs.lemmas.List.Elements.{filter_agree}
-use Rattle.texting_robots.specs.Callers.{IsVerdict, PlacedRule, bodies_read, lines_read, placed_rules}
-use Rattle.texting_robots.specs.Callers.{unplaced}
+use Rattle.std.proofs.Common.{◌≡◌, ◌∙◌, ℕ, Bool, List, Option, Some, None, [], ◌∷◌, refl, subst, sym, take}
+use Rattle.texting_robots.specs.Callers.{file_limit, file_lines, lines_read, rules_for}
 use Rattle.texting_robots.proofs.Shared.{verdict_unique}
-use Rattle.audit_expect.specs.OtherReading.{AreOthers, IsNormalVerdict, normal_rule}
-use Rattle.audit_expect.specs.Expectations.{HoldsFor}
+use Rattle.rfc9309.specs.StandardReading.{IsStandardVerdict, standard_text}
+use Rattle.rfc9309.specs.{Matching.all_stay, Matching.normal_uri, StandardTarget.written_target}
+use Rattle.rfc9309.proofs.StandardLemmas.{text_verdict}
+use Rattle.robots_warnings.specs.Crawlers.{other_group}
+use Rattle.audit_expect.specs.{Expect.ExpectationValue, Expectations.HoldsFor, Expectations.HoldsIn}
 use Rattle.audit_expect.proofs.theorems.no_opposite_expectations_hold.Goals as goal
 
-agree : (one other : Bool) {P : Type 0} → IsTrue one ↔ P → IsTrue other ↔ P → one ≡ other
-agree true true first second = refl
-agree true false first second = sym (second.1 (first.0 refl))
-agree false true first second = first.1 (second.0 refl)
-agree false false first second = refl
+-- the standard has one verdict on what has one normal form
+same_by_standard : (agent file one other : List ℕ) (first second : Bool)
+    → normal_uri all_stay one ≡ normal_uri all_stay other → IsStandardVerdict agent file one first
+    → IsStandardVerdict agent file other second → first ≡ second
+same_by_standard agent file one other first second same is also =
+    let rules = rules_for agent (file_lines (standard_text file)) in
+    verdict_unique rules (normal_uri all_stay one) first second ((text_verdict agent file one first).1 is)
+    (rw same ((text_verdict agent file other second).1 also))
 
-same_others : (bodies : List (List ℕ)) (all some others : List PlacedRule) → AreOthers bodies all some
-    → AreOthers bodies all others → some ≡ others
-same_others bodies all some others is also =
-    rw (is.are, also.are) (filter_agree _ _ (λ (placed : PlacedRule).
-    ap not (agree _ _ (is.empty placed.line) (also.empty placed.line))) all)
+module _ (file : List ℕ) (one other : ExpectationValue) (plain : one.is_pattern ≡ Bool.false)
+    (both : other.is_pattern ≡ Bool.false)
+    (same : normal_uri all_stay (written_target one.url)
+    ≡ normal_uri all_stay (written_target other.url)) where
+  for_both : (agent : List ℕ) → HoldsFor file agent one → HoldsFor file agent other
+      → one.allowed ≡ other.allowed
+  for_both agent is also =
+      same_by_standard agent (take file_limit file) _ _ _ _ same (is.url plain).standard
+      (also.url both).standard
 
-same_normally : (bodies : List (List ℕ)) (all : List PlacedRule) (target : List ℕ) (one two : Bool)
-    → IsNormalVerdict bodies all target one → IsNormalVerdict bodies all target two → one ≡ two
-same_normally bodies all target one two is also =
-    verdict_unique _ target one two is.verdict
-    (subst (λ others. IsVerdict (unplaced (map normal_rule others)) target two)
-    (same_others bodies all also.others is.others also.are is.are) also.verdict)
+  in_group : (group : Option (List ℕ)) → one.agent ≡ other.agent → HoldsIn file one group
+      → HoldsIn file other group → one.allowed ≡ other.allowed
+  in_group None agent is also = for_both one.agent is (rw agent also)
+  in_group (Some []) agent is also = is ∙ sym also
+  in_group (Some (b ∷ name)) agent is also = for_both (b ∷ name) is also
 
 pub returns : goal.returns
 returns c file one other is also plain both agent target =
-    let there : HoldsFor file one.agent other = rw agent also.here in
-    same_normally (bodies_read file) (placed_rules one.agent (lines_read file)) _ one.allowed other.allowed
-    (is.here.url plain).normal (rw target (there.url both).normal)
+    in_group file one other plain both target (other_group (lines_read file) one.agent) agent is
+    (rw agent also)

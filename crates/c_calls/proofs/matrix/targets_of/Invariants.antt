@@ -1,8 +1,8 @@
-use Rattle.std.proofs.Common.{◌≡◌, length, map, string_bytes, take}
-use Rattle.texting_robots.specs.Callers.{prepared}
-use Rattle.c_calls.specs.Verdicts.{items_in}
+use Rattle.std.proofs.Common.{◌≡◌, map, string_bytes, take}
+use Rattle.c_calls.specs.File.{target_in}
 use Rattle.c_calls.proofs.matrix.targets_of.Given as goal
 
 abbrev pub invariant-loop-url : goal.invariant-loop-url
 invariant-loop-url l =
-    map string_bytes l.targets.items ≡ map prepared (take (length l.yielded) (items_in l.fn.urls))
+    map string_bytes l.targets.items
+    ≡ map (λ url. target_in l.fn.by_rfc9309 url.now) (take l.url-index l.url-items)

@@ -8,6 +8,6 @@ loop-target-preserved c =
     let number = c.number_on.result in
     let fits : SFits w64 number = search rules in
     let R = IsVerdictOn c.args.robot.now.rules in
+    let is = rw (c.deref.ensures, c.target-item.is) at c.number_on.ensures in
     rw (c.in_ok-push.ensures.items, to_z-of_z w64 number fits)
-    (one_more_target R _ _ _ _ _ number (c.loop-target-test.true, c.target-item.is) c.loop-target.invariant
-    (subst (λ text. R text number) c.deref.ensures c.number_on.ensures))
+    (one_more_target R _ _ _ _ _ number c.loop-target-test.true c.loop-target.invariant is)

@@ -2,7 +2,7 @@ use Rattle.c_calls.proofs.Borrowing.{◌≡◌, ℕ, [], ◌∷◌, refl, ◌$�
 use Rattle.c_calls.proofs.Borrowing as m
 use Rattle.c_calls.proofs.Keeping.{id⊢, ℤ, ◌≢◌}
 use Rattle.c_calls.proofs.Keeping as d
-use Rattle.c_calls.specs.{File.IsRobotFor, Status.HasErrorAt, Status.IsWhyNoRobot}
+use Rattle.c_calls.specs.{File.IsRobotFor, File.read_text, Status.HasErrorAt, Status.IsWhyNoRobot}
 use Rattle.c_calls.specs.Kept.{Robots, Sites, opens}
 use Rattle.c_calls.specs.contracts.site.robot_opened as callee
 use Rattle.c_calls.proofs.site.robot_opened.Met.{met}
@@ -33,7 +33,7 @@ robots_site_robot_spec 𝓤 𝓛 𝓜 𝓡 wired =
     let W : Type 0 = m.Lasts callee.ended κs (given_at 0 0) in let V : Type 0 = m.Lasts self.ended z.0.0 a in
     let made : W → m.Ptr → V = λ w p. (tt, (tt, (tt, (p, (w.1.1.1.1.0, tt))))) in
     let rest : ℤ → m.Ptr → ℕ → d.SProp 𝓤 = λ r p n. d.sep 𝓤 (m.fact 𝓤 (r ≢ d.pos 0 → p ≡ out.now))
-    (m.fact 𝓤 (HasErrorAt (IsWhyNoRobot a.1.1.0.now x) r line.now n)) in
+    (m.fact 𝓤 (HasErrorAt (IsWhyNoRobot a.1.1.0.now (read_text x)) r line.now n)) in
     let E : ℤ → V → d.SProp 𝓤 = λ r w. d.sep 𝓤 (d.sem 𝓛 (opens Robots (IsRobotFor a.1.1.0.now x) r w.1.1.1.0))
     (rest r w.1.1.1.0 w.1.1.1.1.0) in
     m.qed 𝓛 (m.context 𝓛 Sites a.1.0 x κ q S z.0 []) ∵

@@ -1,8 +1,0 @@
-use Rattle.audit_core.proofs.audit.read_for.Goals as goal
-
-pub returns-in-Ok-clause-ok : goal.returns-in-Ok-clause-ok
-returns-in-Ok-clause-ok c = rw c.requires.site_is at c.in-Ok.ensures.robot
-
-pub returns-in-Err-Overlong-clause-ok : goal.returns-in-Err-Overlong-clause-ok
-returns-in-Err-Overlong-clause-ok c =
-    let why = c.in-Err-Overlong in (rw (why.field-0-is, c.requires.site_is) at why.ensures.rejected).1
