@@ -58,36 +58,6 @@ pub all_if_none : (test : ℕ → Bool) (hay : List ℕ) → list_any test hay �
     → hay ≡ before_first test hay
 all_if_none test hay none = all_if_nowhere test hay (nowhere test hay none)
 
-pub some_found : (test : ℕ → Bool) (hay : List ℕ) (found : Option ℕ) → IsFirstByte test hay found
-    → is_some found ≡ list_any test hay
-some_found test hay None none =
-    sym (list_any_none test hay
-    (λ k d l. false_from_ne_true _ (λ is. none k (omega arith) l (rw (get_or_default hay k 0 d l) is))))
-some_found test hay (Some k) first = grind (arith, list_any_at)
-
-pub any_of_front : (test : ℕ → Bool) (text : List ℕ) (k : ℕ) → list_any test (take k text) ≡ true
-    → list_any test text ≡ true
-any_of_front test text k some =
-    cc (take-append-drop k text, list_any-append test (take k text) (drop k text))
-
-pub any_of_rest : (test : ℕ → Bool) (text : List ℕ) (k : ℕ) → list_any test (take k text) ≡ false
-    → list_any test (drop k text) ≡ list_any test text
-any_of_rest test text k none =
-    cc (list_any-append test (take k text) (drop k text), take-append-drop k text)
-
-pub either_end : (test : ℕ → Bool) (text : List ℕ) (k : ℕ)
-    → k ≤ length text → length text ≤ k + k
-    → list_any test (take k text) ≡ false
-    → (let n = length text - k in
-    list_any test (take (length text - n) (drop n text)) ≡ list_any test text)
-either_end test text k within meet none =
-    let n = length text - k in
-    let front = take k text in
-    let parts = or_parts (list_any test (take n front)) (list_any test (drop n front))
-    (cc (list_any-append test (take n front) (drop n front), take-append-drop n front)) in
-    let before = ap (list_any test) (sym (take-take n k text (omega arith))) ∙ parts.0 in
-    cc (take_rest text n, list_any-append test (take n text) (drop n text), take-append-drop n text)
-
 -- ---- The membership of lines, as the iterator computes it.
 
 -- `captured_ahead` is the test at the index of the next member, or at the end if there is none

@@ -1,7 +1,7 @@
 -- The index of the first byte that passes a test, as vectors find it.
 use Rattle.std.proofs.Common.{◌≡◌, ℕ, zero, suc, ◌+◌, ◌-◌, ◌*◌, ◌%◌, ◌^◌, ◌<◌, ◌≤◌, ◌==◌, ◌||◌, Bool, true}
 use Rattle.std.proofs.Common.{false, not, List, [], ◌∷◌, length, take, drop, map, sym, refl, ap, ◌∙◌, arith}
-use Rattle.std.proofs.Common.{cond, if◌then◌else◌, bit_or, Option}
+use Rattle.std.proofs.Common.{◌++◌, cond, if◌then◌else◌, bit_or, length-append, Option}
 use Rattle.std.specs.List.{list_all, list_any, position_or_len, prefix_len}
 use Rattle.std.specs.Int.{trailing_zeros, w64}
 use Rattle.std.proofs.lemmas.Bool.{cases_Bool, cases_eq, cases_lt, cond-true, cond-false, eq-eqb, ne_eqb}
@@ -14,7 +14,7 @@ use mir.Syntax.{w8}
 use std.Path.{fun_ext}
 use Rattle.std.specs.{Option.unwrap_or}
 use Rattle.memchr.specs.{Find.IsFirstByte}
-use Rattle.texting_robots.specs.{Escape.is_escaped, Internal.Segments.is_wildcard}
+use Rattle.texting_robots.specs.{Escape.is_escaped, Internal.ByteSet.ends_of, Internal.Segments.is_wildcard}
 use Rattle.texting_robots.specs.Pattern.{dollar, star}
 use Rattle.texting_robots.proofs.LabelLemmas.{position_if_first, len_if_nowhere}
 
@@ -29,26 +29,87 @@ first_labeled f width v lanes fits long lanes_are =
     = cc (map-map (top 7) f v, mask_l-mod (map test v) 64 (omega (arith, length-map v test, long))) in
     grind (arith, first_set_mask_l)
 
-module _ (test : ℕ → Bool) (text : List ℕ) where
-  pub first_seen : (k : ℕ) → k ≤ length text
-      → (let here = position_or_len test (take k text) in
-      (here < k → position_or_len test text ≡ here)
-      × (k ≤ here → position_or_len test text ≡ k + position_or_len test (drop k text)))
-  first_seen k within =
+-- how many leading bytes pass, from the first `k`
+module _ (pass : ℕ → Bool) (text : List ℕ) where
+  front_seen : (k : ℕ) → k ≤ length text
+      → (let here = prefix_len pass (take k text) in
+      (here < k → prefix_len pass text ≡ here)
+      × (k ≤ here → prefix_len pass text ≡ k + prefix_len pass (drop k text)))
+  front_seen k within =
       let front = take k text in
       let back = drop k text in
-      let here = position_or_len test front in
+      let here = prefix_len pass front in
       let long = length-take-le k text within in
-      let most = prefix_len-le-length (λ b. not (test b)) front in
-      let seen : position_or_len test text ≡ cond (here == k) (k + position_or_len test back) here =
-      ap (position_or_len test) (sym (take-append-drop k text))
-      ∙ prefix_len-append (λ b. not (test b)) front back ∙ rw long refl in grind (
+      let most = prefix_len-le-length pass front in
+      let seen : prefix_len pass text ≡ cond (here == k) (k + prefix_len pass back) here =
+      ap (prefix_len pass) (sym (take-append-drop k text))
+      ∙ prefix_len-append pass front back ∙ rw long refl in grind (
         arith,
         cond-false,
         cond-true,
         eq-eqb,
         ne_eqb,
       )
+
+  front_passed : (k : ℕ) → k ≤ prefix_len pass text
+      → prefix_len pass text ≡ k + prefix_len pass (drop k text)
+  front_passed k passed =
+      let (some, all) = front_seen k (omega (arith, passed, prefix_len-le-length pass text)) in
+      grind (arith, cases_lt, some, all)
+
+  -- the first and the last `k`, which cover the text
+  pub ends_tell : (k : ℕ) → k ≤ length text → length text ≤ k + k
+      → (let seen = prefix_len pass (ends_of k text) in
+      (seen ≤ k + k)
+      × (seen < k → prefix_len pass text ≡ seen)
+      × (k ≤ seen → prefix_len pass text + (k + k) ≡ length text + seen))
+  ends_tell k within meet =
+      let n = length text - k in
+      let here = prefix_len pass (take k text) in
+      let back = drop n text in
+      let long = length-take-le k text within in
+      let seen : prefix_len pass (ends_of k text) ≡ cond (here == k) (k + prefix_len pass back) here =
+      prefix_len-append pass (take k text) back ∙ rw long refl in
+      let most = prefix_len-le-length pass (take k text) in
+      let last = prefix_len-le-length pass back in
+      let short = length-drop n text in
+      let (some, all) = front_seen k within in
+      grind (arith, cases_eq, cond-false, cond-true, eq-eqb, ne_eqb, some, all, front_passed n)
+
+pub seen_within : (pass : ℕ → Bool) (text : List ℕ) → prefix_len pass text ≤ length text
+seen_within pass text = prefix_len-le-length pass text
+
+-- sixteen after `at` that pass
+pub sixteen_seen : (pass : ℕ → Bool) (text : List ℕ) (at : ℕ) → at + 16 ≤ length text
+    → at ≤ prefix_len pass text
+    → (let here = prefix_len pass (take 16 (drop at text)) in (here ≤ 16)
+    × (here < 16 → prefix_len pass text ≡ at + here) × (16 ≤ here → at + 16 ≤ prefix_len pass text))
+sixteen_seen pass text at within passed =
+    let rest = drop at text in
+    let long : 16 ≤ length rest = omega (arith, length-drop at text, within) in
+    let (some, all) = front_seen pass rest 16 long in
+    let most = prefix_len-le-length pass (take 16 rest) in
+    let whole = front_passed pass text at passed in
+    grind (arith, length-take-le 16 rest long, most, whole, some, all)
+
+pub joined_ends : (k : ℕ) (text : List ℕ) → k ≤ length text
+    → (let joined = take k text ++ take k (drop (length text - k) text) in
+    (joined ≡ ends_of k text) × (length joined ≡ k + k))
+joined_ends k text within =
+    let back = drop (length text - k) text in
+    let last : length back ≡ k = length-drop (length text - k) text ∙ omega arith in
+    rw (take_all k back (omega (arith, last)))
+    (refl, length-append (take k text) back ∙ omega (arith, length-take-le k text within, last))
+
+pub ends_len : (k : ℕ) (text : List ℕ) → k ≤ length text → length (ends_of k text) ≡ k + k
+ends_len k text within = let (same, long) = joined_ends k text within in sym (ap length same) ∙ long
+
+module _ (test : ℕ → Bool) (text : List ℕ) where
+  pub first_seen : (k : ℕ) → k ≤ length text
+      → (let here = position_or_len test (take k text) in
+      (here < k → position_or_len test text ≡ here)
+      × (k ≤ here → position_or_len test text ≡ k + position_or_len test (drop k text)))
+  first_seen k within = front_seen (λ b. not (test b)) text k within
 
   -- the last `k` bytes, if the first and the last `k` cover the text
   pub last_seen : (k : ℕ) → k ≤ length text → length text ≤ k + k

@@ -20,6 +20,7 @@ pub mod SiteNameLemmas
 pub mod SiteOwnLemmas
 pub mod TheoremLemmas
 pub mod NormalizedLemmas
+pub mod PlainLemmas
 pub mod PreparedLemmas
 pub mod SegmentLemmas
 pub mod CollapseLemmas

@@ -2,13 +2,14 @@
 use Rattle.std.proofs.Common.{◌≡◌, ◌≢◌, ◌<◌, ◌≤◌, ◌+◌, ◌^◌, ◌/◌, ◌∷◌, ◌++◌, ◌==◌, ◌||◌, ◌&&◌, ◌∙◌, ℕ, Bool}
 use Rattle.std.proofs.Common.{All, IsAscii, List, [], true, false, Some, inl, inr, not, ap, append_assoc}
 use Rattle.std.proofs.Common.{append-nil, arith, cond, decimal, drop, get_or, length, refl, slice_index, suc}
-use Rattle.std.proofs.Common.{sym, take, zero, take-append-drop}
+use Rattle.std.proofs.Common.{subst, sym, take, zero, take-append-drop}
 use Rattle.std.specs.{List.list_any, List.prefix_len, Int.Bits.and_zero_r}
 use Rattle.std.{proofs.Math.Bool.or-true, specs.Char.is_ascii_lowercase, specs.Char.is_ascii_uppercase}
 use Rattle.std.proofs.lemmas.{Bool.Decides.nat_tests, Str.Ascii.IsAscii-nil, Fmt.decimal-digits_value}
 use Rattle.std.proofs.lemmas.Bool.{agree_below, agree_below_at, and_parts, cases_Bool, cases_eq, cases_lt}
 use Rattle.std.proofs.lemmas.Bool.{cond-false, cond-true, eq-eqb, le-ltb, lt-ltb, ne_eqb, not-true}
 use Rattle.percent_encoding.specs.{AsciiSet.should_percent_encode, declared.ascii_set.AsciiSet.AsciiSet}
+use Rattle.percent_encoding.proofs.PercentLemmas.{IsAscii-percent_encode}
 use Rattle.percent_encoding.specs.Percent.{percent_encode, percent_encode_byte, encode_byte, IsKept}
 use Rattle.texting_robots.specs.declared.escape.TheConstants.{ESCAPED}
 use Rattle.texting_robots.specs.Escape.{is_escaped, escape_byte, escaped}
@@ -23,7 +24,8 @@ use Rattle.url.specs.{declared.scheme.SchemeType.TheVariants.SpecialNotFile, Sch
 use Rattle.url.specs.{Path.IsSegment, Path.dot_count, Path.join_segments, Input.rsplit_once}
 use Rattle.url.proofs.PathLemmas.{empty_segment, no_segments}
 use Rattle.url.proofs.InputLemmas.{Passes, All-take-prefix_len}
-use Rattle.texting_robots.specs.declared.normalized.TheConstants.{NAME, NUMBER, OPEN, SEGMENT, UPPER}
+use Rattle.texting_robots.specs.declared.byte_set.TheConstants.{UPPER}
+use Rattle.texting_robots.specs.declared.normalized.TheConstants.{NAME, NUMBER, OPEN, SEGMENT}
 use Rattle.texting_robots.specs.Internal.Normalized.{IsAuthority, begins_dotted, begins_plainly, kept_prefix}
 use Rattle.texting_robots.specs.Internal.Normalized.{IsName, IsOther, IsPath, IsPort, Leaves, after, is_kept}
 
@@ -49,6 +51,14 @@ unfolding percent_encode
 encode_is_escaped [] = refl
 encode_is_escaped (b ∷ bytes) = grind (arith, same_byte, encode_is_escaped bytes)
 
+pub escaped_ascii : (bytes : List ℕ) → IsAscii (escaped bytes)
+escaped_ascii bytes = subst IsAscii (encode_is_escaped bytes) (IsAscii-percent_encode ESCAPED bytes)
+
+pub escaped_parts : (k : ℕ) (bytes : List ℕ)
+    → escaped (take k bytes) ++ escaped (drop k bytes) ≡ escaped bytes
+escaped_parts k bytes =
+    sym (flat_map-append escape_byte (take k bytes) (drop k bytes)) ∙ ap escaped (take-append-drop k bytes)
+
 pub escaped_plain : (bytes : List ℕ) → list_any is_escaped bytes ≡ false
     → escaped bytes ≡ bytes
 escaped_plain [] plain = refl
@@ -72,7 +82,7 @@ kept_but set other b = not (should_percent_encode set b) && not (other b)
 
 module _ (part : List ℕ) (set : AsciiSet) (other : ℕ → Bool)
     (same : agree_below (is_kept part) (kept_but set other) 256 ≡ true) where
-  same_at : (b : ℕ) → is_kept part b ≡ kept_but set other b
+  pub same_at : (b : ℕ) → is_kept part b ≡ kept_but set other b
   unfolding is_kept should_percent_encode
   same_at b = elim (cases_lt b 256) [
     | inl low ↦ agree_below_at (is_kept part) (kept_but set other) 256 b same low
@@ -85,22 +95,6 @@ module _ (part : List ℕ) (set : AsciiSet) (other : ℕ → Bool)
       let each = λ (k d : ℕ) (inside : k < length xs).
       and_parts _ _ (sym (same_at (get_or xs k d)) ∙ passes k d inside) in
       (λ k d inside. not-true _ (each k d inside).0, λ k d inside. not-true _ (each k d inside).1)
-
--- the leading bytes that are kept, from the first `n`: if all these are kept, the following ones count too
-module _ (part : List ℕ) (n len : ℕ) (text : List ℕ) (inside : n ≤ length text)
-    (front : len ≡ prefix_len (is_kept part) (take n text)) where
-  by_front : prefix_len (is_kept part) text
-      ≡ cond (len == n) (n + prefix_len (is_kept part) (drop n text)) len
-  by_front =
-      let whole = prefix_len-append (is_kept part) (take n text) (drop n text) in
-      rw (take-append-drop, length-take-le n text inside, ← front) at whole
-
-  pub after_few : len < n → drop len text ≡ after part text
-  after_few less = grind (arith, by_front, cond-false, ne_eqb)
-
-  pub after_all : n ≤ len → after part (drop n text) ≡ after part text
-  after_all all =
-      grind (arith, by_front, cond-true, drop-drop, eq-eqb, length-take-le, prefix_len-le-length)
 
 -- a byte that is neither a dot, an escape nor a backslash, at the front of some segments
 abbrev is_odd : ℕ → Bool

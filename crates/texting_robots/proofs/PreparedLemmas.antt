@@ -32,7 +32,7 @@ use Rattle.url.specs.Parts.{IsPortOf, IsValid, Parts, serialize, text_before, ki
 use Rattle.url.specs.declared.slicing.Position.TheVariants.{AfterPath, AfterPort, BeforePath, BeforeUsername}
 use Rattle.url.proofs.TextLemmas.{All_body, authority_bytes, is_authority_byte}
 use Rattle.texting_robots.specs.Prepared.{with_delimiter, prepared, target_of}
-use Rattle.texting_robots.specs.declared.normalized.TheConstants.{FRAGMENT as TAIL, QUERY}
+use Rattle.texting_robots.specs.declared.{escape.TheConstants.UNESCAPED, normalized.TheConstants.QUERY}
 use Rattle.texting_robots.specs.Internal.Normalized.{IsAuthority, IsDelimited, IsName, IsPath, IsSite}
 use Rattle.texting_robots.specs.Internal.Normalized.{IsTarget, Leaves, after_delimited, kept_prefix, is_kept}
 use Rattle.texting_robots.specs.Escape.{escaped}
@@ -280,12 +280,12 @@ path_some target slash is = by is.path is.assembled
     by (b ∷ path) same = omega arith
 
 pub target_read : (target tail rest end : List ℕ) → Leaves IsPath target tail
-    → rest ≡ after_delimited 63 QUERY.now tail → end ≡ after_delimited 35 TAIL.now rest → end ≡ []
+    → rest ≡ after_delimited 63 QUERY.now tail → end ≡ after_delimited 35 UNESCAPED.now rest → end ≡ []
     → IsTarget target
 unfolding is_kept should_percent_encode
 target_read target tail rest end (path, assembled, is_path) following last none =
     let (query, tail_is, is_query) = labeled_read 63 QUERY.now SPECIAL_QUERY refl tail in
-    let (fragment, rest_is, is_fragment) = labeled_read 35 TAIL.now FRAGMENT refl rest in
+    let (fragment, rest_is, is_fragment) = labeled_read 35 UNESCAPED.now FRAGMENT refl rest in
     grind (arith, append-nil)
 
 -- ---- Strings that can't be parsed as URLs, for example because they begin with a slash

@@ -5,7 +5,10 @@ use Rattle.std.proofs.Common.{◌∷◌, ◌++◌, length, Option, Some, None, I
 use Rattle.std.proofs.Common.{arith, slice_index, take, Less, Equal, Greater, ◌≤◌, AllPairs, Result}
 use Rattle.std.specs.Cmp.{IsTotalOrder, nat_cmp_is, Lexicographic.slice_cmp, IsStrictWeakOrder}
 use Rattle.std.specs.{List.Contains, declared.cmp.Ordering.Ordering, Result.is_ok, List.Sorted.IsSortedBy}
-use Rattle.std.proofs.lemmas.Bool.{cases_Bool, cases_order, cases_lt}
+use Rattle.std.proofs.Common.{get_or, get_or-set_other, get_or-set_same, length-set, set, set-set}
+use Rattle.std.proofs.lemmas.Bool.{cases_Bool, cases_eq, cases_order, cases_lt}
+use Rattle.std.proofs.lemmas.List.Edits.{swap_is}
+use Rattle.std.proofs.lemmas.List.Sorted.{IsPermutation-refl, IsPermutation-swap}
 use Rattle.std.proofs.lemmas.List.Sorted.{Contains-permutation, IsPermutation-map, IsPermutation-middle}
 use Rattle.std.proofs.lemmas.List.Sorted.{IsPermutation-sym, ranks_by, sorted_far}
 use Rattle.texting_robots.specs.Decision.{IsBetter, IsDecidingLine, IsLongestMatch}
@@ -261,6 +264,21 @@ goes_before first second h = grind (arith, earlier, higher)
 pub pairs_sorted : (entries : List RuleEntry) → IsSortedBy is_before entries → AllPairs GoesBefore entries
 pairs_sorted entries sorted i j d before within =
     goes_before _ _ (sorted_far is_before weak entries sorted i j d (omega arith) within)
+
+-- with `held` in the hole, the elements stay the same if the one at `j` moves into the hole and leaves one
+pub hole_moves : {X : Type 0} (xs : List X) (hole j : ℕ) (held d : X) → hole < length xs → j < length xs
+    → IsPermutation (set xs hole held) (set (set xs hole (get_or xs j d)) j held)
+hole_moves xs hole j held d inside from =
+    let long = length-set xs hole held in
+    let there = get_or-set_same xs hole held d inside in
+    let whole = set-set xs hole held (get_or xs j d) in
+    let swapped = swap_is (set xs hole held) hole j d (omega (arith, long)) (omega (arith, long)) in
+    elim (cases_eq j hole) [
+      | inl same ↦ rw (same, set-set) (IsPermutation-refl (set xs hole held))
+      | inr apart ↦
+          IsPermutation-swap _ _ hole j (omega (arith, long)) (omega (arith, long))
+          (rw (get_or-set_other xs hole j held d apart, there, whole) at swapped)
+    ]
 
 pub at_most : {X Y : Type 0} (made : Result X Y) (n m : ℕ) → m ≤ n → (if is_ok made then n else m) ≤ n
 at_most made n m within = grind arith

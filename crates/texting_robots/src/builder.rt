@@ -8,7 +8,8 @@ ghost use Rattle.texting_robots.specs.{Error.IsMemoryErrorOr, Escape.is_escaped,
 ghost use Rattle.texting_robots.specs.{Executable.file_lines, Line.delay_in};
 ghost use Rattle.texting_robots.specs.Executable.{placed_rules, rule_in, rule_with, sitemap_in, sitemaps_in};
 ghost use Rattle.texting_robots.specs.Internal.Group.{if_captured, placed, step, text_from};
-ghost use Rattle.texting_robots.specs.{Internal.Robot.IsComputedRobot, Robot.IsFileRejected};
+ghost use Rattle.texting_robots.specs.Internal.{Plain.IsPlain, Robot.IsComputedRobot};
+ghost use Rattle.texting_robots.specs.{Robot.IsFileRejected};
 
 use crate::error::Error;
 use crate::escape::holds_escaped;
@@ -70,9 +71,28 @@ pub(crate) fn as_text<'a>(value: &'a [u8]) -> Option<&'a str>
     }
 }
 
-/// Adds the rule of a value, or nothing if that isn't UTF-8.
-fn push_rule(rules: &mut RuleTable, value: &[u8], is_allow: bool, line: usize) -> Result<(), Error>
-    requires { AreEntries rules.old }
+/// [`decoded`] of a value. With `first`, see [`LazyLine::read_seen`], no byte of it has to be looked at.
+fn decoded_seen<'a>(value: &'a [u8], first: Option<usize>) -> Option<(&'a str, bool)>
+    requires { IfSome first (IsPlain value.now) }
+    ensures { MatchOption result (is_utf8 value.now ≡ false) (λ decoded. (is_utf8 value.now ≡ true)
+        × (decoded.0.now ≡ value.now) × (decoded.1 ≡ list_any is_escaped value.now)) }
+{
+    match first {
+        Some(_) => Some((ascii_str(value), false)),
+        None => decoded(value),
+    }
+}
+
+/// Adds the rule of a value, or nothing if that isn't UTF-8. `first`: see [`LazyLine::read_seen`].
+fn push_rule(
+    rules: &mut RuleTable,
+    value: &[u8],
+    first: Option<usize>,
+    is_allow: bool,
+    line: usize,
+) -> Result<(), Error>
+    requires known { AreEntries rules.old }
+    requires plain { IfSome first (IsPlain value.now) }
     ensures known { OnOk result (AreEntries rules.new) }
     ensures added { OnOk result (rules_in rules.new
         ≡ rules_in rules.old ++ option_to_list (placed line (rule_with value.now is_allow))) }
@@ -81,8 +101,8 @@ fn push_rule(rules: &mut RuleTable, value: &[u8], is_allow: bool, line: usize) -
         (IsSomeAnd (rule_with value.now is_allow) (λ rule. IsOverlong rule.0))) }
     ensures without_memory { rule_with value.now is_allow ≡ None → IsOk result }
 {
-    match decoded(value) {
-        Some((text, holds_escaped)) => rules.push(text, holds_escaped, is_allow, line),
+    match decoded_seen(value, first) {
+        Some((text, holds_escaped)) => rules.push(text, holds_escaped, first, is_allow, line),
         None => Ok(()),
     }
 }
@@ -91,12 +111,14 @@ pub(crate) fn push_text(
     alloc: Global,
     texts: &mut Vec<String>,
     value: &[u8],
+    first: Option<usize>,
 ) -> Result<(), AllocError>
+    requires { IfSome first (IsPlain value.now) }
     ensures added { OnOk result (map string_bytes texts.new.items ≡ map string_bytes texts.old.items
         ++ option_to_list (text_from value.now)) }
     ensures without_memory { text_from value.now ≡ None → IsOk result }
 {
-    let Some(text) = as_text(value) else {
+    let Some((text, _)) = decoded_seen(value, first) else {
         return Ok(());
     };
     texts.push(String::from_str(alloc, text)?)?;
@@ -104,7 +126,7 @@ pub(crate) fn push_text(
 }
 
 impl RobotBuilder {
-    pub(crate) fn new(alloc: Global, start: GroupTracker) -> Self
+    pub(crate) fn new(alloc: Global, start: GroupTracker, file_len: usize) -> Self
         ensures known { AreEntries result.rules }
         ensures tracker { result.tracker ≡ start }
         ensures delay { result.delay ≡ None }
@@ -115,7 +137,7 @@ impl RobotBuilder {
             tracker: start,
             delay: None,
             sitemaps: Vec::new(alloc),
-            rules: RuleTable::new(alloc),
+            rules: RuleTable::new(alloc, file_len),
         }
     }
 
@@ -159,13 +181,13 @@ impl RobotBuilder {
                 }
             }
         }
-        let line = line.read();
+        let (line, first) = line.read_seen();
         self.tracker.step(name, line);
         match line {
-            Line::Sitemap(value) => Ok(push_text(alloc, &mut self.sitemaps, value)?),
+            Line::Sitemap(value) => Ok(push_text(alloc, &mut self.sitemaps, value, first)?),
             _ if !captured => Ok(()),
-            Line::Allow(value) => push_rule(&mut self.rules, value, true, number),
-            Line::Disallow(value) => push_rule(&mut self.rules, value, false, number),
+            Line::Allow(value) => push_rule(&mut self.rules, value, first, true, number),
+            Line::Disallow(value) => push_rule(&mut self.rules, value, first, false, number),
             Line::CrawlDelay(delay) => {
                 self.delay = self.delay.or(delay);
                 Ok(())
@@ -183,7 +205,7 @@ pub(crate) fn read_file(alloc: Global, agent: &str, txt: &[u8]) -> Result<Parts,
         → sitemaps_in (file_lines txt.now) ≡ [] → IsOk result }
 {
     let group = group_for(agent.as_bytes(), lazy_file_lines(txt));
-    let mut reading = RobotBuilder::new(alloc, group.start);
+    let mut reading = RobotBuilder::new(alloc, group.start, txt.len());
     for (position, line) in lazy_file_lines(txt).enumerate() {
         reading.take(alloc, group.name, position + 1, &line)?;
     }

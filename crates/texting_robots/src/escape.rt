@@ -1,20 +1,22 @@
 //! Percent-encoding of patterns and match targets.
-ghost use Rattle.std.specs.Prelude.{◌≡◌, ◌+◌, ◌≤◌, ◌++◌, All, IsOk, OnErr, OnOk, IfOk, false, length};
-ghost use Rattle.std.specs.Prelude.{string_bytes, true};
-ghost use Rattle.std.specs.{Cow.cow_str_bytes, List.list_any};
-ghost use Rattle.texting_robots.specs.Escape.{escape_byte, escaped, is_escaped};
+ghost use Rattle.std.specs.Prelude.{◌≡◌, ◌+◌, ◌<◌, ◌≤◌, ◌++◌, ◌∷◌, [], All, IsOk, OnErr, OnOk, IfOk, false};
+ghost use Rattle.std.specs.Prelude.{length, string_bytes, take, true};
+ghost use Rattle.std.specs.{Cow.cow_str_bytes, Fmt.digit_glyph, List.list_any};
+ghost use Rattle.texting_robots.specs.Escape.{escaped, is_escaped};
 
+use crate::byte_set::{ByteSet, prefix_len_in};
 use percent_encoding::{
-    AsciiSet, CONTROLS, ascii_set, percent_encode, percent_encode_byte, utf8_percent_encode,
+    AsciiSet, CONTROLS, ascii_set, ascii_str, percent_encode, utf8_percent_encode,
 };
 use std::alloc::{AllocError, Global};
 use std::borrow::CowStr;
-use std::simd::prelude::*;
 
 const ESCAPED: AsciiSet = ascii_set!(CONTROLS.add(b' ').add(b'"').add(b'<').add(b'>').add(b'`'));
 
-/// More bytes than this are tested by a loop that the compiler vectorizes.
-const MANY_BYTES: usize = 128;
+/// The bytes that aren't escaped.
+pub(crate) const UNESCAPED: &ByteSet = &[
+    184, 252, 248, 252, 252, 252, 252, 252, 252, 252, 252, 252, 244, 252, 244, 124,
+];
 
 /// The escaped string. It is borrowed if no byte is escaped.
 pub(crate) fn escaped<'a>(alloc: Global, text: &'a str) -> Result<CowStr<'a, Global>, AllocError>
@@ -38,93 +40,70 @@ fn is_escaped(byte: u8) -> bool
         | (byte == b'`')
 }
 
-/// Tests all bytes without an early exit, so that the compiler can vectorize the loop.
-fn holds_escaped_among(bytes: &[u8]) -> bool
-    ensures { result ≡ list_any is_escaped bytes.now }
-{
-    let mut holds = false;
-    for byte in bytes {
-        holds |= is_escaped(*byte);
-    }
-    holds
-}
-
-/// Tests the `N` bytes at once.
-#[inline(always)]
-fn lanes_hold_escaped<const N: usize>(bytes: &[u8]) -> bool
-    requires { (length bytes.now ≡ N) × (N ≤ 64) }
-    ensures { result ≡ list_any is_escaped bytes.now }
-{
-    let bytes = Simd::<u8, N>::from_slice(bytes);
-    let escaped = bytes.simd_lt(Simd::splat(b'!'))
-        | bytes.simd_eq(Simd::splat(b'"'))
-        | bytes.simd_eq(Simd::splat(b'<'))
-        | bytes.simd_eq(Simd::splat(b'>'))
-        | bytes.simd_eq(Simd::splat(b'`'))
-        | bytes.simd_gt(Simd::splat(b'~'));
-    escaped.any()
-}
-
-/// Tests the first and the last `N` bytes, which may overlap, and are all.
-#[tactic(auto, using(crate::proofs::LabelLemmas::either_end, crate::proofs::LabelLemmas::any_of_front))]
-#[inline(always)]
-fn ends_hold_escaped<const N: usize>(bytes: &[u8]) -> bool
-    requires { (N ≤ length bytes.now) × (length bytes.now ≤ N + N) × (N ≤ 64) }
-    ensures { result ≡ list_any is_escaped bytes.now }
-{
-    lanes_hold_escaped::<N>(&bytes[..N]) || lanes_hold_escaped::<N>(&bytes[bytes.len() - N..])
-}
-
-/// Four bytes or more are tested as two parts of equal length.
-fn few_hold_escaped(bytes: &[u8]) -> bool
-    ensures { result ≡ list_any is_escaped bytes.now }
-{
-    match bytes.len() {
-        4..8 => ends_hold_escaped::<4>(bytes),
-        8..16 => ends_hold_escaped::<8>(bytes),
-        16..=32 => ends_hold_escaped::<16>(bytes),
-        _ => holds_escaped_among(bytes),
-    }
-}
-
-/// Whether some byte has to be escaped. Up to `MANY_BYTES` are tested sixteen at a time.
-#[inline(never)]
+#[tactic(auto, using(crate::proofs::PlainLemmas::some_escaped))]
 pub(crate) fn holds_escaped(bytes: &[u8]) -> bool
     ensures { result ≡ list_any is_escaped bytes.now }
 {
-    if bytes.len() > MANY_BYTES {
-        return holds_escaped_among(bytes);
-    }
-    let mut rest = bytes;
-    while rest.len() > 32 {
-        if lanes_hold_escaped::<16>(&rest[..16]) {
-            return true;
-        }
-        rest = rest.split_at(16).1;
-    }
-    few_hold_escaped(rest)
+    prefix_len_in(UNESCAPED, bytes) < bytes.len()
 }
 
-#[tactic(auto, unfolding(percent_encoding::specs::Percent::percent_encode_byte))]
-#[inline(always)]
-fn push_byte(out: &mut String, byte: u8) -> Result<(), AllocError>
-    ensures { OnOk result (string_bytes out.new ≡ string_bytes out.old ++ escape_byte byte) }
+/// The uppercase hexadecimal digit.
+fn hex_digit(value: u8) -> u8
+    requires { value < 16 }
+    ensures { result ≡ digit_glyph true value }
 {
-    if !is_escaped(byte) {
-        return out.push(char::from(byte));
+    if value < 10 {
+        b'0' + value
+    } else {
+        b'A' - 10 + value
     }
-    out.push_str(percent_encode_byte(byte))
 }
 
-/// Appends the escaped bytes one by one, as a call for each escape takes longer.
+/// Sets the byte at `len`. Returns the next index.
+#[tactic(auto, using(std::proofs::lemmas::List::take_more_set))]
+#[inline(always)]
+fn put(text: &mut [u8], len: usize, byte: u8) -> usize
+    requires { len < length text.old }
+    ensures next { result ≡ len + 1 }
+    ensures put { take result text.new ≡ take len text.old ++ byte ∷ [] }
+{
+    text[len] = byte;
+    len + 1
+}
+
+/// Appends a few escaped bytes in one go.
+#[tactic(auto, using(crate::proofs::NormalizedLemmas::escaped_ascii))]
+fn push_few_escapes(out: &mut String, bytes: &[u8]) -> Result<(), AllocError>
+    requires { length bytes.now ≤ 16 }
+    ensures { OnOk result (string_bytes out.new ≡ string_bytes out.old ++ escaped bytes.now) }
+{
+    let mut text = [0; 48];
+    let mut len = 0;
+    for byte in bytes {
+        if is_escaped(*byte) {
+            len = put(&mut text, len, b'%');
+            len = put(&mut text, len, hex_digit(*byte / 16));
+            len = put(&mut text, len, hex_digit(*byte % 16));
+        } else {
+            len = put(&mut text, len, *byte);
+        }
+    }
+    out.push_str(ascii_str(&text[..len]))
+}
+
+/// Appends the escaped bytes sixteen at a time, as a call for each escape takes longer.
+#[tactic(auto, using(crate::proofs::NormalizedLemmas::escaped_parts))]
 #[inline(never)]
 fn push_escapes(out: &mut String, bytes: &[u8]) -> Result<(), AllocError>
     ensures { OnOk result (string_bytes out.new ≡ string_bytes out.old ++ escaped bytes.now) }
 {
-    for byte in bytes {
-        push_byte(out, *byte)?;
+    let mut rest = bytes;
+    while rest.len() > 16 {
+        let (few, more) = rest.split_at(16);
+        push_few_escapes(out, few)?;
+        rest = more;
     }
-    Ok(())
+    push_few_escapes(out, rest)
 }
 
 /// Appends the escaped string. Most strings hold no escaped byte and are copied in one go.

@@ -31,6 +31,7 @@
 
 pub mod address;
 mod builder;
+mod byte_set;
 mod decision;
 mod error;
 mod escape;
@@ -44,6 +45,7 @@ mod matching;
 pub mod minregex;
 mod normalized;
 pub mod parser;
+mod plain;
 mod prefilter;
 mod prepared;
 pub mod robot;

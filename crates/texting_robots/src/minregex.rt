@@ -60,7 +60,7 @@ impl MinRegex {
         let collapsed_text = collapse_stars(alloc, pattern)?;
         let mut segments = Vec::new(alloc);
         let mut borders = Vec::new(alloc);
-        let ends = push_segments(pattern.as_bytes(), &mut segments, &mut borders)?;
+        let ends = push_segments(pattern.as_bytes(), None, &mut segments, &mut borders)?;
         let pattern = String::from_str(alloc, pattern)?;
         Ok(MinRegex {
             pattern,

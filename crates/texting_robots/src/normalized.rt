@@ -9,87 +9,38 @@ ghost use Rattle.texting_robots.specs.Internal.Normalized.{after, after_delimite
 ghost use Rattle.texting_robots.specs.Internal.Normalized.{begins_plainly, kept_prefix, IsAuthority, IsOther};
 ghost use Rattle.texting_robots.specs.Internal.Normalized.{IsPath, IsPort, IsSite, IsTarget, Leaves, is_kept};
 
-use std::simd::prelude::*;
+use crate::byte_set::{ByteSet, prefix_len_in};
+use crate::escape::UNESCAPED;
 
-/// One bit for each upper half of an ASCII byte. The tables below are sets of bytes that `url`
-/// leaves unchanged in a `part` of a URL: a byte is in the set if the table has, at the byte's
-/// lower half, the bit of its upper half.
-const UPPER: &[u8; 16] = &[1, 2, 4, 8, 16, 32, 64, 128, 0, 0, 0, 0, 0, 0, 0, 0];
+// The tables are sets of bytes that `url` leaves unchanged in a part of a URL.
 
-const NAME: &[u8; 16] = &[
+const NAME: &ByteSet = &[
     200, 204, 204, 200, 204, 200, 204, 204, 204, 204, 196, 204, 68, 204, 196, 96,
 ];
 
-const SEGMENT: &[u8; 16] = &[
+const SEGMENT: &ByteSet = &[
     184, 252, 248, 248, 252, 252, 252, 252, 252, 252, 252, 124, 212, 124, 212, 112,
 ];
 
 /// The bytes of `SEGMENT` without `.` and `%`, but with `/`.
-const OPEN: &[u8; 16] = &[
+const OPEN: &ByteSet = &[
     184, 252, 248, 248, 252, 248, 252, 252, 252, 252, 252, 124, 212, 124, 208, 116,
 ];
 
-const QUERY: &[u8; 16] = &[
+const QUERY: &ByteSet = &[
     248, 252, 248, 248, 252, 252, 252, 248, 252, 252, 252, 252, 244, 252, 244, 124,
 ];
 
-const FRAGMENT: &[u8; 16] = &[
-    184, 252, 248, 252, 252, 252, 252, 252, 252, 252, 252, 252, 244, 252, 244, 124,
-];
-
-const NUMBER: &[u8; 16] = &[8, 8, 8, 8, 8, 8, 8, 8, 8, 8, 0, 0, 0, 0, 0, 0];
-
-/// The entries of the table at these places.
-fn looked_up(table: &[u8; 16], places: u8x16) -> u8x16
-    requires { Each1 (λ k. k < 16) places }
-    ensures { result ≡ map (slice_index table.now) places }
-{
-    u8x16::from_array(*table).swizzle_dyn_within::<16>(places)
-}
-
-/// How many of the sixteen bytes precede the first that isn't in the set `part`.
-fn prefix_len_in_sixteen(part: &[u8; 16], bytes: u8x16) -> usize
-    ensures { result ≡ prefix_len (is_kept part.now) bytes }
-{
-    let lower = looked_up(part, bytes & u8x16::splat(15));
-    let upper = looked_up(UPPER, bytes >> u8x16::splat(4));
-    let others = (lower & upper).simd_eq(u8x16::splat(0)).to_bitmask();
-    if others == 0 {
-        16
-    } else {
-        others.trailing_zeros() as usize
-    }
-}
-
-/// How many leading bytes of fewer than sixteen are in the set. Not inlined, as it has a buffer.
-#[inline(never)]
-fn front_len(part: &[u8; 16], text: &[u8]) -> usize
-    requires { length text.now < 16 }
-    ensures value { result ≡ prefix_len (is_kept part.now) text.now }
-    ensures within { result ≤ length text.now }
-{
-    let mut bytes = [0; 16];
-    bytes[..text.len()].copy_from_slice(text);
-    prefix_len_in_sixteen(part, u8x16::from_array(bytes)).min(text.len())
-}
+const NUMBER: &ByteSet = &[8, 8, 8, 8, 8, 8, 8, 8, 8, 8, 0, 0, 0, 0, 0, 0];
 
 /// The text without its leading bytes in the set.
-#[tactic(auto, using(crate::proofs::NormalizedLemmas::after_few, crate::proofs::NormalizedLemmas::after_all))]
-fn after<'a>(part: &[u8; 16], text: &'a [u8]) -> &'a [u8]
+fn after<'a>(part: &ByteSet, text: &'a [u8]) -> &'a [u8]
     ensures { result.now ≡ after part.now text.now }
 {
-    let mut rest = text;
-    while let Some((sixteen, more)) = rest.split_first_chunk::<16>() {
-        let len = prefix_len_in_sixteen(part, u8x16::from_array(*sixteen));
-        if len != 16 {
-            return &rest[len..];
-        }
-        rest = more;
-    }
-    &rest[front_len(part, rest)..]
+    &text[prefix_len_in(part, text)..]
 }
 
-fn split<'a>(part: &[u8; 16], text: &'a [u8]) -> (&'a [u8], &'a [u8])
+fn split<'a>(part: &ByteSet, text: &'a [u8]) -> (&'a [u8], &'a [u8])
     ensures front { result.0.now ≡ kept_prefix part.now text.now }
     ensures rest { result.1.now ≡ after part.now text.now }
 {
@@ -253,7 +204,7 @@ fn after_path(text: &[u8]) -> Option<&[u8]>
 }
 
 /// What follows the delimiter and bytes of the set; all, if the text has no such delimiter.
-fn after_delimited<'a>(delimiter: u8, part: &[u8; 16], text: &'a [u8]) -> &'a [u8]
+fn after_delimited<'a>(delimiter: u8, part: &ByteSet, text: &'a [u8]) -> &'a [u8]
     ensures { result.now ≡ after_delimited delimiter part.now text.now }
 {
     match text {
@@ -270,7 +221,7 @@ fn is_target(text: &[u8]) -> bool
         return false;
     };
     let fragment = after_delimited(b'?', QUERY, query);
-    after_delimited(b'#', FRAGMENT, fragment).is_empty()
+    after_delimited(b'#', UNESCAPED, fragment).is_empty()
 }
 
 /// The match target of a URL that `url` would leave unchanged, or of which only the slash of the path is

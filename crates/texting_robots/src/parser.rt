@@ -1,10 +1,11 @@
 //! The lines of a robots.txt file. The content of a line is its bytes without the line terminator.
 ghost use Rattle.std.specs.Prelude.{◌≡◌, ◌⊎◌, ◌<◌, ◌≤◌, ◌++◌, ◌∷◌, IfErr, IfOk, None, Some, false, length, ℕ};
-ghost use Rattle.std.specs.Prelude.{MatchOption, map, option_map, true, List};
+ghost use Rattle.std.specs.Prelude.{IfSome, MatchOption, map, option_map, true, List};
 ghost use Rattle.std.specs.Iterator.{YieldsFirst, YieldsFirstBy, item_count};
 ghost use Rattle.std.specs.{List.AllZip, Str.str_to_ascii_lowercase};
 ghost use Rattle.texting_robots.specs.Executable.{file_bodies, file_lines, parsed};
 ghost use Rattle.texting_robots.specs.Internal.{Cut.bodies_of, Cut.read_as, Line.line_of, Line.line_with};
+ghost use Rattle.texting_robots.specs.Internal.{Plain.HoldsPlain, Statement.kind_by, Statement.skip_blanks};
 ghost use Rattle.texting_robots.specs.{Group.is_agent, Group.is_agent_named, Group.is_member, Labels.is_named};
 ghost use Rattle.texting_robots.specs.Line.{AreFileBodiesOf, AreFileLinesOf, AreLinesOf, HoldRangesOf};
 ghost use Rattle.texting_robots.specs.Line.{IsLineOf, by_value, delay_in, is_raw, is_sitemap, nul_as_lf, value_in};
@@ -21,7 +22,7 @@ pub(crate) use cut::empty_lines;
 use cut::{after_end, body_len};
 pub use delay::read_delay;
 pub use statement::{Kind, field_names};
-use statement::{kind_by, skip_blanks, tail_as, value_is, value_of};
+use statement::{kind_by, seen_value, skip_blanks, tail_as, value_is};
 use std::alloc::{AllocError, Global};
 use std::marker::Model;
 
@@ -140,18 +141,45 @@ impl<'a> LazyLine<'a> {
         }
     }
 
-    #[tactic(auto, using(crate::proofs::LineLemmas::line_read, crate::proofs::LineLemmas::line_without_tail, crate::proofs::LineLemmas::line_without_kind))]
     #[inline(always)]
     pub(crate) fn read(&self) -> Line<'a>
         ensures { by_value result ≡ self.now }
     {
-        let Some(kind) = self.kind else {
-            return Line::Raw(self.body);
-        };
-        match tail_as(kind, self.text) {
-            Some(tail) => line_with(kind, value_of(tail), self.body),
-            None => Line::Raw(self.body),
+        self.read_seen().0
+    }
+
+    /// The line, and the index of the first wildcard of its value, if
+    /// [`first_in_plain`](crate::plain::first_in_plain) tells it.
+    #[tactic(auto, using(crate::proofs::LineLemmas::line_without_kind))]
+    #[inline(always)]
+    pub(crate) fn read_seen(&self) -> (Line<'a>, Option<usize>)
+        ensures line { by_value result.0 ≡ self.now }
+        ensures plain { IfSome result.1 (HoldsPlain (by_value result.0)) }
+    {
+        match self.kind {
+            // the usual kinds are constants, each with code of its own
+            Some(Kind::Disallow) => read_kind(Kind::Disallow, self.text, self.body),
+            Some(Kind::Allow) => read_kind(Kind::Allow, self.text, self.body),
+            Some(kind) => read_kind(kind, self.text, self.body),
+            None => (Line::Raw(self.body), None),
         }
+    }
+}
+
+/// [`LazyLine::read_seen`] of a line whose first letter is that of `kind`.
+#[tactic(auto, using(crate::proofs::LineLemmas::line_read, crate::proofs::LineLemmas::line_without_tail, crate::proofs::PlainLemmas::plain_line))]
+#[inline(always)]
+fn read_kind<'a>(kind: Kind, text: &'a [u8], body: &'a [u8]) -> (Line<'a>, Option<usize>)
+    requires { (text.now ≡ skip_blanks body.now) × (kind_by text.now ≡ Some kind) }
+    ensures line { by_value result.0 ≡ line_of body.now }
+    ensures plain { IfSome result.1 (HoldsPlain (by_value result.0)) }
+{
+    match tail_as(kind, text) {
+        Some(tail) => {
+            let (value, first) = seen_value(tail);
+            (line_with(kind, value, body), first)
+        }
+        None => (Line::Raw(body), None),
     }
 }
 

@@ -1,5 +1,6 @@
 //! The segments of a pattern, which are the bytes between its stars, with their Knuth-Morris-Pratt failure tables.
 ghost use Rattle.std.specs.Prelude.{◌≡◌, ℕ, ◌+◌, ◌-◌, ◌≤◌, ◌↔◌, ◌++◌, ◌==◌, IsTrue, IfOk, length, take};
+ghost use Rattle.std.specs.Option.{IfSome};
 ghost use Rattle.std.specs.List.{list_all, position_or_len, prefix_len};
 ghost use Rattle.texting_robots.specs.Internal.Segments.{IsTable};
 ghost use Rattle.texting_robots.specs.Internal.Segments.{AddsSegments, AreSegments, Closes, IsCutAtWildcard, IsSpan, is_wildcard, part_of};
@@ -126,7 +127,7 @@ impl<'a> Pattern<'a> {
     }
 }
 
-fn is_wildcard(byte: u8) -> bool
+pub(crate) fn is_wildcard(byte: u8) -> bool
     ensures { result ≡ is_wildcard byte }
 {
     byte == STAR || byte == DOLLAR
@@ -187,11 +188,24 @@ fn first_wildcard(pattern: &[u8]) -> usize
     pattern.len() - rest.len() + wildcard_in_few(rest)
 }
 
+/// The index of the first wildcard, which may be known.
+#[inline(always)]
+fn wildcard_at(pattern: &[u8], known: Option<usize>) -> usize
+    requires { IfSome known (λ first. first ≡ position_or_len is_wildcard pattern.now) }
+    ensures { result ≡ position_or_len is_wildcard pattern.now }
+{
+    match known {
+        Some(first) => first,
+        None => first_wildcard(pattern),
+    }
+}
+
 #[tactic(auto, using(crate::proofs::SegmentLemmas::cut_at_first))]
-fn cut_at_wildcard(pattern: &[u8]) -> (&[u8], &[u8])
+fn cut_at_wildcard(pattern: &[u8], known: Option<usize>) -> (&[u8], &[u8])
+    requires { IfSome known (λ first. first ≡ position_or_len is_wildcard pattern.now) }
     ensures { IsCutAtWildcard pattern.now result.0.now result.1.now }
 {
-    pattern.split_at(first_wildcard(pattern))
+    pattern.split_at(wildcard_at(pattern, known))
 }
 
 /// How many leading stars there are, counted one by one.
@@ -286,20 +300,23 @@ fn push_borders(borders: &mut Vec<u32>, segment: &[u8]) -> Result<(), AllocError
     Ok(())
 }
 
-/// Cuts a pattern, and appends the segments that are searched for and their failure tables.
+/// Cuts a pattern, and appends the segments that are searched for and their failure tables. The index of the
+/// first wildcard may be known.
 pub(crate) fn push_segments(
     pattern: &[u8],
+    first: Option<usize>,
     segments: &mut Vec<Segment>,
     borders: &mut Vec<u32>,
 ) -> Result<Ends, AllocError>
+    requires { IfSome first (λ first. first ≡ position_or_len is_wildcard pattern.now) }
     ensures { IfOk result (λ ends. AddsSegments pattern.now ends segments.old.items segments.new.items
         borders.old.items borders.new.items) }
 {
-    let (segment, mut left) = cut_at_wildcard(pattern);
+    let (segment, mut left) = cut_at_wildcard(pattern, first);
     let first_len = narrow(segment.len())?;
     while let Some(following) = left.strip_prefix(b"*") {
         let (_, following) = following.split_at(stars_len(following));
-        let (segment, rest) = cut_at_wildcard(following);
+        let (segment, rest) = cut_at_wildcard(following, None);
         let span = Span::between(pattern.len() - following.len(), pattern.len() - rest.len())?;
         if closes(rest) {
             let ending = Ending::Last(span);

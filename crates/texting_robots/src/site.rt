@@ -83,7 +83,7 @@ fn push_sitemap(alloc: Global, sitemaps: &mut Vec<String>, line: Line<'_>) -> Re
     ensures without_memory { sitemap_in (by_value line.entry) ≡ None → IsOk result }
 {
     match line {
-        Line::Sitemap(value) => push_text(alloc, sitemaps, value),
+        Line::Sitemap(value) => push_text(alloc, sitemaps, value, None),
         _ => Ok(()),
     }
 }
@@ -212,11 +212,12 @@ impl Site {
         ensures rejected { IfErr result (IsRejectionOf agent.now self.now) }
         ensures without_memory { placed_rules agent.now (file_lines self.now) ≡ [] → IsOk result }
     {
-        let mut own = RuleTable::new(alloc);
+        let mut own = RuleTable::new(alloc, self.text.len());
         for rule in self.rules(agent) {
             if let Err(error) = own.push(
                 rule.value,
                 holds_escaped(rule.value.as_bytes()),
+                None,
                 rule.is_allow,
                 rule.line,
             ) {

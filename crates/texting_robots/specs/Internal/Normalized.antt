@@ -8,7 +8,8 @@ use Rattle.percent_encoding.specs.{declared.ascii_set.AsciiSet.AsciiSet, Percent
 use Rattle.url.specs.{declared.scheme.SchemeType.TheVariants.SpecialNotFile, Input.rsplit_once}
 use Rattle.url.specs.declared.sets.TheConstants.{FORBIDDEN_DOMAIN, FRAGMENT, SPECIAL_QUERY}
 use Rattle.url.specs.Path.{IsSegmentList}
-use Rattle.texting_robots.specs.{Prepared.with_delimiter, declared.normalized.TheConstants.UPPER}
+use Rattle.texting_robots.specs.{Prepared.with_delimiter}
+unfoldable pub use Rattle.texting_robots.specs.Internal.ByteSet.{is_kept}
 
 -- a host that `url` leaves unchanged; its last label begins with a letter, so that it isn't a number
 pub record IsName (host : List ℕ) : Type 0 where
@@ -55,10 +56,6 @@ pub record IsTarget (text : List ℕ) : Type 0 where
   pub is_fragment : IsDelimited (codes "#") FRAGMENT fragment
 
 -- ---- Reading
-
--- the byte is in the set `part`: the table, at the lower half of the byte, has the bit of its upper half
-unfoldable pub is_kept : List ℕ → ℕ → Bool
-is_kept part b = not (bit_and (slice_index part (bit_and b 15)) (slice_index UPPER.now (b / 16)) == 0)
 
 abbrev pub kept_prefix : List ℕ → List ℕ → List ℕ
 kept_prefix part text = take (prefix_len (is_kept part) text) text

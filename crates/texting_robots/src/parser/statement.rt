@@ -1,12 +1,12 @@
 //! Directives. A directive consists of a field name, a separator, and a tail, which is a raw value and
 //! possibly a comment.
-ghost use Rattle.std.specs.Prelude.{◌≡◌, ◌==◌, ◌+◌, ◌≤◌, ◌++◌, ◌∷◌, bytes_eq, IfSome, MatchOption, Some, None, map, true, false, drop, length};
-ghost use Rattle.std.specs.List.{list_any};
+ghost use Rattle.std.specs.Prelude.{◌≡◌, ◌+◌, ◌≤◌, ◌++◌, ◌∷◌, bytes_eq, IfSome, MatchOption, Some, None, map, true, false, drop, length};
 ghost use Rattle.std.specs.Str.{byte, str_to_ascii_lowercase};
 ghost use Rattle.texting_robots.specs.Statement.{field_names};
-ghost use Rattle.texting_robots.specs.Internal.Statement.{hash};
+ghost use Rattle.texting_robots.specs.Internal.{Plain.IsPlain};
 ghost use Rattle.texting_robots.specs.Internal.Statement.{skip_blanks, kind_by, begins, after_any, tail_of, tail_as, region_of, trimmed, value_of};
 
+use crate::plain::first_in_plain;
 use bstr::ByteSlice;
 use memchr::memchr;
 use std::simd::prelude::*;
@@ -56,12 +56,12 @@ pub(crate) fn skip_blanks<'a>(text: &'a [u8]) -> &'a [u8]
 pub(crate) fn kind_by(text: &[u8]) -> Option<Kind>
     ensures { result ≡ kind_by text.now }
 {
-    match text.first()?.to_ascii_lowercase() {
-        b'u' => Some(Kind::UserAgent),
-        b'a' => Some(Kind::Allow),
-        b'd' => Some(Kind::Disallow),
-        b's' => Some(Kind::Sitemap),
-        b'c' => Some(Kind::CrawlDelay),
+    match text.first()? {
+        b'U' | b'u' => Some(Kind::UserAgent),
+        b'A' | b'a' => Some(Kind::Allow),
+        b'D' | b'd' => Some(Kind::Disallow),
+        b'S' | b's' => Some(Kind::Sitemap),
+        b'C' | b'c' => Some(Kind::CrawlDelay),
         _ => None,
     }
 }
@@ -93,11 +93,14 @@ fn after_any<'a>(field_names: &[&str], text: &'a [u8]) -> Option<&'a [u8]>
     None
 }
 
-/// What follows a leading separator.
+/// What follows a leading separator. It usually is a colon and a space.
 #[inline(always)]
 fn tail_of<'a>(rest: &'a [u8]) -> Option<&'a [u8]>
     ensures { MatchOption result (tail_of rest.now ≡ None) (λ tail. tail_of rest.now ≡ Some tail.now) }
 {
+    if let [b':', b' ', tail @ ..] = rest {
+        return Some(skip_blanks(tail));
+    }
     let after = skip_blanks(rest);
     match after {
         [b':', tail @ ..] => Some(skip_blanks(tail)),
@@ -176,60 +179,14 @@ pub(crate) fn tail_as<'a>(kind: Kind, text: &'a [u8]) -> Option<&'a [u8]>
     }
 }
 
-/// Tests all bytes without an early exit, so that the compiler can vectorize the loop.
-fn holds_hash_among(bytes: &[u8]) -> bool
-    ensures { result ≡ list_any (λ byte. byte == hash) bytes.now }
-{
-    let mut holds = false;
-    for byte in bytes {
-        holds |= *byte == b'#';
-    }
-    holds
-}
-
-/// Tests the first and the last `N` bytes, which may overlap, and are all.
-#[tactic(auto, using(crate::proofs::LabelLemmas::either_end, crate::proofs::LabelLemmas::any_of_front))]
-#[inline(always)]
-fn ends_hold_hash<const N: usize>(text: &[u8]) -> bool
-    requires { (N ≤ length text.now) × (length text.now ≤ N + N) }
-    ensures { result ≡ list_any (λ byte. byte == hash) text.now }
-{
-    holds_hash_among(&text[..N]) || holds_hash_among(&text[text.len() - N..])
-}
-
-/// Eight to 32 bytes are tested as two parts of equal length.
-#[tactic(auto, using(crate::proofs::LabelLemmas::some_found))]
-fn holds_hash(text: &[u8]) -> bool
-    ensures { result ≡ list_any (λ byte. byte == hash) text.now }
-{
-    match text.len() {
-        0..8 => holds_hash_among(text),
-        8..16 => ends_hold_hash::<8>(text),
-        16..=32 => ends_hold_hash::<16>(text),
-        _ => memchr(b'#', text).is_some(),
-    }
-}
-
+/// The tail without its comment.
 #[tactic(auto, using(crate::proofs::LabelLemmas::take_if_first, crate::proofs::LabelLemmas::all_if_nowhere))]
-#[inline(never)]
-fn before_hash<'a>(tail: &'a [u8]) -> &'a [u8]
+fn region_of<'a>(tail: &'a [u8]) -> &'a [u8]
     ensures { result.now ≡ region_of tail.now }
 {
     match memchr(b'#', tail) {
         Some(at) => &tail[..at],
         None => tail,
-    }
-}
-
-/// The tail without its comment. Most have none, so that is tested first.
-#[tactic(auto, using(crate::proofs::LabelLemmas::all_if_none))]
-fn region_of<'a>(tail: &'a [u8]) -> &'a [u8]
-    ensures { result.now ≡ region_of tail.now }
-{
-    if holds_hash(tail) {
-        before_hash(tail)
-    } else {
-        tail
     }
 }
 
@@ -259,6 +216,19 @@ pub(crate) fn value_of<'a>(tail: &'a [u8]) -> &'a [u8]
     ensures { result.now ≡ value_of tail.now }
 {
     trimmed(region_of(tail))
+}
+
+/// The value in a tail, and the index of its first wildcard if [`first_in_plain`] finds it.
+#[tactic(auto, using(crate::proofs::PlainLemmas::plain_value))]
+#[inline(always)]
+pub(crate) fn seen_value<'a>(tail: &'a [u8]) -> (&'a [u8], Option<usize>)
+    ensures value { result.0.now ≡ value_of tail.now }
+    ensures plain { IfSome result.1 (IsPlain result.0.now) }
+{
+    match first_in_plain(tail) {
+        Some(first) => (tail, Some(first)),
+        None => (value_of(tail), None),
+    }
 }
 
 /// Whether the value in a tail is the name, ASCII letters in any case. Most values begin with

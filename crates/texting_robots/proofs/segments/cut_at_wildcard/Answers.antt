@@ -6,7 +6,7 @@ pub split_at-requires : goal.split_at-requires
 split_at-requires c =
     omega (
       arith,
-      c.first_wildcard.ensures,
+      c.wildcard_at.ensures,
       prefix_len-le-length
           (λ b. not (is_wildcard b)) c.args.pattern.now,
     )

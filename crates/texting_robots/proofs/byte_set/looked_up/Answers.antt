@@ -1,7 +1,7 @@
 use Rattle.std.proofs.Common.{◌≡◌, ◌∙◌, ◌+◌, ◌*◌, ◌/◌, ◌<◌, arith, get_or, length, refl, slice_index, sym, w8}
 use Rattle.std.proofs.lemmas.List.{ext_get_or, get_or-map, length-map}
 use Rattle.std.proofs.lemmas.Simd.{Each1-get_or, SwzOk-from_below, get_or-swz_l_below, length-swz_l}
-use Rattle.texting_robots.proofs.normalized.looked_up.Goals as goal
+use Rattle.texting_robots.proofs.byte_set.looked_up.Goals as goal
 
 pub swizzle : goal.swizzle
 swizzle c = SwzOk-from_below w8 16 1 16 0 c.args.places refl (omega (arith, c.fits-places.0)) c.requires

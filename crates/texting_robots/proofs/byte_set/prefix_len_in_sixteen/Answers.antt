@@ -6,15 +6,15 @@ use Rattle.std.proofs.lemmas.Simd.{Each1-all, Each1-weaker, Each1-zip2, Each2-sp
 use Rattle.std.proofs.lemmas.Simd.{bitmask_splat, first_set_mask_l, map-map, zip2_of_maps, zip2_splat}
 use lib.Count.{count_trailing_zeros}
 use lib.Lanes.{mask_l, top, zip2}
-use Rattle.texting_robots.specs.{Internal.Normalized.is_kept, declared.normalized.TheConstants.UPPER}
-use Rattle.texting_robots.proofs.normalized.prefix_len_in_sixteen.Goals as goal
+use Rattle.texting_robots.specs.{Internal.ByteSet.is_kept, declared.byte_set.TheConstants.UPPER}
+use Rattle.texting_robots.proofs.byte_set.prefix_len_in_sixteen.Goals as goal
 
 -- the number of leading bytes, among sixteen, that are kept, from a mask with a bit for each other byte
-module _ (part bytes lower upper : List ℕ) (long : length bytes ≡ 16)
-    (lower_is : lower ≡ map (slice_index part) (zip2 bit_and bytes (replicate 16 15)))
+module _ (set bytes lower upper : List ℕ) (long : length bytes ≡ 16)
+    (lower_is : lower ≡ map (slice_index set) (zip2 bit_and bytes (replicate 16 15)))
     (upper_is : upper ≡ map (slice_index UPPER.now) (zip2 (λ a b. a / 2 ^ b) bytes (replicate 16 4))) where
   abbrev other : ℕ → Bool
-  other b = bit_and (slice_index part (bit_and b 15)) (slice_index UPPER.now (b / 16)) == 0
+  other b = bit_and (slice_index set (bit_and b 15)) (slice_index UPPER.now (b / 16)) == 0
 
   abbrev bits : ℕ
   bits = mask_l (map (top 7) (zip2 (λ a b. cond (a == b) 255 0) (zip2 bit_and lower upper) (replicate 16 0)))
@@ -29,7 +29,7 @@ module _ (part bytes lower upper : List ℕ) (long : length bytes ≡ 16)
       (ap length both ∙ length-map bytes _ ∙ long) (omega arith)
       ∙ ap (λ xs. mask_l (map (λ x. x == 0) xs)) both ∙ ap mask_l (map-map _ _ bytes)
 
-  counted : cond (bits == 0) 16 (count_trailing_zeros 64 bits) ≡ prefix_len (is_kept part) bytes
+  counted : cond (bits == 0) 16 (count_trailing_zeros 64 bits) ≡ prefix_len (is_kept set) bytes
   unfolding is_kept
   counted = grind (arith, bits_are, first_set_mask_l)
 
