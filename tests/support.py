@@ -15,7 +15,8 @@ CRATES = ROOT / "crates"
 CC = os.environ.get("CC", "cc")
 SIZES = sorted({max(2**power + more, 1) for power in range(17) for more in (-1, 0, 1)})
 DOCUMENTS = {path.relative_to(ROOT).as_posix(): path.read_text() for path in [*sorted(ROOT.glob("*.md")), *sorted(ROOT.glob("docs/*.md"))]}
-PAGES = DOCUMENTS | {f"bindings/{it}/README.md": (ROOT / f"bindings/{it}/README.md").read_text() for it in ("c", "python", "rust")}
+READMES = [f"bindings/{it}/README.md" for it in ("c", "node/audit", "node/library", "node/robots-parser", "pip", "python", "rust", "rust/compat")]
+PAGES = DOCUMENTS | {it: (ROOT / it).read_text() for it in READMES}
 
 
 def toolchain():

@@ -41,6 +41,16 @@ def test_called_from_c(objects, tmp_path, sanitizers):
     assert re.search(r"^[1-9]\d* passed, 0 failed$", result.out.splitlines()[-1])
 
 
+@pytest.mark.parametrize("way", ["-static", "-pie"])
+def test_called_from_c_over_musl(objects, tmp_path, way):
+    """Another C library, as in small containers. The archive needs nothing of the GNU one."""
+    needs("musl-gcc", way, "-xc")
+    words = ["-std=c11", "-O2", *STRICT, way, "tests/host.c", *objects, "-Wl,--wrap=malloc,--wrap=realloc,--wrap=free", "-o", tmp_path / "host"]
+    ended = subprocess.run(["musl-gcc", *words], cwd=ROOT, capture_output=True, text=True)
+    assert (ended.returncode, ended.stderr) == (0, "")
+    assert re.search(r"^[1-9]\d* passed, 0 failed$", run(tmp_path / "host").out.splitlines()[-1])
+
+
 # ---- packaged by bindings/c/Makefile
 
 

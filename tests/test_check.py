@@ -17,7 +17,7 @@ PARTS = {
 
 @pytest.mark.parametrize("rt, tests, last", PARTS.values(), ids=PARTS)
 def test_check_adds_up_its_parts(tmp_path, rt, tests, last):
-    for name, (line, status) in {"rt": rt, "python3": tests, **dict.fromkeys(["cargo", "chromium", "wasm-opt"], ("", 0))}.items():
+    for name, (line, status) in {"rt": rt, "python3": tests, **dict.fromkeys(["cargo", "chromium", "musl-gcc", "node", "tsc", "wasm-opt"], ("", 0))}.items():
         asked = "[ \"$1\" != -c ] || exit 0\n" * (name == "python3")
         (tmp_path / name).write_text(f"#!/bin/sh\n{asked}echo '{line}'\nexit {status}\n")
         (tmp_path / name).chmod(0o755)

@@ -12,7 +12,11 @@ PARTS = re.compile(r"(?:<!-- needs (?P<needs>.*) -->\n+)?(?:^```(?P<language>\w*
 # For each page, by the language of a block, or by what its first line begins with if it is indented: the tests that run or compare it.
 TESTS = {
     "CHANGELOG.md": {"rattle-kit": "test_place_names_the_toolchain"},
-    "CONTRIBUTING.md": {"```toml": "test_contributing_shows_a_golden_case", "```rust": "test_contributing_shows_a_row_of_the_warnings"},
+    "CONTRIBUTING.md": {
+        "PAGE": "test_size_of_the_module",
+        "```toml": "test_contributing_shows_a_golden_case",
+        "```rust": "test_contributing_shows_a_row_of_the_warnings",
+    },
     "README.md": {
         "```": "test_readme_shows_the_file_that_it_audits",
         "./build": "test_readme_shows_what_its_commands_print",
@@ -25,6 +29,17 @@ TESTS = {
         "tar": "test_the_report_of_the_readme",
     },
     "bindings/c/README.md": {"tar": "test_c_library_as_the_guide_says", "```c": "test_code_in_c_compiles"},
+    "bindings/node/audit/README.md": {
+        "npx": "test_from_the_archive_in_an_empty_folder",
+        "npm install": "test_npm_installs_the_archives",
+        "```json": "test_script_of_a_project",
+    },
+    "bindings/node/library/README.md": {"npm install": "test_npm_installs_the_archives", "```js": "test_lines_of_the_readme_in_javascript"},
+    "bindings/node/robots-parser/README.md": {
+        "```json": "test_npm_installs_the_archives",
+        "```js": "test_lines_of_the_readme_in_javascript",
+    },
+    "bindings/pip/README.md": {"pip install": "test_pip_installs_the_program"},
     "bindings/python/README.md": {
         "pip install": "test_the_readme_prints_what_it_says",
         "```python": "test_lines_of_the_readme_in_python",
@@ -32,9 +47,11 @@ TESTS = {
         "DOWNLOADER_MIDDLEWARES": "test_middleware",
     },
     "bindings/rust/README.md": {"```sh": "test_lines_of_the_readme_in_rust", "```toml": "test_lines_of_the_readme_in_rust", "```rust": "test_cargo_test"},
+    "bindings/rust/compat/README.md": {"```toml": "test_callers_of_the_former_crate"},
     "docs/ARCHITECTURE.md": {"```": "test_pictures_name_crates_and_modules"},
     "docs/BENCHMARKS.md": {},
     "docs/CI.md": {
+        "npx": "test_from_the_archive_in_an_empty_folder",
         "robots_audit": "test_commands_of_the_page_guard_a_file",
         "```make": "test_good_file_passes",
         "```sh": "test_good_file_passes",
@@ -52,7 +69,7 @@ TESTS = {
     },
     "docs/MOVING.md": {
         "```python": "test_code_before_and_after_finds_the_same",
-        "```js": "test_moving_shows_how_node_calls_robots_verdict",
+        "```js": "test_code_before_and_after_finds_the_same_in_javascript",
         "```toml": "test_the_lines_of_the_readme_in_another_crate",
         "```rust": "test_the_lines_of_the_readme_in_another_crate",
     },

@@ -260,16 +260,6 @@ def test_readme_shows_what_its_commands_print(clone, commands, printed):
     assert printed is None or "".join(it.stdout for it in ended) == printed
 
 
-def test_moving_shows_how_node_calls_robots_verdict(tmp_path):
-    if not shutil.which("node"):
-        pytest.skip("node is missing")
-    block = code(DOCUMENTS["docs/MOVING.md"], "js")[1]
-    given = 'const url = "/search/tea", body = Buffer.from("User-agent: *\\nDisallow: /search\\n");\n'
-    (tmp_path / "after.js").write_text(f"{given}{block}console.log(allowed);\n")
-    environment = os.environ | {"PATH": f"{program('robots_verdict').parent}:{os.environ['PATH']}"}
-    assert run(Path(shutil.which("node")), ["after.js"], cwd=tmp_path, env=environment).out == "false\n"
-
-
 COMMANDS = [line for line in shown(PROGRAMS).splitlines() if re.match("(robots_audit|curl) ", line)]
 COMMANDS += [re.match(r"`(.*?)`", row[1])[1] for row in tables(PROGRAMS) if row[1].startswith("`robots_audit ")]
 

@@ -20,12 +20,14 @@ from pathlib import Path
 
 import pytest
 from library import is_built, kit
-from support import CC, CRATES, DOCUMENTS, ROOT, Result, compiled, program, run, shown
+from support import CC, CRATES, DOCUMENTS, PAGES, ROOT, Result, compiled, program, run, shown
 from test_c_library import CMAKE
 from test_documents import code, section
 
 VERSION = (ROOT / "VERSION").read_text().strip()
+HAS_CRATES = all(any(Path("/usr/share/cargo/registry").glob(f"{it}-[0-9]*")) for it in ("anyhow", "url"))
 README = DOCUMENTS["README.md"]
+PAGES_OF_PACKAGES = {name: page for name, page in PAGES.items() if name.startswith("bindings/")}
 PACKAGES = {name: (ROOT / f"bindings/{name}/README.md").read_text() for name in ("python", "rust")}
 MISSING = [it for it in ("cargo", "objdump", "git", "make", "tar", "gzip", CC) if not shutil.which(it)]
 MISSING += [it for it in ("cffi", "pip", "setuptools", "wheel") if importlib.util.find_spec(it) is None]
@@ -89,10 +91,12 @@ def test_two_runs_give_the_same_bytes(releases):
         "RELEASE.txt",
         "SHA256SUMS",
         "robots_audit-V-linux-x86_64.tar.gz",
+        "robots_audit-V-py3-none-manylinux_2_34_x86_64.whl",
         "robots_c-V-linux-x86_64.tar.gz",
         "texting_robots-V-cp39-abi3-manylinux_2_17_x86_64.whl",
         "texting_robots-V.tar.gz",
         "texting_robots_verified-V.crate",
+        *["texting_robots_verified-compat-V.crate"] * HAS_CRATES,
         "texting_robots_verified-sys-V.crate",
     ]
 
@@ -152,7 +156,7 @@ contact = robots@example.org
 """
 
 
-@pytest.mark.parametrize("path", ["python/pyproject.toml", "rust/Cargo.toml", "rust/sys/Cargo.toml"])
+@pytest.mark.parametrize("path", ["python/pyproject.toml", "rust/Cargo.toml", "rust/compat/Cargo.toml", "rust/sys/Cargo.toml"])
 def test_a_package_has_the_addresses_of_the_project(path, tmp_path):
     """And nothing else is added: nothing at all while there are none."""
     made, addresses, text = tmp_path / Path(path).name, tmp_path / "ADDRESSES", (ROOT / "bindings" / path).read_text()
@@ -170,6 +174,19 @@ def test_a_package_has_the_addresses_of_the_project(path, tmp_path):
     else:
         wanted["package"] |= {"repository": "https://example.org/robots", "authors": ["robots@example.org"]}
     assert tomllib.loads(found[1]) == wanted
+
+
+@pytest.mark.parametrize("name", [it for it in PAGES_OF_PACKAGES if it != "bindings/c/README.md"])
+def test_links_of_a_package_lead_to_files_of_the_project(name, tmp_path):
+    """And nowhere while it has no address."""
+    page, addresses = tmp_path / "README.md", tmp_path / "ADDRESSES"
+    for stated, count in [("", 0), (ADDRESSES, PAGES_OF_PACKAGES[name].count("]("))]:
+        page.write_text(PAGES_OF_PACKAGES[name])
+        addresses.write_text(stated)
+        MODULE.link_page(page, str(Path(name).parent), addresses)
+        targets = re.findall(r"\]\(([^)]*)\)", page.read_text())
+        assert len(targets) == count and all(it.startswith("https://example.org/robots/blob/HEAD/") for it in targets)
+        assert all((ROOT / it.split("/HEAD/")[1].split("#")[0]).exists() for it in targets)
 
 
 @pytest.mark.parametrize("stated", ["repository: https://example.org", "contact =", "contact = ", "homepage = https://example.org"])
@@ -199,7 +216,7 @@ def test_what_is_older_than_its_sources_is_made_again(tmp_path, monkeypatch):
 
 def test_shared_objects_fit_manylinux(file, tmp_path, monkeypatch):
     ran(["tar", "-xzf", file("robots_c-*")], tmp_path, os.environ)
-    ran([sys.executable, "-m", "zipfile", "-e", file("*.whl"), "."], tmp_path, os.environ)
+    ran([sys.executable, "-m", "zipfile", "-e", file("texting_robots-*.whl"), "."], tmp_path, os.environ)
     for path in [*tmp_path.glob("*/lib/*.so"), *tmp_path.glob("*/*.abi3.so")]:
         versions = re.findall(r"GLIBC_(\d+)\.(\d+)", ran(["objdump", "-T", path], tmp_path, os.environ))
         assert versions and max(tuple(map(int, it)) for it in versions) <= (2, 17)
@@ -222,7 +239,7 @@ def test_a_shared_object_that_needs_another_library_is_refused(tmp_path):
 # ---- Python
 
 
-@pytest.fixture(scope="module", params=["*.whl", f"texting_robots-{VERSION}.tar.gz"], ids=["wheel", "source distribution"])
+@pytest.fixture(scope="module", params=["texting_robots-*.whl", f"texting_robots-{VERSION}.tar.gz"], ids=["wheel", "source distribution"])
 def python(request, releases, bare, tmp_path_factory):
     """The Python of a new virtual environment with the package. What it and its build need is taken from here."""
     folder = tmp_path_factory.mktemp("venv")
@@ -243,7 +260,7 @@ def test_lines_of_the_readme_in_python(python, bare, tmp_path, text, lines):
     assert int(ran([python, "-c", words], tmp_path, bare)) >= lines
 
 
-PAGES = {"/robots.txt": b"# \xff\nUser-agent: FerrisBot\nDisallow: /private/\n", "/": b'<a href="/private/x">x</a> <a href="/public">y</a>'}
+SERVED = {"/robots.txt": b"# \xff\nUser-agent: FerrisBot\nDisallow: /private/\n", "/": b'<a href="/private/x">x</a> <a href="/public">y</a>'}
 
 SPIDER = """
 import scrapy
@@ -283,7 +300,7 @@ def test_scrapy_project_obeys_a_damaged_file(python, bare, tmp_path):
     pytest.importorskip("scrapy")
     settings = sorted(set(re.findall(r"(?:^ {4}|`)(ROBOTSTXT_\w+ = [^`\n]+)", section(PACKAGES["python"], "Scrapy"), re.M)))
     assert len(settings) == 3
-    with served(PAGES) as (address, fetched):
+    with served(SERVED) as (address, fetched):
         ran([python, "-m", "scrapy", "startproject", "small", "."], tmp_path, bare)
         with open(tmp_path / "small/settings.py", "a") as file:
             file.write("\n".join(["", *settings, ""]))
@@ -306,10 +323,11 @@ def tree(releases, tmp_path_factory):
 ASKED = ["Ferris", "/a"], b"Disallow: /a", Result(1, b"delay none\ndeny 1 /a\n", b"")
 
 
-@pytest.mark.parametrize("linked", ["shared", "static"])
-def test_c_library_through_pkg_config(tree, bare, tmp_path, linked):
+@pytest.mark.parametrize("linked, folder", [("shared", "plain"), ("static", "plain"), ("shared", "with a space")])
+def test_c_library_through_pkg_config(tree, bare, tmp_path, linked, folder):
     if not shutil.which("pkg-config"):
         pytest.skip("pkg-config is missing")
+    tree = shutil.copytree(tree, tmp_path / folder, symlinks=True)
     path = {"PKG_CONFIG_PATH": f"{tree}/lib/pkgconfig"}
     words = shlex.split(ran(["pkg-config", "--cflags", "--libs", "robots_c"], tmp_path, bare | path))
     way = [f"-Wl,-rpath,{tree}/lib"] if linked == "shared" else ["-static"]
@@ -370,6 +388,31 @@ def test_lines_of_the_readme_in_rust(releases, bare, tmp_path, way):
     (tmp_path / "Cargo.toml").write_text(f'[package]\nname = "caller"\nversion = "0.1.0"\nedition = "2021"\n{depends}')
     (tmp_path / "src").mkdir()
     (tmp_path / "src/main.rs").write_text(code(PACKAGES["rust"], "rust")[0])
+    ran(["cargo", "build", "--offline"], tmp_path, bare | {"CARGO_TARGET_DIR": str(tmp_path / "target")})
+    ran([tmp_path / "target/debug/caller"], tmp_path, bare)
+
+
+CALLER = """
+use texting_robots::Robot;
+
+fn main() -> Result<(), Box<dyn std::error::Error>> {
+    assert!(!Robot::new("FerrisBot", b"Disallow: /a")?.allowed("/a"));
+    Ok(())
+}
+"""
+
+
+@pytest.mark.skipif(not HAS_CRATES, reason="librust-anyhow-dev or librust-url-dev is missing")
+def test_a_caller_of_the_former_crate(releases, bare, tmp_path):
+    """By the lines of Cargo.toml that the page of the crate with its API has, where Debian's crates are the only ones."""
+    as_the_readme_says([*releases[0].glob("*.crate")], tmp_path, bare)
+    (tmp_path / ".cargo").mkdir()
+    config = '[source.crates-io]\nreplace-with = "debian"\n[source.debian]\ndirectory = "/usr/share/cargo/registry"\n'
+    (tmp_path / ".cargo/config.toml").write_text(config)
+    (depends,) = code(PAGES["bindings/rust/compat/README.md"], "toml")
+    (tmp_path / "Cargo.toml").write_text(f'[package]\nname = "caller"\nversion = "0.1.0"\nedition = "2021"\n{depends}')
+    (tmp_path / "src").mkdir()
+    (tmp_path / "src/main.rs").write_text(CALLER)
     ran(["cargo", "build", "--offline"], tmp_path, bare | {"CARGO_TARGET_DIR": str(tmp_path / "target")})
     ran([tmp_path / "target/debug/caller"], tmp_path, bare)
 

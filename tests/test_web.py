@@ -441,12 +441,21 @@ def test_page_is_one_small_file_without_markup_from_texts(page, path):
     assert len(text.encode()) <= (680_000 if "PAGE" in os.environ else 1_000_000)  # a module that isn't proved is larger
     assert "connect-src" not in text
     assert all((ROOT / name).read_text().splitlines()[0] in text for name in ("LICENSE-MIT", "LICENSE-APACHE")) and "---- memchr" in text
-    scripts = "".join((ROOT / f"web/{name}.js").read_text() for name in ("page", "host"))
+    scripts = "".join((ROOT / f"web/{name}.js").read_text() for name in ("page", "program", "host"))
     assert not re.findall(r"innerHTML|outerHTML|insertAdjacent|document\.write|\beval\b|new Function|fetch\(|XMLHttp|import\(", scripts)
     assert page.value("byId('page').sandbox.length") == 0 and page.value("byId('page').hasAttribute('sandbox')")
 
 
 def test_page_is_left_out_without_binaryen(tmp_path, monkeypatch, capsys):
     monkeypatch.setenv("PATH", "")
-    RELEASE["release_page"](tmp_path, tmp_path, None)
-    assert capsys.readouterr().out == "release: binaryen is missing, so robots_audit.html isn't made\n" and not [*tmp_path.iterdir()]
+    RELEASE["release_modules"](tmp_path, tmp_path, None, "0")
+    said = "release: binaryen is missing, so neither robots_audit.html nor the packages for Node are made\n"
+    assert capsys.readouterr().out == said and not [*tmp_path.iterdir()]
+
+
+def test_no_release_without_node(tmp_path, monkeypatch):
+    """Since nobody could try its packages for Node."""
+    (tmp_path / "wasm-opt").touch(0o755)
+    monkeypatch.setenv("PATH", str(tmp_path))
+    with pytest.raises(SystemExit, match="release: node is missing"):
+        RELEASE["release_modules"](tmp_path, tmp_path, None, "0")

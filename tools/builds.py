@@ -1,5 +1,6 @@
 #!/usr/bin/env python3
-"""Programs, the C library and the module of the web page, built without proofs (tools/unproved.py), for `./build`, `./test` and tests:
+"""Programs, the C library, and the modules of the web page and of the package for Node, built without proofs (tools/unproved.py), for
+`./build`, `./test` and tests:
 
     tools/builds.py bin             builds the programs for users into bin/, and prints their paths
     tools/builds.py test WORDS..    builds all, and runs pytest with these arguments in a copy of the repository
@@ -23,8 +24,10 @@ ROOT = Path(__file__).resolve().parent.parent
 CACHE = Path(os.environ.get("XDG_CACHE_HOME") or Path.home() / ".cache") / "texting_robots"
 # the crate of each build, and its file in the crate's folder `out`
 BUILDS = {name: (name, name) for name in ("robots_audit", "robots_verdict", "robots_examples", "texting_robots_tests")}
-BUILDS |= {"robots_c": ("robots_c", "librobots_c.a"), "page": ("robots_audit", "robots_audit.wasm")}
-KEPT = 40  # builds, of which six are those of one commit
+BUILDS |= {"robots_c": ("robots_c", "librobots_c.a"), "page": ("robots_audit", "robots_audit.wasm"), "node": ("robots_c", "robots_c.wasm")}
+# what the modules of WebAssembly are made by and of, beside the crates
+OF_MODULES = [ROOT / it for it in ("web/make_module.py", "web/heap.c", "web/heap.h", "bindings/node/calls.c")]
+KEPT = 40  # builds, of which seven are those of one commit
 # what tests leave in a copy, by its folder's name
 LEFT = {"build", "dist", "target", "__pycache__", ".pytest_cache"}
 
@@ -42,7 +45,7 @@ def sources(crate):
 def sum_of(name):
     """A sum of all that a build depends on."""
     made = hashlib.sha256(subprocess.run(["rt", "version"], capture_output=True).stdout)
-    tools = [ROOT / "tools/unproved.py", *[ROOT / "web/make_module.py"] * (name == "page")]
+    tools = [ROOT / "tools/unproved.py", *OF_MODULES * (name in ("page", "node"))]
     for file in [*sources(BUILDS[name][0]), *tools]:
         made.update(f"{file.relative_to(ROOT)}\n{hashlib.sha256(file.read_bytes()).hexdigest()}\n".encode())
     return f"{name}-{made.hexdigest()[:32]}"
@@ -52,7 +55,7 @@ def build(names, kept):
     """Builds these in a copy of the sources, and keeps what is built."""
     with tempfile.TemporaryDirectory() as temporary:
         work = Path(temporary)
-        for file in {it for name in names for it in [*sources(BUILDS[name][0]), ROOT / "web/make_module.py"]}:
+        for file in {it for name in names for it in [*sources(BUILDS[name][0]), *OF_MODULES]}:
             (work / file.relative_to(ROOT)).parent.mkdir(parents=True, exist_ok=True)
             shutil.copyfile(file, work / file.relative_to(ROOT))
         ended = subprocess.run([sys.executable, ROOT / "tools/unproved.py", work, *names], stdout=sys.stderr)
@@ -94,7 +97,7 @@ def copy(folder):
     words = ["git", "ls-files", "-z", "--cached", "--others", "--exclude-standard"]
     listed = subprocess.run(words, cwd=ROOT, capture_output=True, text=True, check=True).stdout.split("\0")[:-1]
     files = {folder / it: ROOT / it for it in listed if (ROOT / it).is_file()}
-    for name, path in built(*(it for it in BUILDS if it != "page" or shutil.which("wasm-opt"))).items():
+    for name, path in built(*(it for it in BUILDS if it not in ("page", "node") or shutil.which("wasm-opt"))).items():
         crate, file = BUILDS[name]
         files[folder / "crates" / crate / "out" / file] = path
     for it in [it for it in folder.rglob("*") if it.is_file() and it not in files and not LEFT & {*it.relative_to(folder).parts}]:

@@ -15,7 +15,10 @@ find_tools() {
 }
 
 missing=()
-for it in cargo chromium wasm-opt:binaryen; do command -v "${it%:*}" > /dev/null || missing+=("${it#*:}"); done
+for it in cargo chromium musl-gcc:musl-tools wasm-opt:binaryen node:nodejs tsc:node-typescript; do
+    command -v "${it%:*}" > /dev/null || missing+=("${it#*:}")
+done
+for it in anyhow url; do compgen -G "/usr/share/cargo/registry/$it-[0-9]*" > /dev/null || missing+=("librust-$it-dev"); done
 packages+=("${missing[@]}")
 # shellcheck disable=SC2086 # lists of words
 { [ ${#missing[@]} = 0 ] && find_tools $needed $for_python; } \

@@ -30,7 +30,8 @@ def known_crawlers():
 
 def page(program, licenses):
     """The page. The report in its frame is under the same policy, so that has the hash of the report's style too."""
-    style, script, host = ((HERE / name).read_text() for name in ("page.css", "page.js", "host.js"))
+    style, script, *host = ((HERE / name).read_text() for name in ("page.css", "page.js", "program.js", "host.js"))
+    host = "".join(host)
     report = (ROOT / "crates/audit_reports/page.css").read_text()
     assert "</" not in script + host + style
     return Template((HERE / "page.html").read_text()).substitute(

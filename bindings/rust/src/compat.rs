@@ -35,6 +35,7 @@ impl Robot {
     }
 
     /// As [`crate::Robot::allowed`].
+    #[must_use]
     pub fn allowed(&self, url: &str) -> bool {
         self.robot.allowed(url)
     }

@@ -3,7 +3,7 @@ use std::fmt;
 use texting_robots_verified_sys as sys;
 
 /// Why a call has no result.
-#[derive(Debug, Clone, Copy, PartialEq, Eq)]
+#[derive(Debug, Clone, Copy, PartialEq, Eq, Hash)]
 #[non_exhaustive]
 pub enum Error {
     /// A rule for this crawler contains `$` and has more than 4,096 bytes when escaped, each run of stars counted as

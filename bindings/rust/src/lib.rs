@@ -21,6 +21,7 @@ pub const FILE_LIMIT: usize = texting_robots_verified_sys::ROBOTS_FILE_LIMIT;
 
 /// Whether a crawler may fetch a URL, and the line of the file that decides.
 #[derive(Debug, Clone, Copy, PartialEq, Eq, Hash)]
+#[non_exhaustive]
 pub struct Verdict {
     /// Whether the crawler may fetch it.
     pub allowed: bool,
@@ -76,6 +77,7 @@ impl Robot {
 
     /// Whether the crawler may fetch this: an absolute URL or a path. Any other text, such as `example.com/a`, is compared with the rules
     /// too, and usually allowed. If an allocation fails, it may not, and [`Robot::verdict`] returns an error.
+    #[must_use]
     pub fn allowed(&self, url: &str) -> bool {
         matches!(self.rules.verdict(url), Ok(verdict) if verdict >= 0)
     }
@@ -101,11 +103,13 @@ impl Robot {
 
     /// With so much as a budget, [`Robot::verdict_within`] doesn't give up for any URL whose path, query and fragment, escaped, have this
     /// length. It is at most `u64::MAX`.
+    #[must_use]
     pub fn cost(&self, len: usize) -> u64 {
         self.rules.cost(len)
     }
 
     /// How many bytes of memory it takes, without this value and [`Robot::sitemaps`].
+    #[must_use]
     pub fn memory(&self) -> usize {
         self.rules.memory()
     }
@@ -220,6 +224,7 @@ impl Site {
     }
 
     /// [`Robot::delay`] for this crawler, also where a rule is too long.
+    #[must_use]
     pub fn delay(&self, agent: &str) -> Option<Duration> {
         self.lines.delay(agent).map(Duration::from_micros)
     }
@@ -234,11 +239,13 @@ impl Site {
     }
 
     /// How many bytes of memory it takes, without this value and [`Site::sitemaps`].
+    #[must_use]
     pub fn memory(&self) -> usize {
         self.lines.memory()
     }
 
     /// Whether a user-agent line names this crawler. All that none names have the same robot, so they can share it.
+    #[must_use]
     pub fn is_named(&self, agent: &str) -> bool {
         self.lines.is_named(agent)
     }

@@ -12,8 +12,9 @@ pub const REDIRECT_LIMIT: u32 = sys::ROBOTS_REDIRECT_LIMIT;
 /// How long a file is used, unless the next can't be reached.
 pub const LIFETIME: Duration = Duration::from_secs(sys::ROBOTS_LIFETIME);
 
-/// What came of a request for a robots.txt file.
+/// What came of a request for a robots.txt file. [`Response::new`] makes one, whose fields can then be changed.
 #[derive(Debug, Clone, Copy, PartialEq, Eq, Hash)]
+#[non_exhaustive]
 pub struct Response {
     /// The final status, or `None` if there was no answer.
     pub status: Option<u16>,
@@ -39,8 +40,15 @@ pub enum Meaning {
 }
 
 impl Response {
+    /// A complete response with this status, without a `Location` and before any redirect.
+    #[must_use]
+    pub fn new(status: Option<u16>) -> Response {
+        Response { status, redirects: 0, has_location: false, is_complete: true }
+    }
+
     /// What the response means. 429 and whatever the standard doesn't name, as 206, 304 and a redirect without `Location`, means that the
     /// file can't be reached.
+    #[must_use]
     pub fn meaning(self) -> Meaning {
         let status = self.status.map_or(0, u32::from);
         match handle::meaning(status, self.redirects, self.has_location, self.is_complete) {

@@ -14,8 +14,8 @@ fn main() {
     }
     let [arch, os, abi] =
         ["ARCH", "OS", "ENV"].map(|it| env::var(format!("CARGO_CFG_TARGET_{it}")).unwrap_or_default());
-    if os != "linux" || abi != "gnu" || !["x86_64", "aarch64"].contains(&&*arch) {
-        return warn(&format!("there is no C library robots_c for {os} on {arch}, only for Linux with the GNU C library on x86_64 and aarch64"));
+    if os != "linux" || !["gnu", "musl"].contains(&&*abi) || !["x86_64", "aarch64"].contains(&&*arch) {
+        return warn(&format!("there is no C library robots_c for {os} on {arch}, only for Linux with the GNU C library or musl on x86_64 and aarch64"));
     }
     let packed = Path::new(&env::var_os("CARGO_MANIFEST_DIR").unwrap()).join(format!("c/{arch}/librobots_c.a"));
     let archive =

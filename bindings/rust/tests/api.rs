@@ -21,14 +21,29 @@ Sitemap: https://example.com/one.xml
 Sitemap: https://example.com/zwölf.xml
 ";
 
-const ALLOWED: Verdict = Verdict { allowed: true, line: None };
+/// A verdict as [`values`] has it.
+type Values = (bool, Option<usize>);
 
-fn allowed(line: usize) -> Verdict {
-    Verdict { allowed: true, line: Some(line) }
+const ALLOWED: Values = (true, None);
+
+fn allowed(line: usize) -> Values {
+    (true, Some(line))
 }
 
-fn denied(line: usize) -> Verdict {
-    Verdict { allowed: false, line: Some(line) }
+fn denied(line: usize) -> Values {
+    (false, Some(line))
+}
+
+fn values(verdict: Verdict) -> Values {
+    (verdict.allowed, verdict.line)
+}
+
+fn all(verdicts: Result<Vec<Verdict>, Error>) -> Result<Vec<Values>, Error> {
+    Ok(verdicts?.into_iter().map(values).collect())
+}
+
+fn rows_of(matrix: Result<Vec<Vec<Option<Verdict>>>, Error>) -> Result<Vec<Vec<Option<Values>>>, Error> {
+    Ok(matrix?.into_iter().map(|row| row.into_iter().map(|verdict| verdict.map(values)).collect()).collect())
 }
 
 /// A file whose lines 2 and 5 are rules that are too long for every crawler but Other.
@@ -47,12 +62,12 @@ fn robot(agent: &str, file: impl AsRef<[u8]>) -> Robot {
 #[test]
 fn verdicts() {
     let ferris = robot("FerrisBot", SHOP);
-    assert_eq!(ferris.verdict("https://example.com/search/tea"), Ok(denied(2)));
-    assert_eq!(ferris.verdict("/search/help"), Ok(allowed(3)));
-    assert_eq!(ferris.verdict("/"), Ok(ALLOWED));
-    assert_eq!(ferris.verdict(""), Ok(ALLOWED));
-    assert_eq!(robot("SLOWBOT", SHOP).verdict("/robots.txt"), Ok(ALLOWED));
-    assert_eq!(robot("SLOWBOT", SHOP).verdict("/"), Ok(denied(7)));
+    assert_eq!(ferris.verdict("https://example.com/search/tea").map(values), Ok(denied(2)));
+    assert_eq!(ferris.verdict("/search/help").map(values), Ok(allowed(3)));
+    assert_eq!(ferris.verdict("/").map(values), Ok(ALLOWED));
+    assert_eq!(ferris.verdict("").map(values), Ok(ALLOWED));
+    assert_eq!(robot("SLOWBOT", SHOP).verdict("/robots.txt").map(values), Ok(ALLOWED));
+    assert_eq!(robot("SLOWBOT", SHOP).verdict("/").map(values), Ok(denied(7)));
     assert!(!ferris.allowed("/search") && ferris.allowed("/search/help") && robot("FerrisBot", "").allowed("/"));
 }
 
@@ -61,11 +76,12 @@ fn verdicts_within_a_budget() {
     let ferris = robot("FerrisBot", SHOP);
     // the longer rule is tried first, and no byte is compared if it is longer than the URL's path
     for (url, least, verdict) in [("/search/tea", 9, denied(2)), ("/search/help", 13, allowed(3)), ("", 2, ALLOWED)] {
-        assert_eq!(ferris.verdict_within(url, least), Ok(verdict));
+        assert_eq!(ferris.verdict_within(url, least).map(values), Ok(verdict));
         assert_eq!(ferris.verdict_within(url, least - 1), Err(Error::TooCostly));
     }
     let private = robot("FerrisBot", "Disallow: /private");
-    assert_eq!([0, 1].map(|budget| private.verdict_within("/", budget)), [Err(Error::TooCostly), Ok(ALLOWED)]);
+    let within = |budget| private.verdict_within("/", budget).map(values);
+    assert_eq!([0, 1].map(within), [Err(Error::TooCostly), Ok(ALLOWED)]);
     assert_eq!([0, 6, 7, 12, usize::MAX].map(|len| ferris.cost(len)), [2, 2, 9, 21, 21]);
     assert_eq!(robot("FerrisBot", "Disallow: *\nDisallow: /*a").cost(usize::MAX), u64::MAX);
 }
@@ -115,11 +131,11 @@ fn sitemaps_and_agents() {
 fn verdicts_for_many_urls() {
     let ferris = robot("FerrisBot", SHOP);
     let urls: Vec<String> = (0..1000).map(|n| format!("https://example.com/search/{n}")).collect();
-    assert_eq!(ferris.verdicts(&urls), Ok(vec![denied(2); 1000]));
-    assert_eq!(ferris.verdicts(["/search/tea", "/search/help", "/"]), Ok(vec![denied(2), allowed(3), ALLOWED]));
-    assert_eq!(ferris.verdicts("/search\n/search/help".lines()), Ok(vec![denied(2), allowed(3)]));
-    assert_eq!(ferris.verdicts(["/search\n/", ""]), Ok(vec![denied(2), ALLOWED]));
-    assert_eq!(ferris.verdicts(&[] as &[String]), Ok(vec![]));
+    assert_eq!(all(ferris.verdicts(&urls)), Ok(vec![denied(2); 1000]));
+    assert_eq!(all(ferris.verdicts(["/search/tea", "/search/help", "/"])), Ok(vec![denied(2), allowed(3), ALLOWED]));
+    assert_eq!(all(ferris.verdicts("/search\n/search/help".lines())), Ok(vec![denied(2), allowed(3)]));
+    assert_eq!(all(ferris.verdicts(["/search\n/", ""])), Ok(vec![denied(2), ALLOWED]));
+    assert_eq!(all(ferris.verdicts(&[] as &[String])), Ok(vec![]));
 }
 
 #[test]
@@ -127,11 +143,12 @@ fn a_site_has_the_verdicts_of_its_robots() {
     let site = Site::new(SHOP.as_bytes()).unwrap();
     for urls in [&["/search/tea", "/search/help", "", "/é"][..], &["/a\nb", "/search"], &["/"], &[]] {
         for agents in [&["FerrisBot", "SlowBot", "*", ""][..], &["a\nb", "SlowBot"], &[]] {
-            let row = |agent: &&str| urls.iter().map(|url| Some(robot(agent, SHOP).verdict(url).unwrap())).collect();
+            let row =
+                |agent: &&str| urls.iter().map(|url| Some(values(robot(agent, SHOP).verdict(url).unwrap()))).collect();
             let rows: Vec<Vec<_>> = agents.iter().map(row).collect();
-            assert_eq!(site.matrix(agents, urls), Ok(rows.clone()));
+            assert_eq!(rows_of(site.matrix(agents, urls)), Ok(rows.clone()));
             let owned: Vec<String> = urls.iter().map(|url| url.to_string()).collect();
-            assert_eq!(site.matrix(agents, &owned), Ok(rows));
+            assert_eq!(rows_of(site.matrix(agents, &owned)), Ok(rows));
         }
     }
     assert_eq!(
@@ -140,7 +157,7 @@ fn a_site_has_the_verdicts_of_its_robots() {
     );
     let ferris = site.robot("FerrisBot").unwrap();
     drop(site);
-    assert_eq!(ferris.verdict("/search"), Ok(denied(2)));
+    assert_eq!(ferris.verdict("/search").map(values), Ok(denied(2)));
 }
 
 #[test]
@@ -151,8 +168,8 @@ fn a_rule_that_is_too_long() {
     let site = Site::new(&overlong()).unwrap();
     assert_eq!(site.robot("FerrisBot").unwrap_err(), error);
     assert_eq!(site.delay("FerrisBot"), Some(Duration::from_secs(1)));
-    assert_eq!(site.matrix(&["FerrisBot", "Other"], &["/a"]), Ok(vec![vec![None], vec![Some(denied(7))]]));
-    assert_eq!(site.matrix(&["FerrisBot", "Other"], &["/\n"]), Ok(vec![vec![None], vec![Some(denied(7))]]));
+    assert_eq!(rows_of(site.matrix(&["FerrisBot", "Other"], &["/a"])), Ok(vec![vec![None], vec![Some(denied(7))]]));
+    assert_eq!(rows_of(site.matrix(&["FerrisBot", "Other"], &["/\n"])), Ok(vec![vec![None], vec![Some(denied(7))]]));
     assert_eq!(*site.sitemaps, ["x"]);
 }
 
@@ -177,18 +194,25 @@ fn any_bytes() {
         b"User-agent: a\nDisallow: /a\xFF\nDisallow: /a",
     ] {
         let line = file.split(|byte| b"\r\0\n".contains(byte)).position(|line| line == b"Disallow: /a").unwrap() + 1;
-        assert_eq!(robot("a", file).verdict("https://example.com/a"), Ok(denied(line)));
+        assert_eq!(robot("a", file).verdict("https://example.com/a").map(values), Ok(denied(line)));
     }
     let past_the_limit = [vec![b'#'; FILE_LIMIT], b"\nUser-agent: a\nDisallow: /\n".to_vec()].concat();
     assert!(robot("a", past_the_limit).allowed("/"));
-    assert_eq!(robot("é", "User-agent: é\nDisallow: /é").verdict("https://example.com/%C3%A9"), Ok(denied(2)));
+    assert_eq!(
+        robot("é", "User-agent: é\nDisallow: /é").verdict("https://example.com/%C3%A9").map(values),
+        Ok(denied(2))
+    );
 }
 
 /// By RFC 9309, 2.3.1.
 #[test]
 fn responses() {
     let meaning = |status, redirects, is_complete| {
-        Response { status, redirects, has_location: redirects > 0, is_complete }.meaning()
+        let mut response = Response::new(status);
+        response.redirects = redirects;
+        response.has_location = redirects > 0;
+        response.is_complete = is_complete;
+        response.meaning()
     };
     assert_eq!(
         [204, 404, 429].map(|status| meaning(Some(status), 0, true)),
@@ -232,12 +256,12 @@ fn the_reading_of_rfc_9309() {
     let file = "# only these\nUser-agent: Googlebot\nUser-agent: Bingbot\nCrawl-delay: 5\n\nUser-agent: *\nDisallow: /\nSitemap: a";
     let (site, default) = (Site::rfc9309(file.as_bytes()).unwrap(), Site::new(file.as_bytes()).unwrap());
     for agent in ["Googlebot", "Bingbot"] {
-        assert_eq!(site.robot(agent).unwrap().verdict("https://example.com/"), Ok(denied(7)));
-        assert_eq!(default.robot(agent).unwrap().verdict("https://example.com/"), Ok(ALLOWED));
+        assert_eq!(site.robot(agent).unwrap().verdict("https://example.com/").map(values), Ok(denied(7)));
+        assert_eq!(default.robot(agent).unwrap().verdict("https://example.com/").map(values), Ok(ALLOWED));
         let delays = [site.delay(agent), default.delay(agent), Robot::rfc9309(agent, file.as_bytes()).unwrap().delay];
         assert_eq!(delays, [Some(Duration::from_secs(5)); 3]);
     }
-    assert_eq!(site.matrix(&["Googlebot", "Other"], &["/"]).unwrap(), [[Some(denied(7))], [Some(denied(7))]]);
+    assert_eq!(rows_of(site.matrix(&["Googlebot", "Other"], &["/"])), Ok(vec![vec![Some(denied(7))]; 2]));
     assert_eq!((site.sitemaps.to_vec(), site.agents()), (default.sitemaps.to_vec(), default.agents()));
 }
 
@@ -252,11 +276,11 @@ fn rules_as_rfc_9309_reads_them() {
         ("Disallow: /", "/", denied(1), ALLOWED),
     ];
     for (file, url, by_default, by_standard) in cases {
-        assert_eq!(robot("Bot", file).verdict(url), Ok(by_default), "{file}");
-        assert_eq!(Robot::rfc9309("Bot", file.as_bytes()).unwrap().verdict(url), Ok(by_standard), "{file}");
+        assert_eq!(robot("Bot", file).verdict(url).map(values), Ok(by_default), "{file}");
+        assert_eq!(Robot::rfc9309("Bot", file.as_bytes()).unwrap().verdict(url).map(values), Ok(by_standard), "{file}");
     }
     let long = format!("User-agent: *\nAllow: /\nDisallow: /{}$", "{".repeat(1400));
-    assert_eq!(robot("Bot", &long).verdict("/"), Ok(allowed(2)));
+    assert_eq!(robot("Bot", &long).verdict("/").map(values), Ok(allowed(2)));
     assert_eq!(Robot::rfc9309("Bot", long.as_bytes()).unwrap_err(), Error::OverlongRule { line: 3 });
     assert_eq!(Site::rfc9309(long.as_bytes()).unwrap().matrix(&["Bot"], &["/"]).unwrap(), [[None]]);
 }
@@ -268,5 +292,5 @@ fn a_full_file_is_read_to_its_end_by_the_standard() {
     file += &format!("{}\n{last}", "#".repeat(FILE_LIMIT - file.len() - last.len() - 1));
     assert_eq!(file.len(), FILE_LIMIT);
     let number = file.matches('\n').count() + 1;
-    assert_eq!(Robot::rfc9309("Bot", file.as_bytes()).unwrap().verdict("/last"), Ok(denied(number)));
+    assert_eq!(Robot::rfc9309("Bot", file.as_bytes()).unwrap().verdict("/last").map(values), Ok(denied(number)));
 }

@@ -8,7 +8,7 @@ from pathlib import Path
 
 import pytest
 from library import HEADER, archive
-from support import DOCUMENTS, ROOT, cases_of, compiled, input_of, run, spelled, wanted_of
+from support import DOCUMENTS, ROOT, Result, cases_of, compiled, input_of, run, spelled, wanted_of
 from test_documents import code
 
 CRATE = Path(__file__).resolve().parent.parent
@@ -93,7 +93,7 @@ def test_each_allocation_fails_in_turn(ask, tmp_path):
 def test_the_lines_of_the_readme_in_another_crate(installed, tmp_path):
     """Over the installed library, and under the former name of the crate, as when migrating; then the code after migrating."""
     moving = DOCUMENTS["docs/MOVING.md"].split("\n## The Rust crate `texting_robots`\n")[1]
-    (named,) = code(moving, "toml")
+    named = code(moving, "toml")[1]
     (tmp_path / "src/bin").mkdir(parents=True)
     (tmp_path / "src/main.rs").write_text(code(README, "rust")[0].replace("texting_robots_verified", "texting_robots"))
     after = code(moving, "rust")[1].replace("\n\n", '\n\nfn main() {\n    let (body, url) = (b"User-agent: *\\nDisallow: /a", "/a");\n', 1)
@@ -105,6 +105,103 @@ def test_the_lines_of_the_readme_in_another_crate(installed, tmp_path):
         cargo("run", "--bin", name, cwd=tmp_path, env=os.environ | {"ROBOTS_C": str(installed), "CARGO_TARGET_DIR": str(tmp_path / "target")})
 
 
+# Programs that use texting_robots 0.2.2.
+CALLERS = {
+    "a small program": """
+use texting_robots::{get_robots_url, Robot};
+
+fn main() {
+    let url = "https://example.com/search?q=tea";
+    assert_eq!(get_robots_url(url).unwrap(), "https://example.com/robots.txt");
+    let file = "User-agent: *\\nDisallow: /search\\nCrawl-delay: 2.5\\nSitemap: https://example.com/s.xml";
+    let robot = Robot::new("FerrisBot", file.as_bytes()).unwrap();
+    assert!(!robot.allowed(url) && robot.allowed("/tea"));
+    let delay: f32 = robot.delay.unwrap_or(1.0);
+    let sitemaps: Vec<String> = robot.sitemaps;
+    assert_eq!((delay, sitemaps), (2.5, vec!["https://example.com/s.xml".to_string()]));
+}
+""",
+    "robots that threads share": """
+use std::{collections::HashMap, sync::Arc, thread};
+use texting_robots::{get_robots_url, Robot};
+
+fn main() -> anyhow::Result<()> {
+    let mut robots: HashMap<String, Arc<Robot>> = HashMap::new();
+    robots.insert(get_robots_url("https://example.com/a")?, Arc::new(Robot::new("FerrisBot", b"Disallow: /a")?));
+    let robot = robots["https://example.com/robots.txt"].clone();
+    assert!(!thread::spawn(move || robot.allowed("/a")).join().unwrap());
+    Ok(())
+}
+""",
+    "an error that is passed on": """
+use texting_robots::Robot;
+
+fn read(file: &[u8]) -> Result<Robot, anyhow::Error> {
+    Robot::new("FerrisBot", file)
+}
+
+fn main() {
+    assert!(read(b"").is_ok() && format!("{:?}", read(b"Sitemap: a").unwrap()).contains("sitemaps: [\\"a\\"]"));
+}
+""",
+    "the error of an address": """
+use url::ParseError;
+
+fn address(url: &str) -> Result<String, ParseError> {
+    texting_robots::get_robots_url(url)
+}
+
+fn main() {
+    assert_eq!(address("/a"), Err(ParseError::RelativeUrlWithoutBase));
+    assert_eq!(address("https://[/"), Err(ParseError::InvalidIpv6Address));
+    assert_eq!(address("mailto:a@example.com"), Err(ParseError::EmptyHost));
+}
+""",
+    "the cause of an error": """
+use texting_robots::{Error, Robot};
+
+fn main() {
+    let file = format!("User-agent: *\\nDisallow: /${}", "a".repeat(4096));
+    let error = Robot::new("FerrisBot", file.as_bytes()).unwrap_err();
+    assert_eq!(error.to_string(), "the rule in line 2 is too long: the file can't be used for this crawler");
+    let cause = error.root_cause();
+    assert!(matches!(cause.downcast_ref::<Error>(), Some(Error::InvalidRobots)));
+    assert_eq!(cause.to_string(), "the robots.txt file can't be used for this crawler");
+}
+""",
+}
+DEBIANS_CRATES = Path("/usr/share/cargo/registry")
+DEBIANS = """
+[source.crates-io]
+replace-with = "debian"
+[source.debian]
+directory = "/usr/share/cargo/registry"
+"""
+
+
+@pytest.mark.skipif(not all(any(DEBIANS_CRATES.glob(f"{it}-[0-9]*")) for it in ("anyhow", "url")), reason="librust-anyhow-dev or librust-url-dev is missing")
+def test_callers_of_the_former_crate(installed, tmp_path):
+    """They compile and run over the crate with its API, as one line of Cargo.toml names it, and so do that crate's documentation and its page."""
+    (line,) = re.findall(r"^texting_robots = .*$", code((CRATE / "compat/README.md").read_text(), "toml")[0], re.M)
+    assert line in DOCUMENTS["docs/MOVING.md"].splitlines()
+    (tmp_path / "src/bin").mkdir(parents=True)
+    (tmp_path / ".cargo").mkdir()
+    (tmp_path / ".cargo/config.toml").write_text(DEBIANS)
+    package = '[package]\nname = "callers"\nversion = "0.1.0"\nedition = "2021"\n[dependencies]\nanyhow = "1"\nurl = "2"\n'
+    (tmp_path / "Cargo.toml").write_text(package + line.replace('version = "1.0.0"', f'path = "{CRATE}/compat"'))
+    names = [it.replace(" ", "-") for it in CALLERS]
+    for name, source in zip(names, CALLERS.values(), strict=True):
+        (tmp_path / f"src/bin/{name}.rs").write_text(source)
+    environment = os.environ | {"ROBOTS_C": str(installed), "CARGO_TARGET_DIR": str(tmp_path / "target")}
+    cargo("build", "--bins", cwd=tmp_path, env=environment)
+    for it in names:
+        assert run(tmp_path / "target/debug" / it) == Result(0, "", "")
+    copied = shutil.copytree(CRATE, tmp_path / "a/rust", ignore=shutil.ignore_patterns("target", "tests"))
+    (copied / "compat/.cargo").mkdir()
+    (copied / "compat/.cargo/config.toml").write_text(DEBIANS)
+    assert re.search(r"^test result: ok. 1 passed; 0 failed; 0 ignored", cargo("test", "--doc", cwd=copied / "compat", env=environment), re.M)
+
+
 @pytest.fixture(scope="module")
 def build_script(tmp_path_factory):
     path = tmp_path_factory.mktemp("script") / "build"
@@ -112,15 +209,25 @@ def build_script(tmp_path_factory):
     return path
 
 
-@pytest.mark.parametrize("arch, system, abi", [("riscv64", "linux", "gnu"), ("x86_64", "linux", "musl"), ("aarch64", "macos", ""), ("x86_64", "windows", "msvc")])
+@pytest.mark.parametrize("arch, system, abi", [("riscv64", "linux", "gnu"), ("x86_64", "linux", "uclibc"), ("aarch64", "macos", ""), ("x86_64", "windows", "msvc")])
 def test_another_platform(build_script, arch, system, abi):
     """Nothing is linked, and a warning says so: the crate can be checked and documented."""
     target = {"CARGO_CFG_TARGET_ARCH": arch, "CARGO_CFG_TARGET_OS": system, "CARGO_CFG_TARGET_ENV": abi}
-    message = f"there is no C library robots_c for {system} on {arch}, only for Linux with the GNU C library on x86_64 and aarch64"
+    message = f"there is no C library robots_c for {system} on {arch}, only for Linux with the GNU C library or musl on x86_64 and aarch64"
     for environment, said in [(target, [f"cargo:warning=texting_robots_verified-sys: nothing can be linked: {message}"]), (target | {"DOCS_RS": "1"}, [])]:
         ended = run(build_script, env=environment)
         assert (ended.status, ended.err) == (0, "") and "rustc-link" not in ended.out
         assert [line for line in ended.out.splitlines() if "rerun" not in line] == said
+
+
+@pytest.mark.parametrize("arch", ["x86_64", "aarch64"])
+@pytest.mark.parametrize("abi", ["gnu", "musl"])
+def test_a_platform_that_is_linked(build_script, tmp_path, arch, abi):
+    (tmp_path / "lib").mkdir()
+    (tmp_path / "lib/librobots_c.a").touch()
+    target = {"CARGO_CFG_TARGET_ARCH": arch, "CARGO_CFG_TARGET_OS": "linux", "CARGO_CFG_TARGET_ENV": abi, "CARGO_MANIFEST_DIR": str(tmp_path)}
+    ended = run(build_script, env=target | {"ROBOTS_C": str(tmp_path)})
+    assert (ended.status, ended.err) == (0, "") and "cargo:rustc-link-lib=static=robots_c" in ended.out.splitlines()
 
 
 def test_documentation_without_the_c_library(tmp_path):
