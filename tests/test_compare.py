@@ -201,6 +201,14 @@ def test_a_rule_of_many_stars(tmp_path, stars, status, said):
     assert (result.status, result.out.splitlines()[-1]) == (status, f"crawler Ferris: {said}")
 
 
+@pytest.mark.parametrize("agent", ["Ferris", "Googlebot-Image"])
+def test_a_rule_of_many_stars_that_is_repeated(tmp_path, agent):
+    """No verdict changes, nor by RFC 9309, in which the empty rule counts, or by the group that Google applies."""
+    old = b"User-agent: Ferris\nUser-agent: Googlebot\nDisallow:\n"
+    rule = b"Disallow: /" + 4000 * b"a*" + b"b\n"
+    assert reported(compare(tmp_path, old + rule, old + 2 * rule, "--agent", agent)) == (0, f"crawler {agent}: {SAME_TEXT}", "")
+
+
 def test_kinds_in_turn(tmp_path):
     """24 rules of both kinds, without and with a star at the end."""
     old, new = (

@@ -422,9 +422,9 @@ def test_a_caller_of_the_former_crate(releases, bare, tmp_path):
 
 def test_the_report_of_the_readme(file, bare, tmp_path):
     """The commands from a release print the report of the first command, with the file's name there."""
-    shutil.copy(file("robots_audit-*"), tmp_path)
+    shutil.copy(file("robots_audit-*.tar.gz"), tmp_path)
     ended = subprocess.run(["bash", "-ec", shown(section(README, "Build the packages"))], cwd=tmp_path, env=bare, capture_output=True, text=True)
-    report = "".join(shown(README.split("prints:")[1]).splitlines(keepends=True)[2:10])  # without the names of what was built
+    report = "".join(shown(README.split("prints:")[1]).splitlines(keepends=True)[2:11])  # without the names of what was built
     assert (ended.returncode, ended.stdout + ended.stderr) == (1, report.replace("examples/robots.txt:", "share/doc/robots_audit/robots.txt:"))
 
 

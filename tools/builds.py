@@ -42,10 +42,15 @@ def sources(crate):
     return [ROOT / "crates.txt", *(it for folder in folders for it in sorted(folder.rglob("*")) if it.is_file())]
 
 
+def of_module(name):
+    """What a module of WebAssembly is made by and of; nothing for a program of its own."""
+    return OF_MODULES if name in ("page", "node") else []
+
+
 def sum_of(name):
     """A sum of all that a build depends on."""
     made = hashlib.sha256(subprocess.run(["rt", "version"], capture_output=True).stdout)
-    tools = [ROOT / "tools/unproved.py", *OF_MODULES * (name in ("page", "node"))]
+    tools = [ROOT / "tools/unproved.py", *of_module(name)]
     for file in [*sources(BUILDS[name][0]), *tools]:
         made.update(f"{file.relative_to(ROOT)}\n{hashlib.sha256(file.read_bytes()).hexdigest()}\n".encode())
     return f"{name}-{made.hexdigest()[:32]}"
@@ -55,7 +60,7 @@ def build(names, kept):
     """Builds these in a copy of the sources, and keeps what is built."""
     with tempfile.TemporaryDirectory() as temporary:
         work = Path(temporary)
-        for file in {it for name in names for it in [*sources(BUILDS[name][0]), *OF_MODULES]}:
+        for file in {it for name in names for it in [*sources(BUILDS[name][0]), *of_module(name)]}:
             (work / file.relative_to(ROOT)).parent.mkdir(parents=True, exist_ok=True)
             shutil.copyfile(file, work / file.relative_to(ROOT))
         ended = subprocess.run([sys.executable, ROOT / "tools/unproved.py", work, *names], stdout=sys.stderr)

@@ -23,7 +23,8 @@
  * length 0 is the empty text. `agent` is the crawler's product token without a version ("MyBot", not "MyBot/1.0"), in UTF-8; ASCII
  * letters match in any case. `file` is the body of the response, any bytes; only the first ROBOTS_FILE_LIMIT count. A URL is UTF-8:
  * an absolute URL (https://example.com/a?b) or a path (/a?b). Any other text, as example.com/a, isn't an error: it is escaped and
- * compared with the rules, usually matches none, and then may be fetched. Check URLs before you ask about them.
+ * compared with the rules, usually matches none, and then may be fetched; in RFC 9309's reading it is a path without its first slash.
+ * Check URLs before you ask about them.
  *
  * STATUS. Each call that returns int32_t returns 0 (ROBOTS_OK) or a negative status; robots_site_is_named returns 1 too. Where the status
  * isn't 0, nothing is written, except where the call's comment says so, and nothing stays allocated. A text that isn't UTF-8 is found
@@ -92,8 +93,9 @@ enum robots_status {
     ROBOTS_BUFFER_TOO_SMALL = -3, /* the verdicts don't fit into the buffer */
     ROBOTS_NO_DELAY = -4,         /* the file has no delay for this crawler */
     ROBOTS_NO_ROBOTS_URL = -5,    /* the text isn't a URL of http or https with a host */
-    ROBOTS_OVERLONG_RULE = -6,    /* a rule for this crawler contains '$' and has more than 4,096 bytes when escaped, each run of
-                                   * stars counted as one: the file can't be used for this crawler. What to do then is its policy. */
+    ROBOTS_OVERLONG_RULE = -6,    /* a rule for this crawler contains '$' (in RFC 9309's reading, ends with it) and has more than 4,096
+                                   * bytes when escaped, each run of stars counted as one: the file can't be used for this crawler. What
+                                   * to do then is its policy. */
     ROBOTS_INVALID_ENDS = -7,     /* the places where URLs end decrease, or one is after the end of the text */
     ROBOTS_TOO_COSTLY = -8        /* the call gave up, since the verdict might have cost more than its budget */
 };
@@ -183,12 +185,13 @@ ROBOTS_CHECK int32_t robots_site_open(const void *file, size_t file_len, robots_
 
 /* robots_site_open with the verdicts of RFC 9309, also on files that the library reads otherwise by default: a Crawl-delay ends no list
  * of names, a Disallow without a value is no rule, rules above the first user-agent line don't count, a '$' is special only at the end
- * of a rule, and an escape such as %62 is the same as what it stands for. URLs are compared as they are written, up to a '#'. That holds
- * for the matrix of such a site, and for its robots with all their verdicts. ROBOTS_OVERLONG_RULE is about rules that end with '$' and
- * have more than 4,096 bytes when all that isn't allowed in a URI is escaped. robots_verdict doesn't allocate if path and query of the
- * URL are escaped as in a URI, with escapes in uppercase only where they are needed; robots_cost is about the length of these two.
- * Delays, sitemaps and names are those of robots_site_open. Take it if you have to obey the standard to the letter, and robots_site_open
- * to decide as the Rust crate texting_robots does. */
+ * of a rule, and an escape such as %62 is the same as what it stands for. URLs are compared as they are written, up to a '#': trim and
+ * parse them before you ask. The robots of such a site and its matrix have these verdicts; of the matrix that is only tested.
+ * ROBOTS_OVERLONG_RULE is about rules that end with '$' and have more than 4,096 bytes when all that isn't allowed in a URI is escaped.
+ * robots_verdict doesn't allocate if path and query of the URL are escaped as in a URI, with escapes in uppercase only where they are
+ * needed; robots_cost is about the length of these two. Delays, sitemaps and names are those of robots_site_open. Take it if you have
+ * to obey the standard (docs/COMPATIBILITY.md says in which points this reading doesn't), and robots_site_open to decide as the Rust
+ * crate texting_robots does. */
 ROBOTS_CHECK int32_t robots_site_open_rfc9309(const void *file, size_t file_len, robots_site **site) ROBOTS_NONNULL(3);
 
 /* robots_open for a site, with the same robot, errors and line. The robot stays open when the site is closed. */

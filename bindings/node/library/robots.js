@@ -15,7 +15,7 @@ const MESSAGES = {
   OVERLONG_RULE: "a rule is too long: the file can't be used for this crawler",
   TOO_COSTLY: "the verdict is too costly for its budget",
   NO_TOKEN: "a crawler's name is a product token without a version; productToken() makes one of a User-Agent",
-  FREED: "it was freed before",
+  FREED: "this robot or site was freed before, by free() or by a cache",
   TRAPPED: "the module stopped, which is an error of this package",
 };
 const CODES = new Map([[-2, "OUT_OF_MEMORY"], [-5, "NO_ROBOTS_URL"], [-6, "OVERLONG_RULE"], [-8, "TOO_COSTLY"]]); // those of robots.h
@@ -29,16 +29,29 @@ class RobotsError extends Error {
   }
 }
 
+const OF_READING = ["reading"], OF_CACHE = ["budget", "lifetime", "reading"], OF_RESPONSE = ["status", "redirects", "hasLocation", "isComplete"];
+
 const encoder = new TextEncoder(), decoder = new TextDecoder("utf-8", { fatal: true, ignoreBOM: true });
 
 function wrongType(argument, wanted, value) {
-  return new TypeError(`${argument} has to be ${wanted}, and is ${value === null ? "null" : typeof value}`);
+  const given = value === null || typeof value === "number" ? String(value) : Array.isArray(value) ? "an array" : typeof value;
+  return new TypeError(`${argument} has to be ${wanted}, and is ${given}`);
 }
 
-/** A URL as a text. */
+/** What a caller chose: an object that has no other members than these. */
+function chosen(given, argument, names) {
+  if (given === undefined) return {};
+  if (typeof given !== "object" || given === null || Array.isArray(given)) throw wrongType(argument, "an object", given);
+  for (const name in given) {
+    if (!names.includes(name)) throw new TypeError(`${argument} has the member ${name}, and can have only ${names.join(", ")}`);
+  }
+  return given;
+}
+
+/** A URL as a text. One of another realm has an `href`, too. */
 function urlText(url) {
   if (typeof url === "string") return url;
-  if (url instanceof URL) return url.href;
+  if (typeof url?.href === "string") return url.href;
   throw wrongType("url", "a string or a URL", url);
 }
 
@@ -58,7 +71,8 @@ function fileContent(file) {
 }
 
 /** Whether a file is read as RFC 9309 reads it: 1 or 0. */
-function isRfc9309({ reading = "crate" } = {}) {
+function isRfc9309(options) {
+  const { reading = "crate" } = chosen(options, "options", OF_READING);
   if (reading !== "crate" && reading !== "rfc9309") throw new TypeError(`reading has to be "crate" or "rfc9309", and is ${String(reading)}`);
   return reading === "rfc9309" ? 1 : 0;
 }
@@ -69,18 +83,20 @@ function counted(value, argument, most) {
   return Math.min(Math.floor(value), most);
 }
 
+/** Whether something is so: 1 or 0. */
+function flag(value, argument) {
+  if (typeof value !== "boolean") throw wrongType(argument, "a boolean", value);
+  return value ? 1 : 0;
+}
+
 /** The name at the front of a User-Agent, after any spaces and up to a space or one of /(),;: or else `*`. */
 function productToken(userAgent) {
   if (typeof userAgent !== "string") throw wrongType("userAgent", "a string", userAgent);
   return /^\s*([^\s/(),;:]+)/u.exec(userAgent)?.[1] ?? "*";
 }
 
-// It inherits nothing, so no name that a caller looks up in it is there by chance.
-function Verdict(allowed, line) {
-  this.allowed = allowed;
-  this.line = line;
-}
-Verdict.prototype = Object.freeze(Object.create(null));
+/** The verdict that a number is: a line, which is negative if it denies, or 0 if none decides. */
+const verdictOf = number => ({ allowed: number >= 0, line: Math.abs(number) || null });
 
 // The calls of an instance that has stopped.
 const STOPPED = new Proxy({}, { get() { throw new RobotsError("TRAPPED"); } });
@@ -233,16 +249,13 @@ function library(module) {
 
     allowed(url) { return this.#verdict(url) >= 0; }
 
-    verdict(url) {
-      const result = this.#verdict(url);
-      return new Verdict(result >= 0, Math.abs(result) || null);
-    }
+    verdict(url) { return verdictOf(this.#verdict(url)); }
 
     verdictWithin(url, budget) {
       const own = this.#instance, most = counted(budget, "budget", MOST_COUNTED), length = own.put(urlText(url));
       const result = own.call("verdict_within", this.#handle.open, own.at, length, most);
       if (result >= LEAST_FAILED) throw own.error(result - FAILED);
-      return new Verdict(result >= 0, Math.abs(result) || null);
+      return verdictOf(result);
     }
 
     cost(length) { return this.#instance.number("cost", this.#handle.open, counted(length, "length", MOST_COUNTED)); }
@@ -309,13 +322,14 @@ function library(module) {
 
   /** The robots of many sites for one crawler, by the address of the site's file. The one that was used last is the last one. */
   class RobotCache {
-    #agent; #reading; #budget; #milliseconds; #kept = new Map(); #memory = 0;
+    #agent; #reading; #budget; #lifetime; #kept = new Map(); #memory = 0;
 
-    constructor(agent, { budget = 64 * 2 ** 20, lifetime = LIFETIME, reading = "crate" } = {}) {
+    constructor(agent, options) {
+      const { budget = 64 * 2 ** 20, lifetime = LIFETIME, reading } = chosen(options, "options", OF_CACHE);
       this.#agent = agentText(agent);
       isRfc9309(this.#reading = { reading });
       this.#budget = counted(budget, "budget", MOST_COUNTED);
-      this.#milliseconds = 1000 * counted(lifetime, "lifetime", MOST_COUNTED);
+      this.#lifetime = counted(lifetime, "lifetime", MOST_COUNTED);
     }
 
     get(url) {
@@ -327,11 +341,12 @@ function library(module) {
       return found.robot;
     }
 
-    set(url, file) {
-      const address = robotsUrl(url);
+    set(url, file, options) {
+      const { lifetime = this.#lifetime } = chosen(options, "options", ["lifetime"]);
+      const address = robotsUrl(url), until = Date.now() + 1000 * counted(lifetime, "lifetime", MOST_COUNTED);
       this.delete(url);
       const robot = new Robot(this.#agent, file, this.#reading), { memory } = robot;
-      this.#kept.set(address, { robot, memory, until: Date.now() + this.#milliseconds });
+      this.#kept.set(address, { robot, memory, until });
       this.#memory += memory;
       for (const [other, found] of this.#kept) {
         if (this.#memory <= this.#budget || other === address) break;
@@ -370,9 +385,10 @@ function library(module) {
     return own.written((length, out, room) => own.call("robots_url", own.at, length, out, room), urlText(url));
   }
 
-  function responseMeaning({ status = 0, redirects = 0, hasLocation = false, isComplete = true } = {}) {
-    const most = 2 ** 32 - 1, given = [counted(status ?? 0, "status", most), counted(redirects, "redirects", most)];
-    return MEANINGS[instance().call("meaning", ...given, hasLocation ? 1 : 0, isComplete ? 1 : 0)];
+  function responseMeaning(response) {
+    const { status, redirects = 0, hasLocation = false, isComplete = true } = chosen(response, "response", OF_RESPONSE), most = 2 ** 32 - 1;
+    const given = [counted(status ?? 0, "status", most), counted(redirects, "redirects", most)];
+    return MEANINGS[instance().call("meaning", ...given, flag(hasLocation, "hasLocation"), flag(isComplete, "isComplete"))];
   }
 
   /** Bytes of the module's memory, and of the blocks in it that are in use. */

@@ -22,7 +22,7 @@ const checks = new Map();
 const check = (name, action) => checks.set(name, action);
 const load = () => require(path.join(folder, "lib/index.cjs"));
 const code = wanted => ({ name: "RobotsError", code: wanted });
-const same = (given, wanted) => assert.deepEqual({ ...given }, wanted);
+const same = assert.deepStrictEqual;
 
 check("verdicts", () => {
   const { Robot } = load(), robot = new Robot("FerrisBot", FILE);
@@ -41,7 +41,10 @@ check("a verdict within a budget", () => {
   same(robot.verdictWithin("/search/tea", enough), { allowed: false, line: 2 });
   same(robot.verdictWithin("/search/tea", Infinity), { allowed: false, line: 2 });
   assert.throws(() => robot.verdictWithin("/search/tea", 1), code("TOO_COSTLY"));
-  for (const bad of [-1, NaN, "9", undefined]) assert.throws(() => robot.verdictWithin("/", bad), TypeError);
+  for (const [bad, shown] of [[-1, "-1"], [NaN, "NaN"], ["9", "string"], [undefined, "undefined"], [null, "null"], [[], "an array"]]) {
+    const message = `budget has to be a number that isn't negative, and is ${shown}`;
+    assert.throws(() => robot.verdictWithin("/", bad), { name: "TypeError", message });
+  }
 });
 
 check("a site", () => {
@@ -78,6 +81,17 @@ check("readings", () => {
   assert.throws(() => new Robot("x", `User-agent: *\nDisallow: /${"a".repeat(4096)}$`, rfc9309), { ...code("OVERLONG_RULE"), line: 2 });
   for (const reading of ["RFC9309", null, 1]) {
     for (const open of [it => new Robot("x", "", it), it => new Site("", it), it => new RobotCache("x", it)]) assert.throws(() => open({ reading }), TypeError);
+  }
+});
+
+check("options are objects with known members", () => {
+  const { Robot, Site, RobotCache, responseMeaning } = load(), cache = new RobotCache("x");
+  const calls = [it => new Robot("x", "", it), it => new Site("", it), it => new RobotCache("x", it), it => cache.set("https://a.example/", "", it), responseMeaning];
+  for (const call of calls) {
+    const name = call === responseMeaning ? "response" : "options";
+    for (const bad of ["rfc9309", 1, true, null, [], () => {}]) assert.throws(() => call(bad), { name: "TypeError", message: RegExp(`^${name} has to be an object`) });
+    assert.throws(() => call({ reding: "rfc9309" }), { name: "TypeError", message: RegExp(`^${name} has the member reding, and can have only [a-zA-Z, ]+$`) });
+    for (const good of [undefined, {}, Object.create(null)]) call(good);
   }
 });
 
@@ -124,10 +138,10 @@ check("names of crawlers", () => {
   assert.equal(site.robot("__proto__").allowed("/"), false);
 });
 
-check("a verdict inherits nothing", () => {
+check("a verdict is an ordinary object", () => {
   const { Robot } = load(), verdict = new Robot("x", FILE).verdict("/");
-  assert.deepEqual(Object.keys(verdict), ["allowed", "line"]);
-  for (const it of Object.getOwnPropertyNames(Object.prototype)) assert.equal(verdict[it], undefined);
+  assert.equal(require("node:util").inspect(verdict), "{ allowed: true, line: null }");
+  assert.equal(`${verdict}`, "[object Object]");
 });
 
 check("a rule that is too long", () => {
@@ -142,10 +156,11 @@ check("addresses", () => {
   const { robotsUrl } = load();
   assert.equal(robotsUrl("HTTPS://B\u00fccher.example:443/\u00e4?b#c"), "https://xn--bcher-kva.example/robots.txt");
   assert.equal(robotsUrl(new URL("http://h:8080/")), "http://h:8080/robots.txt");
+  assert.equal(robotsUrl(require("node:vm").runInNewContext("({ href: 'http://h/a' })")), "http://h/robots.txt");
   const long = `http://${"a.".repeat(2000)}example/`;
   assert.equal(robotsUrl(long), `${long}robots.txt`);
   for (const bad of ["ftp://x/", "/a", "", "http://"]) assert.throws(() => robotsUrl(bad), code("NO_ROBOTS_URL"));
-  assert.throws(() => robotsUrl(5), TypeError);
+  for (const bad of [5, null, undefined, {}, { href: 5 }]) assert.throws(() => robotsUrl(bad), TypeError);
 });
 
 check("responses", () => {
@@ -156,6 +171,10 @@ check("responses", () => {
   assert.equal(responseMeaning({ status: 301, hasLocation: true, redirects: 5 }), "allowAll");
   assert.equal(responseMeaning({ status: 301 }), "denyAll");
   assert.equal(responseMeaning({ status: 2 ** 32 + 200 }), "denyAll");
+  const wrong = { status: ["200", true, {}, -1], redirects: ["1", null], hasLocation: [{}, "/", 1, null], isComplete: ["no", 0, null] };
+  for (const [name, values] of Object.entries(wrong)) {
+    for (const bad of values) assert.throws(() => responseMeaning({ status: 200, [name]: bad }), { name: "TypeError", message: RegExp(`^${name} has to be a `) });
+  }
 });
 
 check("free", () => {
@@ -164,7 +183,7 @@ check("free", () => {
     assert.equal(it.isFreed, false);
     it.free();
     assert.equal(it.isFreed, true);
-    assert.throws(() => it.free(), code("FREED"));
+    assert.throws(() => it.free(), { ...code("FREED"), message: "this robot or site was freed before, by free() or by a cache" });
     assert.throws(() => it.memory, code("FREED"));
     if (it instanceof Robot) {
       for (const use of [() => it.allowed("/"), () => it.verdict("/"), () => it.verdictWithin("/", 9), () => it.cost(1), () => it.delay]) {
@@ -285,6 +304,10 @@ check("the cache has a budget", () => {
   const short = new RobotCache("FerrisBot", { budget: 0, lifetime: 0 });
   assert.equal(short.set("https://a.example/", file).allowed("/x"), false);
   assert.deepEqual([short.size, short.get("https://a.example/"), short.size], [1, undefined, 0]);
+  const own = short.set("https://a.example/", file, { lifetime: 60 });
+  assert.equal(short.get("https://a.example/"), own);
+  assert.throws(() => short.set("https://a.example/", file, { lifetime: -1 }), TypeError);
+  assert.equal(short.get("https://a.example/"), own);
 });
 
 check("10,000 files in a cache", () => {
@@ -337,7 +360,9 @@ check("the entry without files", async () => {
     assert.deepEqual(Object.keys(robots), Object.keys(load()));
     assert.equal(new robots.Robot("x", FILE).allowed("/search"), false);
   }
-  await assert.rejects(init());
+  await assert.rejects(init(), { message: /^file:.* can't be fetched: pass init\(\) the bytes of texting-robots\/robots\.wasm$/ });
+  const empty = new Uint8Array([0, 97, 115, 109, 1, 0, 0, 0]);
+  for (const source of [empty, new WebAssembly.Module(empty)]) await assert.rejects(init(source), { name: "TypeError", message: /^source has to be / });
 });
 
 check("threads have modules of their own", async () => {

@@ -148,6 +148,14 @@ new Robot("x", "", { reading: "rfc9309" }).free();
 try { robot.free(); } catch (error) { if (error instanceof RobotsError && error.code === "FREED") throw DENY_ALL_FILE; }
 export { line, delay, sitemaps, meaning, kept };
 """
+PLAIN = """import { Robot, RobotCache, Site, responseMeaning, robotsUrl } from "texting-robots";
+declare const url: { readonly href: string, toString(): string };
+declare const status: number | undefined, reading: "crate" | "rfc9309" | undefined, isComplete: boolean | undefined;
+responseMeaning({ status, redirects: status, hasLocation: isComplete, isComplete });
+const cache = new RobotCache("x", { budget: status, lifetime: status, reading });
+export const isAllowed: boolean = cache.set(url, "", { lifetime: status }).allowed(url) && new Robot("x", "", { reading }).allowed(robotsUrl(url));
+new Site("", { reading }).free();
+"""
 WRONG = {
     "robot.allowed(5)": "Argument of type 'number'",
     "robot.verdict('/').line = 5": "read-only",
@@ -155,6 +163,7 @@ WRONG = {
     "new RobotsError()": "is private",
     "responseMeaning({ status: '200' })": "Type 'string'",
     "new Site('', { reading: 'google' })": "Type '\"google\"'",
+    "new Site('', { reding: 'crate' })": "Argument of type '{ reding",
 }
 
 
@@ -196,6 +205,27 @@ export { allowed };
 @needs_tsc
 def test_types_of_the_entry_without_files(project):
     assert compiled(project, INIT, ".mts", target="es2022") == ""
+
+
+@needs_tsc
+@pytest.mark.parametrize("suffix", [".ts", ".mts"])
+def test_types_need_none_of_browsers(project, suffix):
+    """And an option may be undefined."""
+    assert compiled(project, PLAIN + INIT * (suffix == ".mts"), suffix, target="es2022", lib=["es2022"], exactOptionalPropertyTypes=True) == ""
+
+
+FACADE = """import robotsParser from "texting-robots-parser";
+import type { Robot } from "texting-robots-parser";
+const robots: Robot = robotsParser("https://example.com/robots.txt", "", { reading: "rfc9309" });
+export const allowed: boolean | undefined = robots.isAllowed("https://example.com/", "x");
+"""
+
+
+@needs_tsc
+@pytest.mark.parametrize("suffix, module, interoperates", [(".ts", "commonjs", False), (".ts", "commonjs", True), (".mts", "node16", True), (".ts", "node16", False)])
+def test_types_of_the_facade(project, suffix, module, interoperates):
+    resolution = "node16" if module == "node16" else "node"
+    assert compiled(project, FACADE, suffix, lib=["es2020"], module=module, moduleResolution=resolution, esModuleInterop=interoperates) == ""
 
 
 def test_packages_have_all_they_name(packages):

@@ -6,6 +6,7 @@ import os
 import re
 import shutil
 import threading
+import time
 from http.server import BaseHTTPRequestHandler, ThreadingHTTPServer
 from pathlib import Path
 
@@ -31,13 +32,13 @@ def project(packages, tmp_path):
     return tmp_path
 
 
-@pytest.mark.parametrize("text, count", [(LIBRARY, 7), (PARSER, 3)], ids=["library", "robots-parser"])
-def test_lines_of_the_readme_in_javascript(project, text, count):
+@pytest.mark.parametrize("text, block, count", [(LIBRARY, 0, 2), (LIBRARY, 1, 7), (PARSER, 0, 3)], ids=["readings", "library", "robots-parser"])
+def test_lines_of_the_readme_in_javascript(project, text, block, count):
     """Each line with a value in its comment has this value."""
     lines, checked = ['const assert = require("node:assert");'], 0
-    for line in code(text, "js")[0].splitlines():
+    for line in code(text, "js")[block].splitlines():
         found = re.fullmatch(r"(?!const )(.*); // (.*)", line)
-        lines.append(f"assert.deepEqual({found[1]}, {found[2]});" if found else line)
+        lines.append(f"assert.deepStrictEqual({found[1]}, {found[2]});" if found else line)
         checked += found is not None
     node("-e", "\n".join(lines), cwd=project)
     assert checked == count
@@ -63,16 +64,18 @@ def test_script_of_a_project(tmp_path):
 
 
 @contextlib.contextmanager
-def served(answers):
-    """The address of a server with these answers: for a path a status, a text, and possibly an address to which it leads."""
+def served(answers, asked):
+    """The address of a server with these answers: for a path a status, a text, and possibly other headers. It notes the paths that were asked."""
 
     class Handler(BaseHTTPRequestHandler):
         def do_GET(self):
-            status, text, *target = answers.get(self.path, (404, ""))
+            asked.append(self.path)
+            if self.path == "/slow":
+                time.sleep(5)
+            status, text, *headers = answers.get(self.path, (404, ""))
             self.send_response(status)
-            if target:
-                self.send_header("Location", target[0])
-            self.send_header("Content-Length", str(len(text)))
+            for header in {"Content-Length": len(text), **dict(*headers)}.items():
+                self.send_header(header[0], str(header[1]))
             self.end_headers()
             self.wfile.write(text.encode())
 
@@ -89,12 +92,39 @@ def served(answers):
 
 
 def test_crawler_of_the_readme(project):
+    """It fetches nothing that a file denies, also as the target of a redirect. Of a file that can't be used, nothing is fetched, and it isn't
+    asked for again at once."""
     (crawler,) = [it for it in code(LIBRARY, "js") if "async function page" in it]
-    rules = "User-agent: FerrisBot\nDisallow: /private\nCrawl-delay: 0\n"
-    with served({"/robots.txt": (200, rules), "/a": (200, "one")}) as one, served({"/robots.txt": (503, ""), "/a": (200, "two")}) as two, \
-            served({"/a": (200, "three")}) as three, served({"/robots.txt": (302, "", f"{one}/robots.txt"), "/a": (200, "four")}) as four:  # fmt: skip
-        urls = [f"{one}/a", f"{one}/private", f"{two}/a", f"{three}/a", f"{four}/a", f"{four}/private", "ftp://x/", "http://127.0.0.1:1/a"]
-        asked = f"(async () => {{ const pages = []; for (const it of {json.dumps(urls)}) pages.push(await page(it)); console.log(JSON.stringify(pages)); }})();"
-        pages = json.loads(node("-e", crawler + asked, cwd=project))
-    assert pages == ["one", None, None, "three", "four", None, None, None]
     assert len(crawler.splitlines()) <= 50
+    rules = "User-agent: FerrisBot\nDisallow: /private\nCrawl-delay: 0\n"
+    file, page = {"/robots.txt": (200, rules)}, {"/a": (200, "text"), "/b": (200, "text")}
+    to = {f"/to{at}": (302, "", {"Location": target}) for at, target in enumerate(["/private/secret", "/a", "/to2", "file:/a", "/to0"])}
+    sites = {
+        "good": file | page | to | {"/private/secret": (200, "secret"), "/slow": (200, "late"), "/none": (204, "")},
+        "missing": page,
+        "empty": {"/robots.txt": (204, "")} | page,
+        "down": {"/robots.txt": (503, "")} | page,
+        "cut": {"/robots.txt": (200, rules, {"Content-Length": 999})} | page,
+        "long": {"/robots.txt": (200, f"{rules}Disallow: /{'a' * 4096}$")} | page,
+        "lost": {"/robots.txt": (301, "", {"Location": "http://["})} | page,
+    }
+    asked = {name: [] for name in [*sites, "moved"]}
+    with contextlib.ExitStack() as stack:
+        at = {name: stack.enter_context(served(answers, asked[name])) for name, answers in sites.items()}
+        moved = {"/robots.txt": (302, "", {"Location": f"{at['good']}/robots.txt"}), "/out": (302, "", {"Location": f"{at['down']}/a"})} | page
+        at["moved"] = stack.enter_context(served(moved, asked["moved"]))
+        wanted = {f"{at['good']}{path}": text for path, text in {"/a": "text", "/private": None, "/to0": None, "/to1": "text", "/to2": None, "/to4": None, "/none": ""}.items()}
+        wanted |= {f"{at['good']}/to3": "RobotsError", f"{at['good']}/slow": "TimeoutError", "ftp://x/": "RobotsError", "http://127.0.0.1:1/a": None}
+        wanted |= {f"{at[name]}/{letter}": "text" if name in ("missing", "empty", "moved") else None for name in at if name != "good" for letter in "ab"}
+        wanted |= {f"{at['moved']}/private": None, f"{at['moved']}/out": None}
+        script = crawler.replace("30_000", "2000").replace("robot.delay ?? 1", "robot.delay ?? 0") + f"""
+            (async () => {{
+              const pages = {{}};
+              for (const it of {json.dumps([*wanted])}) pages[it] = await page(it).catch(error => error.name) ?? null;
+              console.log(JSON.stringify(pages));
+            }})();"""
+        found = json.loads(node("-e", script, cwd=project))
+    assert found == wanted
+    assert "/private/secret" not in asked["good"] and asked["good"].count("/to2") == 6
+    assert [asked[name].count("/robots.txt") for name in at] == [2] + 7 * [1]
+    assert not [name for name in ("down", "cut", "long", "lost") if set(asked[name]) != {"/robots.txt"}]

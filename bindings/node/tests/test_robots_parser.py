@@ -39,6 +39,7 @@ assert.equal(long.isAllowed("https://a.example/x"), false);
 assert.equal(long.getMatchingLineNumber("https://a.example/x"), 2);
 const empty = "User-agent: *\\nDisallow:\\nDisallow: /", read = options => parser("/robots.txt", empty, options).isAllowed("/x");
 assert.deepEqual([undefined, { reading: "crate" }, { reading: "rfc9309" }].map(read), [true, true, false]);
+for (const bad of ["rfc9309", null, { reding: "rfc9309" }]) assert.throws(() => parser("/robots.txt", "", bad), /^TypeError: options has /);
 console.log("ok");"""
 
 

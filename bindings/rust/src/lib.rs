@@ -76,7 +76,7 @@ impl Robot {
     }
 
     /// Whether the crawler may fetch this: an absolute URL or a path. Any other text, such as `example.com/a`, is compared with the rules
-    /// too, and usually allowed. If an allocation fails, it may not, and [`Robot::verdict`] returns an error.
+    /// too, and by default usually allowed. If an allocation fails, it may not, and [`Robot::verdict`] returns an error.
     #[must_use]
     pub fn allowed(&self, url: &str) -> bool {
         matches!(self.rules.verdict(url), Ok(verdict) if verdict >= 0)
@@ -151,10 +151,10 @@ impl Site {
         Site::of(handle::Site::open(txt)?, txt)
     }
 
-    /// Reads a file as [`Site::new`] does, but the verdicts of its robots and of [`Site::matrix`] are those of RFC 9309 on each file: a
+    /// Reads a file as [`Site::new`] does, but the verdicts of its robots and of [`Site::matrix`] are those of RFC 9309: a
     /// `Crawl-delay` ends no list of names, an empty `Disallow` is no rule, only the last byte of a pattern can be a `$` that is special,
-    /// rules above the first user-agent line don't count, and escapes such as `%62` are the same as what they stand for. The delays,
-    /// [`Site::sitemaps`] and the names are as for [`Site::new`].
+    /// rules above the first user-agent line don't count, and escapes such as `%62` are the same as what they stand for. URLs are compared
+    /// as they are written, so trim and parse them before you ask. The delays, [`Site::sitemaps`] and the names are as for [`Site::new`].
     ///
     /// # Errors
     ///

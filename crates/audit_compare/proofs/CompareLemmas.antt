@@ -1,8 +1,6 @@
 -- What a comparison finds: the verdicts by the same rules.
 use Rattle.std.proofs.Common.{◌≡◌, ◌∙◌, ◌↔◌, ℕ, zero, suc, Bool, true, false, List, [], ◌∷◌, ◌++◌, Contains}
-use Rattle.std.proofs.Common.{ap, arith, codes, not, refl, subst, ◌==◌, if◌then◌else◌, length, map, sym, ◌<◌}
-use Rattle.std.proofs.Common.{drop}
-use Rattle.std.proofs.Math.Seq.{drop-nil}
+use Rattle.std.proofs.Common.{ap, arith, codes, not, refl, subst, ◌==◌, if◌then◌else◌, length, map, sym}
 use Rattle.std.proofs.lemmas.{Bool.and_parts, Grind.common_steps}
 use Rattle.std.proofs.lemmas.Slice.Eq.{bytes_eq-Decides}
 use Rattle.std.proofs.lemmas.List.Folds.{Any-from_list_any}
@@ -11,10 +9,9 @@ use Rattle.texting_robots.specs.Callers.{label_by_value, lines_read, rules_for, 
 use Rattle.texting_robots.specs.declared.labels.LabeledLine.{LabeledLine}
 use Rattle.robots_rules.specs.Same.{HaveSameVerdicts}
 use Rattle.robots_warnings.specs.File.{lines_of}
-use Rattle.audit_core.specs.Audit.{VerdictValue}
 use Rattle.audit_core.proofs.AuditLemmas.{nil_if_empty}
 use Rattle.audit_compare.specs.declared.compared.{Compared.Compared, RuleChanges.RuleChanges}
-use Rattle.audit_compare.specs.Compare.{AreChanges, IsCompared, are_none, changes_in, has_rule, is_same_rule}
+use Rattle.audit_compare.specs.Compare.{AreChanges, IsCompared, are_none, has_rule, is_same_rule}
 use Rattle.audit_compare.specs.Compare.{is_unchanged, rules_lacked}
 
 abbrev Includes : List Rule → List Rule → Type 0
@@ -101,17 +98,3 @@ pub both_lines : (one two : List LabeledLine)
     ≡ lines_of (map label_by_value one) ++ lines_of (map label_by_value two)
 both_lines [] two = refl
 both_lines (label ∷ one) two = ap (λ lines. (label_by_value label).line ∷ lines) (both_lines one two)
-
-no_verdicts : (rules : RuleChanges) (older : List VerdictValue) → changes_in rules older [] ≡ []
-no_verdicts rules [] = refl
-no_verdicts rules (_ ∷ _) = refl
-
-pub none_left : (rules : RuleChanges) (older newer : List VerdictValue) (at : ℕ)
-    → (at < length older → at < length newer → ⊥)
-    → changes_in rules (drop at older) (drop at newer) ≡ []
-none_left rules [] newer at over = rw (drop-nil at) refl
-none_left rules (one ∷ older) [] at over =
-    rw (drop-nil at) (no_verdicts rules (drop at (one ∷ older)))
-none_left rules (one ∷ older) (other ∷ newer) zero over = absurd (over (omega arith) (omega arith))
-none_left rules (one ∷ older) (other ∷ newer) (suc at) over =
-    none_left rules older newer at (λ below within. over (omega arith) (omega arith))

@@ -1,3 +1,2 @@
 pub mod CompareLemmas
-pub mod EveryUrlLemmas
 pub mod SitemapLemmas

@@ -1,5 +1,5 @@
 -- The texts that are met, and those found, after one more.
-use Rattle.std.proofs.Common.{◌≡◌, ◌+◌, ◌<◌, ◌&&◌, ◌||◌, ℕ, Bool, Bor, true, false, List, [], ◌∷◌, ◌++◌, ap}
+use Rattle.std.proofs.Common.{◌≡◌, ◌+◌, ◌<◌, ◌&&◌, ◌||◌, ℕ, Bool, Bor, true, List, [], ◌∷◌, ◌++◌, ap}
 use Rattle.std.proofs.Common.{arith, bytes_eq, if◌then◌else◌, length, map, nat_cmp, not, refl}
 use Rattle.std.proofs.Common.{slice_index_or, take}
 use Rattle.std.specs.{BTreeSet.BTreeSet, BTreeSet.Updates, Cmp.Lexicographic.slice_cmp, List.list_any}
@@ -39,13 +39,7 @@ module _ (old new : BTreeSet (Bor (List ℕ))) (items : List (Bor (List ℕ))) (
       → is_new ≡ not (is_met old (slice_index_or items at d).now)
       → more ≡ (if is_new then found ++ slice_index_or items at d ∷ [] else found)
       → AreFound others (take at items) found → AreFound others (take (at + 1) items) more
-  found_next found more true new is had text =
-      let item = slice_index_or items at d in
-      let met = before item.now in
-      let same = (bytes_eq-Decides item.now text).0 in
-      let had = had text in
-      rw (take_more items at d below) (grind (arith, common_steps, list_any-append, new, is, met, same, had))
-  found_next found more false new is had text =
+  found_next found more is_new new is had text =
       let item = slice_index_or items at d in
       let met = before item.now in
       let same = (bytes_eq-Decides item.now text).0 in

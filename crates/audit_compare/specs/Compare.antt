@@ -1,7 +1,7 @@
 -- Two versions of a robots.txt file compared.
 use Rattle.std.specs.Prelude.{◌≡◌, ℕ, ◌==◌, Bool, true, false, not, ◌&&◌, ◌||◌, List, [], ◌∷◌, ◌++◌, None}
-use Rattle.std.specs.Prelude.{Option, Some, bytes_eq, filter, if◌then◌else◌, is_some, length, map, nat_eq}
-use Rattle.std.specs.{List.AllZip, List.list_all, List.list_any, Option.option_eq}
+use Rattle.std.specs.Prelude.{Option, Some, bytes_eq, filter, flat_map, if◌then◌else◌, is_some, length, map, nat_eq}
+use Rattle.std.specs.{List.AllZip, List.list_all, List.list_any, List.zip, Option.option_eq}
 use Rattle.std.proofs.Math.{Bool.beq}
 use Rattle.texting_robots.specs.Callers.{LineValue, PlacedRule, Rule, lines_read, placed_rules, sitemaps_in}
 use Rattle.texting_robots.specs.declared.decision.{Decision.Decision}
@@ -67,8 +67,7 @@ change_on rules one other =
 
 -- the changes on all URLs, in order
 abbrev pub changes_in : RuleChanges → (older newer : List VerdictValue) → List Changed
-changes_in rules (one ∷ older) (other ∷ newer) = change_on rules one other ++ changes_in rules older newer
-changes_in rules _ _ = []
+changes_in rules older newer = flat_map (λ pair. change_on rules pair.0 pair.1) (zip older newer)
 
 abbrev pub changed : List UrlChange → List Changed
 changed changes =

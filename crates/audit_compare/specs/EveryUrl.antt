@@ -1,6 +1,6 @@
 -- What becomes of the verdicts of all URLs. Crawlers ask for match targets, which begin with `/`.
 use Rattle.std.specs.Prelude.{◌≡◌, ◌≢◌, ◌==◌, ◌&&◌, ℕ, Bool, true, false, List, [], None, Option, Some}
-use Rattle.std.specs.Prelude.{IsTrue, codes, if◌then◌else◌, is_none, length, string_bytes}
+use Rattle.std.specs.Prelude.{IsTrue, codes, if◌then◌else◌, is_none, length, string_bytes, unwrap_or}
 use Rattle.texting_robots.specs.Callers.{LineValue, PlacedRule, lines_read, placed_rules}
 use Rattle.texting_robots.specs.{Callers.unplaced, Decision.IsDecisionOn, Group.is_agent}
 use Rattle.std.specs.{List.list_any}
@@ -57,13 +57,9 @@ is_same here standard = false
 -- the name of the group that the vendor of the crawler applies to it: if that isn't another one, the
 -- crawler's, for which the one that applies here is found; empty if it is none, as in a file without a
 -- user-agent line, whose rules Google ignores
-abbrev pub name_by : List ℕ → (other : Option (List ℕ)) → List ℕ
-name_by agent None = agent
-name_by agent (Some name) = name
-
 abbrev pub name_at_vendor : List LineValue → List ℕ → List ℕ
 name_at_vendor lines agent =
-    name_by (if list_any is_agent lines then agent else []) (other_group lines agent)
+    unwrap_or (other_group lines agent) (if list_any is_agent lines then agent else [])
 
 -- with no group everything is allowed, as in an empty file
 abbrev pub file_of_group : (file name : List ℕ) → List ℕ

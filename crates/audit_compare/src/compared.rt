@@ -1,12 +1,11 @@
 //! What two versions of a file mean for a crawler.
-ghost use Rattle.std.specs.Prelude.{◌≡◌, ◌∷◌, ◌++◌, [], IfErr, IfOk, OnOk, false, if◌then◌else◌, map};
+ghost use Rattle.std.specs.Prelude.{◌≡◌, ◌∷◌, ◌++◌, [], IfErr, IfOk, OnOk, if◌then◌else◌, map};
 ghost use Rattle.audit_compare.specs.Compare.{AreChanges, AreUrlChanges, IsCompared, are_none, change_on};
 ghost use Rattle.audit_compare.specs.Compare.{changed, is_in_line_of, is_otherwise, is_same_decision};
 ghost use Rattle.audit_compare.specs.Compare.{keep_verdicts};
-ghost use Rattle.audit_compare.specs.{EveryUrl.AreVerdicts, Internal.AnswersByRules};
 ghost use Rattle.audit_core.specs.Standard.{AreReadings};
 
-use crate::every_url::{InBoth, Verdicts, is_same, standard_verdicts, verdicts_for};
+use crate::every_url::{InBoth, is_same, standard_verdicts, verdicts_for};
 use crate::rule_sets::rules_lacked;
 use crate::vendor::{VendorChange, at_vendor, is_same_at_vendor};
 use audit_core::audit::{AgentAudit, Crawler, Verdict, audit_for};
@@ -48,7 +47,11 @@ pub struct Compared<'a> {
     pub vendor: Option<VendorChange>,
 }
 
-fn rule_changes(alloc: Global, older: &[Rule], newer: &[Rule]) -> Result<RuleChanges, AllocError>
+pub(crate) fn rule_changes(
+    alloc: Global,
+    older: &[Rule],
+    newer: &[Rule],
+) -> Result<RuleChanges, AllocError>
     ensures { IfOk result (AreChanges older.now newer.now) }
 {
     let removed = rules_lacked(alloc, newer, older)?;
@@ -156,26 +159,6 @@ pub(crate) fn are_none(rules: &RuleChanges) -> bool
     rules.removed.is_empty() && rules.added.is_empty()
 }
 
-/// What becomes of the verdicts of all URLs here. They are the same if the rules are.
-fn verdicts_of(
-    alloc: Global,
-    older: &Crawler<'_>,
-    newer: &Crawler<'_>,
-    rules: &RuleChanges,
-    budget: usize,
-) -> Result<Verdicts, Error>
-    requires older { AnswersByRules older.now }
-    requires newer { AnswersByRules newer.now }
-    requires rules { AreChanges older.now.rules.items newer.now.rules.items rules.now }
-    ensures ok { IfOk result (AreVerdicts false older.now.rules.items newer.now.rules.items) }
-    ensures error { IfErr result (λ error. error ≡ Error.Memory) }
-{
-    if are_none(rules) {
-        return Ok(Verdicts::Same);
-    }
-    verdicts_for(alloc, older, newer, false, budget)
-}
-
 /// The budget bounds how long rules are compared on all URLs, and an eighth of it how long those of each file
 /// are by themselves.
 pub(crate) fn compared_for<'a>(
@@ -198,7 +181,7 @@ pub(crate) fn compared_for<'a>(
     let is = audit_for(alloc, &new, newer, urls, budget / 8)?;
     let rules = rule_changes(alloc, &old.rules, &new.rules)?;
     let changes = changes_between(alloc, &rules, &was, &is)?;
-    let here = verdicts_of(alloc, &old, &new, &rules, budget)?;
+    let here = verdicts_for(alloc, &old, &new, false, budget)?;
     let vendor = at_vendor(alloc, agent, older, newer, budget)?;
     let standard = match &vendor {
         Some(_) => None,

@@ -31,13 +31,7 @@ pub(crate) enum Section {
 fn is_same_group(one: Group, other: Group) -> bool
     ensures { result ≡ is_same_group one other }
 {
-    match (one, other) {
-        (Group::Named, Group::Named)
-        | (Group::Star, Group::Star)
-        | (Group::Nobody, Group::Nobody)
-        | (Group::Everyone, Group::Everyone) => true,
-        _ => false,
-    }
+    one == other
 }
 
 fn group_name<'a>(agent: &'a str, group: Group) -> &'a str {

@@ -1,11 +1,12 @@
 //! Whether the verdict of any URL changes for a crawler.
 ghost use Rattle.std.specs.Prelude.{◌≡◌, IfErr, IfOk, IsTrue};
 ghost use Rattle.std.specs.Option.{IfSome};
-ghost use Rattle.texting_robots.specs.Callers.{file_lines, placed_rules};
+ghost use Rattle.texting_robots.specs.Callers.{lines_read};
+ghost use Rattle.audit_core.specs.{Internal.IsCrawlerIn, Standard.AreReadings};
 ghost use Rattle.audit_compare.specs.EveryUrl.{AreStandardVerdicts, AreVerdicts, IsExample, IsNormal};
-ghost use Rattle.audit_compare.specs.EveryUrl.{is_same};
-ghost use Rattle.audit_compare.specs.Internal.{AnswersByRules};
+ghost use Rattle.audit_compare.specs.{EveryUrl.is_same, EveryUrl.rules_in_both, Internal.AnswersByRules};
 
+use crate::compared::{are_none, rule_changes};
 use audit_core::audit::{Crawler, Reading};
 use audit_core::error::Error;
 use audit_core::readings::FileReadings;
@@ -111,8 +112,8 @@ fn verdicts_on(
     }
 }
 
-/// What becomes of the verdicts if the second crawler's rules apply. That they change is only said with an
-/// example, and of that both robots are asked.
+/// What becomes of the verdicts if the second crawler's rules apply. They are the same if the rules are. That
+/// they change is only said with an example, and of that both robots are asked.
 pub(crate) fn verdicts_for(
     alloc: Global,
     older: &Crawler<'_>,
@@ -125,6 +126,10 @@ pub(crate) fn verdicts_for(
     ensures ok { IfOk result (AreVerdicts is_standard older.now.rules.items newer.now.rules.items) }
     ensures error { IfErr result (λ error. error ≡ Error.Memory) }
 {
+    let rules = rule_changes(alloc, &older.rules, &newer.rules)?;
+    if are_none(&rules) {
+        return Ok(Verdicts::Same);
+    }
     let mut left = budget;
     let found = compare(alloc, b"/", &older.rules, &newer.rules, &mut left)?;
     match (&older.reading, &newer.reading) {
@@ -150,9 +155,13 @@ pub(crate) fn standard_verdicts(
     new_file: &FileReadings<'_>,
     budget: usize,
 ) -> Result<Option<Verdicts>, Error>
+    requires older { IsCrawlerIn (lines_read old_file.now.here.bytes.now) older.now }
+    requires newer { IsCrawlerIn (lines_read new_file.now.here.bytes.now) newer.now }
+    requires old_file { AreReadings old_file.now.here.bytes.now old_file.now }
+    requires new_file { AreReadings new_file.now.here.bytes.now new_file.now }
     ensures ok { IfOk result (AreStandardVerdicts
-        (older.now.rules.items, placed_rules older.now.agent.now (file_lines old_file.now.standard))
-        (newer.now.rules.items, placed_rules newer.now.agent.now (file_lines new_file.now.standard))) }
+        (rules_in_both older.now.agent.now old_file.now.here.bytes.now)
+        (rules_in_both newer.now.agent.now new_file.now.here.bytes.now)) }
     ensures error { IfErr result (λ error. error ≡ Error.Memory) }
 {
     let old_text = Crawler::new(alloc, older.agent, old_file.standard.text_site())?;

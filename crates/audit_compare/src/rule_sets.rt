@@ -63,16 +63,6 @@ fn copy_of(alloc: Global, rule: &Rule) -> Result<Rule, AllocError>
     })
 }
 
-fn copies_of(alloc: Global, rules: &[Rule]) -> Result<Vec<Rule>, AllocError>
-    ensures { IfOk result (λ copies. copies.items ≡ rules.now) }
-{
-    let mut copies = Vec::new(alloc);
-    for rule in rules {
-        copies.push(copy_of(alloc, rule)?)?;
-    }
-    Ok(copies)
-}
-
 pub(crate) fn rules_lacked(
     alloc: Global,
     others: &[Rule],
@@ -81,7 +71,11 @@ pub(crate) fn rules_lacked(
     ensures { IfOk result (λ lacked. lacked.items ≡ rules_lacked others.now rules.now) }
 {
     let set = RuleSet::of(alloc, others)?;
-    let mut lacked = copies_of(alloc, rules)?;
-    lacked.retain(|rule| !set.contains(rule));
+    let mut lacked = Vec::new(alloc);
+    for rule in rules {
+        if !set.contains(rule) {
+            lacked.push(copy_of(alloc, rule)?)?;
+        }
+    }
     Ok(lacked)
 }

@@ -1,7 +1,7 @@
--- Expectations: how they are found and checked.
-use Rattle.std.proofs.Common.{◌≡◌, ℕ, ◌==◌, Bool, true, false, List, [], ◌∷◌, Option, Some, None, arith}
+-- Expectations: how they are checked.
+use Rattle.std.proofs.Common.{◌≡◌, ℕ, ◌==◌, Bool, true, false, List, [], ◌∷◌, Some, arith}
 use Rattle.std.proofs.Common.{◌∙◌, ap, length, map, not, refl, subst, sym, take}
-use Rattle.std.specs.{Borrow.Bor, Prelude.filter}
+use Rattle.std.specs.{Borrow.Bor}
 use Rattle.std.proofs.lemmas.Bool.{false≢true, not-false, or_parts}
 use Rattle.std.proofs.lemmas.Bool.Decides.{nat_tests}
 use Rattle.texting_robots.specs.Callers.{IsVerdict, RobotValue, file_limit, unplaced}
@@ -11,18 +11,10 @@ use Rattle.rfc9309.proofs.StandardLemmas.{text_verdict}
 use Rattle.robots_warnings.specs.{Crawlers.Row, Internal.row_value}
 use Rattle.audit_core.specs.{Target.asked_target}
 use Rattle.audit_expect.specs.Expectations.{AreDecidedInBoth, HoldsFor, HoldsIn, IsAskedAsWritten}
-use Rattle.audit_expect.specs.{Expect.ExpectationValue, Expect.is_word}
+use Rattle.audit_expect.specs.{Expect.ExpectationValue}
 use Rattle.audit_expect.specs.Internal.Expectations.{AreRobots, IsJudgmentOn, holds, is_unexpected}
 use Rattle.audit_expect.specs.declared.checks.Judgment.TheVariants.{Decided, Everywhere}
 use Rattle.audit_expect.specs.declared.checks.OnPaths.{OnPaths}
-
-pub map_filtered : (words : List (Bor (List ℕ)))
-    → map (λ (word : Bor (List ℕ)). word.now) (filter (λ (word : Bor (List ℕ)). is_word word.now) words)
-    ≡ filter is_word (map (λ (word : Bor (List ℕ)). word.now) words)
-map_filtered [] = refl
-map_filtered (word ∷ words) = grind (arith, map_filtered words)
-
--- ---- How expectations are checked.
 
 expected : (allowed : Bool) (decision : Decision) → is_unexpected allowed decision ≡ false
     → decision.allowed ≡ allowed

@@ -2,7 +2,6 @@
 ghost use Rattle.std.specs.Prelude.{◌≡◌, ◌==◌, ◌∷◌, ◌++◌, [], IfOk, OnOk, length, map};
 ghost use Rattle.std.specs.{List.slice_split, Option.option_to_list};
 ghost use Rattle.audit_expect.specs.Expect.{AreExpectedIn, asked, demand_of, demanded, goes_on, is_any};
-ghost use Rattle.audit_expect.specs.Expect.{is_blank};
 ghost use Rattle.audit_expect.specs.Expect.{line_expects, lines_expect, words, words_with_name};
 ghost use Rattle.audit_expect.specs.Internal.Expectations.{expectation_value, expected_by};
 
@@ -40,19 +39,12 @@ fn lines(alloc: Global, text: &[u8]) -> Result<Vec<&[u8]>, AllocError>
     text.split(|byte| *byte == b'\n').collect(alloc)
 }
 
-fn parts(alloc: Global, line: &[u8]) -> Result<Vec<&[u8]>, AllocError>
-    ensures { IfOk result (λ found. map (λ part. part.now) found.items ≡ slice_split is_blank line.now) }
-{
-    line.split(|byte| *byte == b' ' || *byte == b'\t' || *byte == b'\r')
-        .collect(alloc)
-}
-
 fn words(alloc: Global, line: &[u8]) -> Result<Vec<&[u8]>, AllocError>
     ensures { IfOk result (λ found. map (λ word. word.now) found.items ≡ words line.now) }
 {
-    let mut found = parts(alloc, line)?;
-    found.retain(|word| !word.is_empty());
-    Ok(found)
+    line.split(|byte| *byte == b' ' || *byte == b'\t' || *byte == b'\r')
+        .filter(|word| !word.is_empty())
+        .collect(alloc)
 }
 
 /// If a word precedes the first quotation mark, what is between this and the next one is a word, too.

@@ -2,17 +2,26 @@
 use Rattle.std.specs.Prelude.{slice_index}
 use Rattle.std.proofs.Common.{◌≡◌, ◌↔◌, ℕ, ◌+◌, ◌*◌, ◌<◌, ◌==◌, ◌&&◌, ◌||◌, ltb, Bool, true, false, inl, inr}
 use Rattle.std.proofs.Common.{List, [], ◌∷◌, ◌++◌, refl, sym, ap, ◌∙◌, subst, arith, append-nil, append_assoc}
+use Rattle.std.proofs.Common.{drop, not, suc, take}
 use Rattle.std.specs.{Char.digit_value, Char.is_ascii_alphanumeric, Char.is_ascii_hexdigit, List.list_all}
+use Rattle.std.specs.List.{position_or_len, prefix_len}
 use Rattle.std.specs.{Char.is_ascii_lowercase, Char.to_ascii_uppercase, Fmt.digit_glyph}
 use Rattle.std.proofs.lemmas.Bool.{agree_below, agree_below_at, and_parts, and_right, both_ways, cases_Bool}
 use Rattle.std.proofs.lemmas.Bool.{eqb-true, ltb-true, not-true, or_parts, Decides.nat_tests}
+use Rattle.std.proofs.lemmas.Bool.{and_left, cases_lt, not-false}
 use Rattle.std.proofs.lemmas.{List.append-nil}
-use Rattle.texting_robots.specs.Escape.{escaped}
+use Rattle.safe_output.specs.Bytes.{before_byte}
+use Rattle.texting_robots.specs.{Escape.escaped}
+use Rattle.texting_robots.specs.Internal.ByteSet.{is_kept as is_in}
+use Rattle.texting_robots.proofs.Shared.{none_past}
 use Rattle.texting_robots.specs.Pattern.{Matches, MatchesWith, dollar, star}
 use Rattle.rfc9309.specs.Comparable.{has_odd_escape, is_normal, is_uri_octet, IsPlainPath}
-use Rattle.rfc9309.specs.Matching.{Reading, all_stay, in_uri, is_escape, is_kept, is_unreserved, IsMatch}
+use Rattle.rfc9309.specs.Matching.{Reading, all_stay, in_rule, in_uri, is_escape, is_kept, is_unreserved}
 use Rattle.rfc9309.specs.Matching.{normal_escape, normal_from, normal_octet, normal_uri, filled}
-use Rattle.rfc9309.specs.Matching.{first_of, has_dollar, is_ended, later_of, without_end}
+use Rattle.rfc9309.specs.StandardTarget.{ends_authority}
+use Rattle.rfc9309.specs.declared.normal.TheConstants.{PLAIN, RULE}
+use Rattle.rfc9309.specs.declared.target.TheConstants.{AUTHORITY}
+use Rattle.rfc9309.specs.Matching.{IsMatch, first_of, has_dollar, is_ended, later_of, without_end}
 
 pub hex_low : (b : ℕ) → is_ascii_hexdigit b ≡ true → b < 128
 hex_low b is = grind (arith, nat_tests)
@@ -151,6 +160,69 @@ normal_same =
 
 pub normal_uris : (uri : List ℕ) → (normal_uri all_stay uri ≡ uri) ↔ (is_normal uri ≡ true)
 normal_uris uri = grind (arith, and_parts, fixed, normal_same, not-true)
+
+-- a byte in one of this crate's sets passes the test
+module _ (set : List ℕ) (test : ℕ → Bool)
+    (passed : agree_below (λ b. is_in set b && not (test b)) (λ b. false) 256 ≡ true) where
+  in_set : (b : ℕ) → is_in set b ≡ true → test b ≡ true
+  in_set b is = elim (cases_lt b 256) [
+    | inl low ↦ not-false (test b) (rw is at (agree_below_at
+        (λ b. is_in set b && not (test b)) (λ b. false) 256 b passed low))
+    | inr high ↦ absurd (both_ways _ (none_past set b high) is)
+  ]
+
+octets : (b : ℕ) → (is_in PLAIN.now b ≡ true → is_uri_octet b && not (b == 37) ≡ true)
+    × (is_in RULE.now b ≡ true → not (b == 37) && is_kept (in_rule all_stay) true b ≡ true)
+    × (is_in AUTHORITY.now b ≡ true → not (ends_authority b) ≡ true)
+unfolding is_in
+octets b = (
+  in_set PLAIN.now (λ b. is_uri_octet b && not (b == 37)) refl b,
+  in_set RULE.now (λ b. not (b == 37) && is_kept (in_rule all_stay) true b) refl b,
+  in_set AUTHORITY.now (λ b. not (ends_authority b)) refl b,
+)
+
+one_more : (n : ℕ) → 1 + n ≡ suc n
+one_more n = omega arith
+
+pub plain_skipped : (text : List ℕ)
+    → is_normal (drop (prefix_len (is_in PLAIN.now) text) text) ≡ is_normal text
+plain_skipped [] = refl
+plain_skipped (b ∷ text) = elim (cases_Bool (is_in PLAIN.now b)) [
+  | inl is ↦
+      let (octet, other) = and_parts (is_uri_octet b) _ ((octets b).0 is) in
+      rw (is, octet, not-true (b == 37) other) (simp one_more (plain_skipped text))
+  | inr isnt ↦ rw isnt refl
+]
+
+pub rule_run : (text : List ℕ) → (let n = prefix_len (is_in RULE.now) text in
+    normal_from (in_rule all_stay) true text
+    ≡ take n text ++ normal_from (in_rule all_stay) true (drop n text))
+rule_run [] = refl
+rule_run (b ∷ text) = elim (cases_Bool (is_in RULE.now b)) [
+  | inl is ↦
+      let (other, kept) = and_parts (not (b == 37)) _ ((octets b).1 is) in
+      octet_first (in_rule all_stay) true b text (and_left (b == 37) _ (not-true _ other))
+      ∙ rw (kept, is) (simp one_more (ap (λ t. b ∷ t) (rule_run text)))
+  | inr isnt ↦ rw isnt refl
+]
+
+pub authority_split : (text : List ℕ) → position_or_len ends_authority text
+    ≡ prefix_len (is_in AUTHORITY.now) text
+    + position_or_len ends_authority (drop (prefix_len (is_in AUTHORITY.now) text) text)
+authority_split [] = refl
+authority_split (b ∷ text) = elim (cases_Bool (is_in AUTHORITY.now b)) [
+  | inl is ↦ rw (is, (octets b).2 is) (simp one_more (omega (arith, authority_split text)))
+  | inr isnt ↦ rw isnt (omega arith)
+]
+
+not_hash : (b : ℕ) → is_uri_octet b ≡ true → (b == 35) ≡ false
+not_hash b is = grind (arith, nat_tests)
+
+pub no_fragment : (text : List ℕ) → list_all is_uri_octet text ≡ true → before_byte 35 text ≡ text
+no_fragment [] all = refl
+no_fragment (b ∷ text) all =
+    let (one, rest) = and_parts (is_uri_octet b) _ all in
+    rw (not_hash b one) (simp one_more (ap (λ t. b ∷ t) (no_fragment text rest)))
 
 pub filling : (q tail t : List ℕ) → has_dollar q ≡ false → MatchesWith true (q ++ tail) t
     ↔ ((strings : List (List ℕ)) × (rest : List ℕ) × (t ≡ filled q strings ++ rest)

@@ -315,7 +315,8 @@ above_groups (Sitemap address ∷ entries) = above_groups entries
 above_groups (Nothing ∷ entries) = above_groups entries
 
 -- Each token begins a group, with the members up to the next token. Tokens with no member between them are
--- those of one group. A delay is a member here, so it ends a list of tokens, as in this library.
+-- those of one group. A delay is a member here, so it ends a list of tokens; in `StandardReading`
+-- no line states one.
 abbrev pub groups_of : List Entry → List Group
 groups_of [] = []
 groups_of (Agent token ∷ entries) =

@@ -2,9 +2,10 @@
 -- one line for each line of the file. The path and query of a URL have to be put in normal form, once, before
 -- they are matched with its rules. Here a file is what is used of it, such as its first 512,000 bytes.
 --
--- What a line states is read as by this library. In a line of the standard's grammar this makes one
--- difference: not only spaces and tabs are left out at the end of a value, but all Unicode white space, such
--- as U+0085.
+-- Which lines a file has, and what each states, is taken from this library's specification, so that files
+-- outside of the standard's grammar have a reading too. In a line of the grammar this should make one
+-- difference, which no theorem states: at the end of a value all Unicode white space is left out, such as
+-- U+0085, and not only spaces and tabs.
 use Rattle.std.specs.Prelude.{◌≡◌, ℕ, Bool, true, false, List, [], ◌∷◌, ◌++◌, codes, map, if◌then◌else◌}
 use Rattle.std.specs.Prelude.{◌-◌, length, nat_eq, take}
 use Rattle.std.specs.{List.ends_with, List.flat_map}
@@ -44,9 +45,10 @@ entries_in file = map entry_of (file_bodies file)
 abbrev pub standard_members : List ℕ → List ℕ → List rfc.Member
 standard_members agent file = rfc.rules_for agent (rfc.groups_of (entries_in file))
 
--- The verdict of RFC 9309 for a crawler on a path with its query, in the reading that all reserved octets
--- stay as they are. Of several matches, the one with the most octets in normal form is used (stars and a
--- final `$` count; an Allow wins a tie).
+-- The verdict of RFC 9309 for a crawler on a path with its query. Reserved octets stay as they are, except
+-- for a `*`, `$` or `#` of a URI and a `$` of a rule before its end, which count as their escapes. Of several
+-- matches, the one with the most octets in normal form is used (stars and a final `$` count; an Allow wins a
+-- tie).
 abbrev pub IsStandardVerdict : (agent file uri : List ℕ) → Bool → Type 0
 IsStandardVerdict agent file uri answer =
     IsRfcVerdict all_stay (octets all_stay) (standard_members agent file) uri answer

@@ -1,9 +1,10 @@
 -- The path and the query of a URL, which RFC 9309 compares in normal form.
-use Rattle.std.specs.Prelude.{ℕ, Bool, ◌&&◌, ◌||◌, ◌==◌, List, ◌∷◌, codes, if◌then◌else◌, length, nat_eq}
-use Rattle.std.specs.Prelude.{slice_index, take}
-use Rattle.std.specs.{Char.is_ascii_alphabetic, Char.is_ascii_alphanumeric, List.list_all, List.starts_with}
+use Rattle.std.specs.Prelude.{ℕ, Bool, ◌&&◌, ◌||◌, List, ◌∷◌, codes, if◌then◌else◌, length, nat_eq}
+use Rattle.std.specs.Prelude.{◌+◌, drop, slice_index, take}
+use Rattle.std.specs.{Char.is_ascii_alphabetic, Char.is_ascii_alphanumeric}
+use Rattle.std.specs.List.{position_or_len, prefix_len, starts_with}
 use Rattle.std.specs.{Str.byte, Str.str_eq_ignore_ascii_case}
-use Rattle.safe_output.specs.Bytes.{after_byte, before_byte, from_first, has}
+use Rattle.safe_output.specs.Bytes.{before_byte, has}
 use Rattle.rfc9309.specs.Matching.{Reading, all_stay, in_rule, in_uri}
 use Rattle.rfc9309.specs.declared.normal.Side.{Side}
 use Rattle.rfc9309.specs.declared.normal.Side.TheVariants as side
@@ -22,27 +23,21 @@ begins_as_url text =
 abbrev pub is_scheme_byte : ℕ → Bool
 is_scheme_byte b = is_ascii_alphanumeric b || has b (codes "+-.")
 
--- a letter, then any of these bytes
-abbrev pub is_scheme : List ℕ → Bool
-is_scheme text = is_ascii_alphabetic (slice_index text 0) && list_all is_scheme_byte text
+abbrev pub ends_authority : ℕ → Bool
+ends_authority b = has b (codes "/?#")
 
--- a scheme and `://`
-abbrev pub begins_with_scheme : List ℕ → Bool
-begins_with_scheme text =
-    is_scheme (before_byte (byte ":") text) && starts_with nat_eq (after_byte (byte ":") text) (codes "//")
-
-abbrev pub begins_path_or_query : List ℕ → Bool
-begins_path_or_query text = slice_index text 0 == byte "/" || slice_index text 0 == byte "?"
-
--- An authority follows two slashes, and ends before the next slash or `?`.
-abbrev pub after_authority : List ℕ → List ℕ
-after_authority url = from_first begins_path_or_query (after_byte (byte "/") (after_byte (byte "/") url))
+-- How long a URL's scheme, `://` and authority are; 0 for a text that doesn't start so. A scheme begins
+-- with a letter.
+abbrev pub site_len : List ℕ → ℕ
+site_len text =
+    let scheme = prefix_len is_scheme_byte text in
+    let rest = drop scheme text in
+    if is_ascii_alphabetic (slice_index text 0) && starts_with nat_eq rest (codes "://")
+    then scheme + 3 + position_or_len ends_authority (drop 3 rest) else 0
 
 -- what is written before a fragment, and after the authority of an absolute URL
 abbrev pub written_part : List ℕ → List ℕ
-written_part text =
-    let rest = before_byte (byte "#") text in
-    if begins_with_scheme rest then after_authority rest else rest
+written_part text = before_byte (byte "#") (drop (site_len text) text)
 
 abbrev pub with_slash : List ℕ → List ℕ
 with_slash target = if starts_with nat_eq target (codes "/") then target else byte "/" ∷ target

@@ -1,6 +1,7 @@
 //! Normal forms of rules' paths and of match targets, in which RFC 9309 compares them, if reserved octets
 //! stay.
-ghost use Rattle.std.specs.Prelude.{◌≡◌, ◌<◌, ◌++◌, IfOk, OnOk, length, slice_index, string_bytes, true};
+ghost use Rattle.std.specs.Prelude.{◌≡◌, ◌<◌, ◌≤◌, ◌++◌, IfOk, OnOk, drop, length, slice_index, string_bytes};
+ghost use Rattle.std.specs.Prelude.{take, true};
 ghost use Rattle.std.specs.{Char.is_ascii_hexdigit, Fmt.digit_glyph, List.list_all};
 ghost use Rattle.rfc9309.specs.Comparable.{begins_odd_escape, is_normal, is_uri_octet};
 ghost use Rattle.rfc9309.specs.Matching.{all_stay, normal_escape, normal_from, normal_octet, normal_uri};
@@ -10,6 +11,17 @@ ghost use Rattle.rfc9309.specs.StandardTarget.{reading_of};
 
 use safe_output::bytes::{has, hex_value, needs_no_escape, somewhere};
 use std::alloc::{AllocError, Global};
+use texting_robots::byte_set::{ByteSet, prefix_len_in};
+
+/// The octets of URIs in normal form without `%`.
+const PLAIN: &ByteSet = &[
+    184, 252, 248, 248, 248, 248, 252, 252, 252, 252, 248, 124, 84, 124, 212, 124,
+];
+
+/// The octets of rules in normal form without `%`.
+const RULE: &ByteSet = &[
+    184, 252, 248, 252, 248, 248, 252, 252, 252, 252, 252, 124, 84, 124, 212, 124,
+];
 
 /// What is put in normal form.
 #[derive(Clone, Copy, PartialEq, Eq)]
@@ -89,6 +101,19 @@ fn begins_escape(text: &[u8]) -> bool
     }
 }
 
+/// How many leading bytes can be copied; not all where nothing is gained.
+#[tactic(auto, using(crate::proofs::NormalLemmas::rule_run))]
+fn copied_len(side: Side, text: &[u8]) -> usize
+    ensures value { normal_from (reading_of side) true text.now
+        ≡ take result text.now ++ normal_from (reading_of side) true (drop result text.now) }
+    ensures within { result ≤ length text.now }
+{
+    match side {
+        Side::Rule => prefix_len_in(RULE, text),
+        Side::Uri => 0,
+    }
+}
+
 /// Appends the normal form of the text.
 fn push_normal(normal: &mut Vec<u8>, side: Side, text: &[u8]) -> Result<(), AllocError>
     ensures { OnOk result (normal.new.items
@@ -101,7 +126,9 @@ fn push_normal(normal: &mut Vec<u8>, side: Side, text: &[u8]) -> Result<(), Allo
             rest = &rest[3..];
         } else {
             push_octet(normal, side, *first)?;
-            rest = next;
+            let copied = copied_len(side, next);
+            normal.extend_from_slice(&next[..copied])?;
+            rest = &next[copied..];
         }
     }
     Ok(())
@@ -155,10 +182,12 @@ fn begins_odd_escape(text: &[u8]) -> bool
 }
 
 /// Whether the path and query of a URI are in normal form.
+#[tactic(auto, using(crate::proofs::NormalLemmas::plain_skipped, std::proofs::lemmas::List::take_rest))]
 pub fn is_normal(target: &[u8]) -> bool
     ensures { result ≡ is_normal target.now }
 {
-    are_uri_octets(target) && !somewhere(target, begins_odd_escape)
+    let rest = &target[prefix_len_in(PLAIN, target)..];
+    are_uri_octets(rest) && !somewhere(rest, begins_odd_escape)
 }
 
 /// The normal form of a match target.

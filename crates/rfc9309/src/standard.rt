@@ -9,9 +9,10 @@ ghost use Rattle.texting_robots.specs.Callers.{IsVerdict, Matches, file_bodies, 
 /// The text that stands for a file, whatever is in it:
 ///
 /// - `verdicts`: the verdict of this library's rules for a crawler in the text, on the normal form of a path
-///   and query with all reserved octets kept, is that of the standard for the file.
-/// - `rules`: these are the text's rules for a crawler. So the text is rejected exactly if the pattern of one
-///   of them is too long: it ends with `$` and has more than 4,096 bytes, each run of stars counted as one.
+///   and query (`all_stay`), is that of the standard for the file.
+/// - `rules`: these are the text's rules for a crawler. A text is rejected, and there is no robot, if
+///   one has a `$` and more than 4,096 bytes, each run of stars counted as one. That such a `$` is at its end
+///   isn't stated.
 /// - `matching`: a rule's path matches by the standard exactly if its pattern in the text does here.
 /// - `lines`: the nth line of the text is the one that is written for the nth line of the file, so the number
 ///   of a deciding line of the text is the number of the file's line.

@@ -1,16 +1,21 @@
 //! The path and the query of a URL, which RFC 9309 compares in normal form.
-ghost use Rattle.std.specs.Prelude.{◌≡◌, IfOk};
-ghost use Rattle.std.specs.{List.list_all};
+ghost use Rattle.std.specs.Prelude.{◌≡◌, ◌≤◌, IfOk, IfSome, drop, length};
+ghost use Rattle.std.specs.List.{position_or_len, prefix_len};
 ghost use Rattle.rfc9309.specs.Matching.{all_stay, normal_uri};
-ghost use Rattle.rfc9309.specs.StandardTarget.{after_authority, begins_as_url, begins_in_any_case};
-ghost use Rattle.rfc9309.specs.StandardTarget.{begins_path_or_query, begins_with_scheme, is_scheme};
-ghost use Rattle.rfc9309.specs.StandardTarget.{is_scheme_byte, written_part, written_target};
+ghost use Rattle.rfc9309.specs.StandardTarget.{begins_as_url, begins_in_any_case, ends_authority};
+ghost use Rattle.rfc9309.specs.StandardTarget.{is_scheme_byte, site_len, written_target};
 
 use crate::normal::{is_normal, normal_target};
-use safe_output::bytes::{after_byte, as_text, before_byte, first, from_first, has};
+use safe_output::bytes::{before_byte, first, has};
 use std::alloc::{AllocError, Global};
 use std::borrow::CowStr;
 use std::marker::Model;
+use texting_robots::byte_set::{ByteSet, prefix_len_in};
+
+/// The ASCII bytes other than `/`, `?` and `#`.
+const AUTHORITY: &ByteSet = &[
+    255, 255, 255, 251, 255, 255, 255, 255, 255, 255, 255, 255, 255, 255, 255, 243,
+];
 
 pub fn begins_in_any_case(front: &[u8], text: &[u8]) -> bool
     ensures { result ≡ begins_in_any_case front.now text.now }
@@ -25,66 +30,64 @@ pub fn begins_as_url(text: &[u8]) -> bool
     begins_in_any_case(b"http://", text) || begins_in_any_case(b"https://", text)
 }
 
-fn is_scheme_byte(byte: u8) -> bool
-    ensures { result ≡ is_scheme_byte byte }
+/// How many leading bytes may be those of a scheme.
+fn scheme_len(text: &[u8]) -> usize
+    ensures value { result ≡ prefix_len is_scheme_byte text.now }
+    ensures within { result ≤ length text.now }
 {
-    byte.is_ascii_alphanumeric() || has(byte, b"+-.")
+    text.iter()
+        .take_while(|byte| byte.is_ascii_alphanumeric() || has(**byte, b"+-."))
+        .count()
 }
 
-fn are_scheme_bytes(text: &[u8]) -> bool
-    ensures { result ≡ list_all is_scheme_byte text.now }
+fn authority_len_by_bytes(text: &[u8]) -> usize
+    ensures value { result ≡ position_or_len ends_authority text.now }
+    ensures within { result ≤ length text.now }
 {
-    text.iter().all(|byte| is_scheme_byte(*byte))
+    text.iter().take_while(|byte| !has(**byte, b"/?#")).count()
 }
 
-fn is_scheme(text: &[u8]) -> bool
-    ensures { result ≡ is_scheme text.now }
+#[tactic(auto, using(crate::proofs::NormalLemmas::authority_split, std::proofs::lemmas::List::take_rest))]
+fn authority_len(text: &[u8]) -> usize
+    ensures value { result ≡ position_or_len ends_authority text.now }
+    ensures within { result ≤ length text.now }
 {
-    match text {
-        [first, ..] => first.is_ascii_alphabetic() && are_scheme_bytes(text),
-        [] => false,
-    }
+    let plain = prefix_len_in(AUTHORITY, text);
+    plain + authority_len_by_bytes(&text[plain..])
 }
 
-/// Whether the text starts with a URL's scheme and `://`.
-fn begins_with_scheme(text: &[u8]) -> bool
-    ensures { result ≡ begins_with_scheme text.now }
+/// How long the scheme, `://` and the authority of a URL are, or 0 if the text doesn't start so.
+#[tactic(auto, using(std::proofs::lemmas::List::take_rest))]
+fn site_len(text: &[u8]) -> usize
+    ensures value { result ≡ site_len text.now }
+    ensures within { result ≤ length text.now }
 {
-    is_scheme(before_byte(b':', text)) && after_byte(b':', text).starts_with(b"//")
-}
-
-fn begins_path_or_query(text: &[u8]) -> bool
-    ensures { result ≡ begins_path_or_query text.now }
-{
-    text.starts_with(b"/") || text.starts_with(b"?")
-}
-
-fn after_authority(url: &[u8]) -> &[u8]
-    ensures { result.now ≡ after_authority url.now }
-{
-    from_first(
-        after_byte(b'/', after_byte(b'/', url)),
-        begins_path_or_query,
-    )
-}
-
-/// The path and the query as they are written in a URL or a path, but for a missing first slash.
-fn written_part(text: &[u8]) -> &[u8]
-    ensures { result.now ≡ written_part text.now }
-{
-    let rest = before_byte(b'#', text);
-    if begins_with_scheme(rest) {
-        after_authority(rest)
+    let scheme = scheme_len(text);
+    let rest = &text[scheme..];
+    if let [first, ..] = text
+        && first.is_ascii_alphabetic()
+        && rest.starts_with(b"://")
+    {
+        scheme + 3 + authority_len(&rest[3..])
     } else {
-        rest
+        0
     }
+}
+
+#[tactic(auto, using(std::proofs::lemmas::List::take_rest))]
+fn after_site(url: &str) -> Option<&str>
+    ensures { IfSome result (λ rest. rest.now ≡ drop (site_len url.now) url.now) }
+{
+    url.get(site_len(url.as_bytes())..)
 }
 
 /// The path and the query of a path or an absolute URL, as they are written; an empty path is `/`.
+#[tactic(auto, using(std::proofs::lemmas::List::take_rest))]
 pub fn written_target(alloc: Global, text: &str) -> Result<Vec<u8>, AllocError>
     ensures { IfOk result (λ target. target.items ≡ written_target text.now) }
 {
-    let part = written_part(text.as_bytes());
+    let text = text.as_bytes();
+    let part = before_byte(b'#', &text[site_len(text)..]);
     let mut target = Vec::new(alloc);
     if !part.starts_with(b"/") {
         target.push(b'/')?;
@@ -94,7 +97,7 @@ pub fn written_target(alloc: Global, text: &str) -> Result<Vec<u8>, AllocError>
 }
 
 /// The path and the query of a URL or a path in normal form, which any number of robots can be asked for.
-/// They are copied only if they aren't written so.
+/// They are copied only if they aren't written so at the end of the URL.
 #[derive(Drop)]
 pub struct StandardTarget<'u> {
     text: CowStr<'u, Global>,
@@ -111,17 +114,16 @@ impl<'u> Model for StandardTarget<'u> {
 
 impl<'u> StandardTarget<'u> {
     /// The target of a path or an absolute URL as it is written, up to a `#`.
-    #[tactic(auto, using(crate::proofs::NormalLemmas::normal_uris))]
+    #[tactic(auto, using(crate::proofs::NormalLemmas::no_fragment, crate::proofs::NormalLemmas::normal_uris, std::proofs::lemmas::Bool::and_parts))]
     pub fn new(alloc: Global, url: &'u str) -> Result<Self, AllocError>
         ensures { IfOk result (λ target. target ≡ normal_uri all_stay (written_target url.now)) }
     {
-        let part = written_part(url.as_bytes());
-        if part.starts_with(b"/")
-            && is_normal(part)
-            && let Some(text) = as_text(part)
+        if let Some(target) = after_site(url)
+            && target.as_bytes().starts_with(b"/")
+            && is_normal(target.as_bytes())
         {
             return Ok(StandardTarget {
-                text: CowStr::Borrowed(text),
+                text: CowStr::Borrowed(target),
             });
         }
         let text = normal_target(alloc, &written_target(alloc, url)?)?;

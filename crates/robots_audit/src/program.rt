@@ -3,7 +3,6 @@ ghost use Rattle.std.specs.Prelude.{◌≡◌, IfOk, Some, string_bytes};
 ghost use Rattle.robots_audit.specs.Answer.{AreAnnotations, IsAudited, IsCompared, IsExpected, IsListed};
 ghost use Rattle.robots_audit.specs.Answer.{IsReportIn, has_passed, is_warned};
 ghost use Rattle.safe_output.specs.Text.{IsReport, IsShownReport};
-ghost use Rattle.audit_compare.specs.Compare.{IsComparison};
 ghost use Rattle.audit_core.specs.{Request.requested_by};
 
 use audit_compare::compare::{
@@ -118,18 +117,6 @@ pub fn audited<'a>(alloc: Global, request: &Request<'a>, file: &'a [u8]) -> Resu
     Ok(Answer { report, outcome })
 }
 
-fn compared_for<'a>(
-    alloc: Global,
-    request: &Request<'a>,
-    older: NamedFile<'a>,
-    newer: NamedFile<'a>,
-) -> Result<Comparison<'a>, Error>
-    ensures { IfOk result (IsComparison (requested_by request.now).agents (requested_by request.now).urls
-        older.entry.bytes.now newer.entry.bytes.now) }
-{
-    compare(alloc, &request.agents, &request.urls, older, newer)
-}
-
 /// The answer in this format: a report as text, or findings.
 fn listed(
     alloc: Global,
@@ -184,7 +171,7 @@ pub fn comparison<'a>(
     ensures { IfOk result (IsCompared only_verdicts (requested_by request.now) older.entry.bytes.now
         newer.entry.bytes.now) }
 {
-    let compared = compared_for(alloc, request, older, newer)?;
+    let compared = compare(alloc, &request.agents, &request.urls, older, newer)?;
     let (is_rejected, has_passed) = (rejects_one(&compared), has_passed(only_verdicts, &compared));
     let names = Names {
         file: request.shown_name(),

@@ -67,7 +67,7 @@ fn is_asked_as_written(alloc: Global, text: &str) -> Result<bool, AllocError>
 pub(crate) fn has_odd_target(alloc: Global, text: &str) -> Result<bool, AllocError>
     ensures { IfOk result (λ answer. answer ≡ has_odd_target text.now) }
 {
-    if !text.starts_with("/") && !is_parsable_url(alloc, text)? {
+    if !text.as_bytes().starts_with(b"/") && !is_parsable_url(alloc, text)? {
         return Ok(false);
     }
     Ok(!is_asked_as_written(alloc, text)?)

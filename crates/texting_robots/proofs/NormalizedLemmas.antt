@@ -73,7 +73,7 @@ plain_ascii (b ∷ bytes) plain = grind (arith, cases_Bool, plain_low, plain_asc
 
 -- ---- Reading an absolute URL that `url` would leave unchanged, part by part.
 
-none_past : (part : List ℕ) (b : ℕ) → 256 ≤ b → is_kept part b ≡ false
+pub none_past : (part : List ℕ) (b : ℕ) → 256 ≤ b → is_kept part b ≡ false
 unfolding is_kept
 none_past part b high = rw (get_or_past UPPER.now (b / 16) 0 (omega arith), and_zero_r) refl
 

@@ -31,6 +31,7 @@ pub use Rattle.texting_robots.proofs.BestLemmas.{placed_of}
 pub use Rattle.texting_robots.proofs.ExampleLemmas.{any_overlong_decides, matches_sound, not_matching}
 pub use Rattle.texting_robots.proofs.{CutFromFront.bodies_nil, CountLemmas.parsed_within}
 pub use Rattle.texting_robots.proofs.{LabelLemmas.labels_hold, LaneLemmas.found_or_end}
-pub use Rattle.texting_robots.proofs.{TheoremLemmas.raw_changes_nothing, NormalizedLemmas.escaped_plain}
+pub use Rattle.texting_robots.proofs.{TheoremLemmas.raw_changes_nothing}
+pub use Rattle.texting_robots.proofs.NormalizedLemmas.{escaped_plain, none_past}
 pub use Rattle.texting_robots.proofs.ExecutableLemmas.{delay_is_computed}
 pub use Rattle.texting_robots.proofs.{ExecutableLemmas.sitemaps_are_computed}

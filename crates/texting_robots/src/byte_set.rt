@@ -7,7 +7,7 @@ use std::simd::prelude::*;
 
 /// A set of ASCII bytes: a byte is in the set if the table has, at the byte's lower half, the bit of its
 /// upper half.
-pub(crate) type ByteSet = [u8; 16];
+pub type ByteSet = [u8; 16];
 
 /// One bit for each upper half of an ASCII byte.
 const UPPER: &[u8; 16] = &[1, 2, 4, 8, 16, 32, 64, 128, 0, 0, 0, 0, 0, 0, 0, 0];
@@ -107,7 +107,7 @@ fn len_in_few(set: &ByteSet, text: &[u8]) -> usize
 /// How many leading bytes are in the set. They are looked up sixteen at a time, and then the last sixteen.
 #[tactic(auto, using(crate::proofs::LaneLemmas::sixteen_seen, crate::proofs::LaneLemmas::seen_within))]
 #[inline(always)]
-pub(crate) fn prefix_len_in(set: &ByteSet, text: &[u8]) -> usize
+pub fn prefix_len_in(set: &ByteSet, text: &[u8]) -> usize
     ensures value { result ≡ prefix_len (is_kept set.now) text.now }
     ensures within { result ≤ length text.now }
 {

@@ -31,7 +31,7 @@
 
 pub mod address;
 mod builder;
-mod byte_set;
+pub mod byte_set;
 mod decision;
 mod error;
 mod escape;

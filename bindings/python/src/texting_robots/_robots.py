@@ -51,7 +51,7 @@ class Site:
     a rule for ``/private`` matches ``https://example.com/a/../private``, and not ``/a/../private``.
 
     With ``reading="rfc9309"`` the verdicts are those of RFC 9309, also for a file that is read otherwise by default, as the Rust crate
-    ``texting_robots`` reads it: see COMPATIBILITY. Then a URL is compared as it is written, so ``..`` isn't resolved. Delays, sitemaps and
+    ``texting_robots`` reads it: see COMPATIBILITY. Then a URL is compared as it is written, so trim and parse it first. Delays, sitemaps and
     agents are the same in both readings.
 
     Threads share it without a lock. It can be pickled, as its bytes and the attributes of a subclass.

@@ -1,13 +1,10 @@
-use Rattle.std.proofs.Common.{ap, Bor, List, map, ◌≡◌, ◌∙◌, ℕ}
+use Rattle.std.proofs.Common.{ap, Bor, List, map, ◌∙◌, ℕ}
 use Rattle.audit_compare.proofs.compare.compared_files.Goals as goal
-
-same_names : (one other : List (Bor (List ℕ))) → one ≡ other
-    → map (λ name. name.now) one ≡ map (λ name. name.now) other
-same_names one other same = ap (λ (names : List (Bor (List ℕ))). map (λ name. name.now) names) same
 
 pub returns-clause-ok : goal.returns-clause-ok
 returns-clause-ok c = record {
-  all = rw (same_names _ _ c.deref.ensures.value ∙ c.in_ok-agents.ensures) at c.in_ok-crawlers.ensures.ok;
+  all = rw (ap (map (λ (name : Bor (List ℕ)). name.now)) c.deref.ensures.value ∙ c.in_ok-agents.ensures)
+      at c.in_ok-crawlers.ensures.ok;
   removed_are = rw (
     c.deref-2.ensures.value,
     c.deref-3.ensures.value,

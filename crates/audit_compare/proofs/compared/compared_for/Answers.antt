@@ -5,7 +5,6 @@ use Rattle.audit_core.specs.declared.audit.{Crawler.Crawler, Reading.Reading}
 use Rattle.audit_core.specs.declared.audit.Reading.TheVariants.{Accepted, Rejected}
 use Rattle.audit_compare.specs.Internal.{AnswersByRules, answers_by}
 use Rattle.audit_compare.proofs.compared.compared_for.Goals.{in-None+in_ok-standard-in-None, in-Some}
-use Rattle.audit_compare.proofs.EveryUrlLemmas.{in_both, standard_by}
 use Rattle.audit_compare.proofs.compared.compared_for.Goals as goal
 
 read_by : (reading : Reading) (agent : List ℕ) (lines : List LineValue) → IsReading agent lines reading
@@ -19,17 +18,19 @@ answers lines crawler is = rw is.rules_are (read_by crawler.reading crawler.agen
 not_none : {A : Type 0} (found : Option A) (some : A) → found ≡ Some some → found ≡ None → ⊥
 not_none found some is none = cc
 
-pub verdicts_of-requires-clause-older : goal.verdicts_of-requires-clause-older
-verdicts_of-requires-clause-older c = answers _ _ c.in_ok-old.ensures.ok
+pub verdicts_for-requires-clause-older : goal.verdicts_for-requires-clause-older
+verdicts_for-requires-clause-older c = answers _ _ c.in_ok-old.ensures.ok
+
+pub standard_verdicts-requires-clause-older : goal.standard_verdicts-requires-clause-older
+standard_verdicts-requires-clause-older c =
+    rw c.requires.older.here.site_is at c.in_ok-old.ensures.ok
 
 pub returns-clause-ok : goal.returns-clause-ok
 returns-clause-ok c =
     let old = c.in_ok-old.ensures in
     let new = c.in_ok-new.ensures in
-    let older = c.requires.older in
-    let newer = c.requires.newer in
-    let old_rules = rw (old.agent, older.here.site_is) at old.ok.rules_are in
-    let new_rules = rw (new.agent, newer.here.site_is) at new.ok.rules_are in
+    let old_rules = rw (old.agent, c.requires.older.here.site_is) at old.ok.rules_are in
+    let new_rules = rw (new.agent, c.requires.newer.here.site_is) at new.ok.rules_are in
     record {
       agent_is = refl;
       older_is = rw old.agent at c.in_ok-was.ensures.ok;
@@ -40,11 +41,8 @@ returns-clause-ok c =
       here = rw (old_rules, new_rules) at c.in_ok-here.ensures.ok;
       standard = λ none. elim c.match-vendor.branch [
         | in-Some w ↦ absurd (not_none _ _ w.in-Some.is none)
-        | in-None+in_ok-standard-in-None w ↦ standard_by _ _ _ _ _ _
-            (in_both _ _ _ c.args.older.now.here.bytes.now _ old_rules old.agent older.standard)
-            (in_both _ _ _ c.args.newer.now.here.bytes.now _ new_rules new.agent newer.standard)
-            w.standard-is
-            w.in_ok-standard-in-None.ensures.ok
+        | in-None+in_ok-standard-in-None w ↦ rw w.standard-is
+            (rw (old.agent, new.agent) at w.in_ok-standard-in-None.ensures.ok)
       ];
       vendor_is = c.in_ok-vendor.ensures.ok;
     }

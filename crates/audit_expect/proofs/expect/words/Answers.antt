@@ -1,14 +1,12 @@
-use Rattle.std.proofs.Common.{◌∙◌, ap, rules}
-use Rattle.std.specs.Borrow.{Bor}
-use Rattle.std.specs.Prelude.{List, ℕ, filter, map}
-use Rattle.std.proofs.lemmas.Fn.{filter_same}
-use Rattle.audit_expect.specs.Expect.{is_word}
-use Rattle.audit_expect.proofs.ExpectationsLemmas.{map_filtered}
+use Rattle.std.proofs.Common.{rules, tests}
+use Rattle.std.proofs.lemmas.Iterator.Consumers.{YieldsList-at, YieldsList-from_filter, map_from_collect}
+use Rattle.std.proofs.lemmas.Iterator.Splits.{YieldsList-from_slice_split}
+use Rattle.audit_expect.specs.Expect.{is_blank, is_word}
 use Rattle.audit_expect.proofs.expect.words.Goals as goal
 
 pub returns : goal.returns
 returns c =
-    ap (map (λ (word : Bor (List ℕ)). word.now))
-    (filter_same _ (λ (word : Bor (List ℕ)). is_word word.now) _ (λ x b f' k. search rules) _ _
-    c.retain.ensures.filtered)
-    ∙ map_filtered c.in_ok-found.found.items ∙ ap (filter is_word) c.in_ok-found.ensures
+    map_from_collect _ c.collect.ensures.ran (YieldsList-from_filter _ is_word
+    (YieldsList-at c.filter.ensures.source (YieldsList-from_slice_split _ is_blank c.args.line.now
+    c.split.ensures.rest c.split.ensures.done c.split.ensures.closure (λ x r q k. search (rules, tests))))
+    c.filter.ensures.closure (λ x r q k. search (rules, tests)))

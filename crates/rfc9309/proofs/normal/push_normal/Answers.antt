@@ -18,6 +18,8 @@ loop-rest-preserved c =
     let next = next_octet (reading_of c.args.side) c.loop-rest.rest.now (omega arith)
     (sym c.begins_escape.ensures.value ∙ c.if-begins_escape.false) in
     let whole = c.loop-rest.invariant in
+    let copied = c.copied_len-copied.ensures.value in
+    let extended = c.in_ok-extend_from_slice.ensures in
     let pushed = c.in_ok-push_octet.ensures in
     grind (arith, common_steps)
 
